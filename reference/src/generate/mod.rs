@@ -5,12 +5,12 @@ mod damage;
 mod disguise;
 mod filter_scenes;
 mod honest_scenes;
-mod maker;
+pub mod maker;
 mod panel_scenes;
-mod plan;
+pub mod plan;
 mod requests;
 mod sign_scenes;
-mod values;
+pub mod values;
 
 use std::collections::BTreeMap;
 
