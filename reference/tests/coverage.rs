@@ -10,7 +10,7 @@ use reference::script::{parse, Line};
 use reference::tlv::{read_payload, Body, Element, Tag};
 use reference::value::Value;
 
-const SEEDS: u64 = 600;
+const SEEDS: u64 = 1000;
 
 #[derive(Default)]
 struct Seen(BTreeMap<String, usize>);
@@ -225,7 +225,9 @@ const NOTES: &[&str] = &[
     "next part by hand", "exchange closed", "exchange closed at its first part",
     "change between parts", "suppressed write stored", "silence repeated", "write repeated",
     "damaged request refused", "silence to another subject", "depth 10 passes",
-    "depth 11 refused", "depth 10 at the panel", "depth 11 at the panel", "a field left out",
+    "depth 11 refused", "depth 10 at the panel", "depth 11 at the panel", "a listed tag twice",
+    "a required field left out", "an optional field left out", "path form refused",
+    "path form passed",
     "event tags in a read", "event tag in a report",
     "skipped cluster changed before the next block", "promised part without a block",
     "one of two filters agrees", "part of exactly 1,024", "part one byte too long",

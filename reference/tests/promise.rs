@@ -49,6 +49,8 @@ struct Run {
     whole_seen: usize,
     parts_seen: usize,
     reads_ended: usize,
+    /// Reads of several parts, ended, while some cluster changed.
+    changing_reads: usize,
 }
 
 impl Run {
@@ -76,6 +78,7 @@ impl Run {
             whole_seen: 0,
             parts_seen: 0,
             reads_ended: 0,
+            changing_reads: 0,
         };
         run.keep_history();
         run
@@ -173,6 +176,7 @@ impl Run {
     fn check_second_half(&mut self, exchange: u64) {
         self.reads_ended += 1;
         let unchanged = self.takings[&exchange].unchanged.clone().expect("a last part was made");
+        self.changing_reads += usize::from(unchanged.len() < self.schema.clusters.len());
         for (place, version) in unchanged {
             if !self.copy_of(place).is_empty() {
                 let coherent = self.cache.coherent(place);
@@ -181,9 +185,19 @@ impl Run {
         }
     }
 
+    /// Tries until something changed, so that the runs are lively.
     fn change(&mut self) {
-        let (path, value) = values::path_and_value(&mut self.rng, &self.schema);
-        self.server.change(&path, value);
+        for _ in 0..8 {
+            let (path, value) = values::path_and_value(&mut self.rng, &self.schema);
+            if self.schema.find(&path).is_err() {
+                continue;
+            }
+            let before = self.server.holdings().version(path.place());
+            self.server.change(&path, value);
+            if self.server.holdings().version(path.place()) != before {
+                return;
+            }
+        }
     }
 
     fn begin(&mut self, read: bool) {
@@ -235,9 +249,9 @@ impl Run {
     fn step(&mut self) {
         match self.rng.below(100) {
             0..=14 => self.change(),
-            15..=17 => self.begin(true),
-            18 => self.begin(false),
-            19..=24 => {
+            15 => self.begin(true),
+            16 if self.rng.chance(50) => self.begin(false),
+            16..=24 => {
                 if self.cache.awaited().is_none() {
                     let read = self.rng.chance(80);
                     self.begin(read);
@@ -290,8 +304,8 @@ impl Run {
 
 #[test]
 fn whole_means_held_and_a_complete_read_makes_whole() {
-    let (mut whole, mut parts, mut ended) = (0, 0, 0);
-    for seed in 0..400 {
+    let (mut whole, mut parts, mut ended, mut changing) = (0, 0, 0, 0);
+    for seed in 0..1000 {
         let mut run = Run::new(seed);
         for _ in 0..250 {
             run.step();
@@ -307,7 +321,9 @@ fn whole_means_held_and_a_complete_read_makes_whole() {
         whole += run.whole_seen;
         parts += run.parts_seen;
         ended += run.reads_ended;
+        changing += run.changing_reads;
     }
-    println!("{whole} times whole, {parts} parts, {ended} reads ended");
-    assert!(whole > 100_000 && parts > 5_000 && ended > 2_000, "the runs are too tame");
+    println!("{whole} times whole, {parts} parts, {ended} reads ended, {changing} in change");
+    assert!(whole > 100_000 && parts > 5_000, "the runs are too tame");
+    assert!(ended > 2_000 && changing > 1_000, "the runs are too tame");
 }

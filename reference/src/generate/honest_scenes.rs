@@ -43,11 +43,14 @@ fn weather(maker: &mut Maker) {
         if maker.cache().awaited().is_none() || !maker.running() {
             return;
         }
+        if maker.server().promised() && maker.rng.chance(20) {
+            sign_scenes::change_between_parts(maker);
+        }
         match maker.rng.below(20) {
             0 => lost_message(maker),
             1 => stale_to_sign(maker),
             2 => stale_to_panel(maker),
-            3 | 4 => change(maker),
+            3 | 4 => sign_scenes::any_change(maker),
             5 => sign_scenes::other_subject(maker),
             6 => twice(maker),
             7 => short_buffer(maker),
@@ -86,15 +89,6 @@ fn lost_message(maker: &mut Maker) {
     let (number, _) = maker.say("resend");
     if number == 0 {
         maker.note("message resent");
-    }
-}
-
-fn change(maker: &mut Maker) {
-    let before = maker.server().holdings().clone();
-    sign_scenes::any_change(maker);
-    let changed = *maker.server().holdings() != before;
-    if changed && maker.server().promised() {
-        maker.note("change between parts");
     }
 }
 

@@ -50,7 +50,7 @@ pub fn script(seed: u64) -> Generated {
 
 /// The setup and `start`. A bad plan leaves no sign, a bad table one that answers 2 alone.
 fn begin(maker: &mut Maker) {
-    if maker.rng.chance(8) {
+    if maker.rng.chance(10) {
         let schema = bad_plan::schema(maker);
         plan::say(maker, &schema, &[]);
         maker.say("start");
@@ -90,7 +90,7 @@ fn scene(maker: &mut Maker) {
         30 => sign_scenes::counts(maker),
         31 => sign_scenes::lengths(maker),
         32 => sign_scenes::depth(maker),
-        33 => sign_scenes::missing(maker),
+        33 => sign_scenes::missing_or_twice(maker),
         34 | 35 => filter_scenes::skipped_then_changed(maker),
         36 => filter_scenes::promised_then_skipped(maker),
         37 => filter_scenes::one_of_two_agrees(maker),
@@ -109,6 +109,8 @@ fn scene(maker: &mut Maker) {
         53 => {
             maker.say("resend");
         }
+        54 | 55 => sign_scenes::refused_forms(maker),
+        56 => sign_scenes::missing_or_twice(maker),
         _ => sign_scenes::any_change(maker),
     }
 }

@@ -101,7 +101,7 @@ fn privilege(rng: &mut Rng, none: usize) -> Option<u8> {
 fn attributes(rng: &mut Rng, size: Size, place: (u16, u32), out: &mut Vec<Attribute>) {
     let count = match size {
         Size::Small => rng.below(5),
-        Size::Wordy => rng.between(1, 6),
+        Size::Wordy => rng.between(1, 8),
         Size::Full => 8,
     };
     let mut ids = ATTRIBUTE_IDS;
@@ -119,7 +119,7 @@ fn attributes(rng: &mut Rng, size: Size, place: (u16, u32), out: &mut Vec<Attrib
 pub fn sound(rng: &mut Rng, size: Size) -> Schema {
     let (endpoints, clusters) = match size {
         Size::Small => (rng.between(1, 2), rng.between(1, 2)),
-        Size::Wordy => (rng.between(1, 3), rng.between(1, 3)),
+        Size::Wordy => (rng.between(1, 3), rng.between(1, 4)),
         Size::Full => (8, 4),
     };
     let mut schema = Schema { subject: *rng.pick(&[7, 0, u64::MAX, 112]), ..Schema::default() };

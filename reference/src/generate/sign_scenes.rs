@@ -6,8 +6,9 @@ use crate::envelope::{seal, Envelope, READ_REQUEST, STATUS_RESPONSE, WRITE_REQUE
 use crate::limits::{DEPTH, FILTERS, READ_PATHS, WRITES};
 use crate::paths::Path;
 use crate::spelling;
-use crate::tlv::{write, Body, Element};
-use crate::value::Value;
+use crate::status::SUCCESS;
+use crate::tlv::{write, Body, Element, Tag};
+use crate::value::{judge, Value};
 
 /// Any read, and then its parts.
 pub fn read(maker: &mut Maker) {
@@ -95,12 +96,20 @@ pub fn odd_status(maker: &mut Maker) {
     maker.sign(&message);
 }
 
-fn change_between_parts(maker: &mut Maker) {
-    let before = maker.server().holdings().clone();
-    any_change(maker);
-    if *maker.server().holdings() != before {
-        maker.note("change between parts");
+/// A change that surely is one, if the schema has room for it, while more is promised.
+pub fn change_between_parts(maker: &mut Maker) {
+    let schema = maker.schema();
+    for _ in 0..8 {
+        let (path, value) = values::path_and_value(&mut maker.rng, &schema);
+        let Ok(attribute) = schema.find(&path) else { continue };
+        let allowed = judge(&attribute.kind, attribute.nullable, &value) == SUCCESS;
+        if allowed && *maker.server().holdings().value(&path) != value {
+            maker.change(&path, &value);
+            maker.note("change between parts");
+            return;
+        }
     }
+    any_change(maker);
 }
 
 pub fn any_change(maker: &mut Maker) {
@@ -276,29 +285,96 @@ pub fn depth(maker: &mut Maker) {
     }
 }
 
-/// Missing fields, one at a time.
-pub fn missing(maker: &mut Maker) {
+/// A field left out or given twice, alone in a sound request.
+pub fn missing_or_twice(maker: &mut Maker) {
     let (last, _) = maker.server().exchange();
     let schema = maker.schema();
     let (path, value) = values::path_and_value(&mut maker.rng, &schema);
     let entry = spelling::write_entry(Some(1), &path, &value);
     let (opcode, mut tree) = if maker.rng.chance(50) {
-        let paths = vec![spelling::open_path(None, None, None)];
+        let paths = vec![spelling::open_path(Some(path.endpoint), None, None)];
         (READ_REQUEST, spelling::read_request(paths, vec![spelling::filter(path.place(), 1)]))
     } else {
         (WRITE_REQUEST, spelling::write_request(false, vec![entry]))
     };
-    let fields = requests::fields(&mut tree);
-    let at = maker.rng.below(fields.len());
-    if maker.rng.chance(60) {
-        fields.remove(at);
-    } else if let Body::Array(members) = &mut fields[at].body {
-        if let Body::Structure(inside) = &mut members[0].body {
-            let at = maker.rng.below(inside.len());
-            inside.remove(at);
-        }
-    }
+    let twice = maker.rng.chance(50);
+    alter(maker, &mut tree, twice);
     let message = requests::message(&mut maker.rng, opcode, last + 1, 0, &tree);
-    maker.sign(&message);
-    maker.note("a field left out");
+    let (_, reply) = maker.sign(&message);
+    let refused = reply.first() == Some(&STATUS_RESPONSE);
+    match (twice, refused) {
+        (true, true) => maker.note("a listed tag twice"),
+        (false, true) => maker.note("a required field left out"),
+        (false, false) => maker.note("an optional field left out"),
+        _ => {}
+    }
+}
+
+/// Goes down to some container that holds tagged fields, and doubles or removes one of them.
+fn alter(maker: &mut Maker, element: &mut Element, twice: bool) {
+    let (Body::Structure(members) | Body::Array(members) | Body::List(members)) =
+        &mut element.body
+    else {
+        return;
+    };
+    if members.is_empty() {
+        return;
+    }
+    let at = maker.rng.below(members.len());
+    let tagged = members[at].tag != Tag::Anonymous;
+    let holds = matches!(members[at].body, Body::Structure(_) | Body::Array(_) | Body::List(_));
+    if holds && (!tagged || maker.rng.chance(60)) {
+        alter(maker, &mut members[at], twice);
+    } else if twice {
+        let copy = members[at].clone();
+        members.push(copy);
+    } else {
+        members.remove(at);
+    }
+}
+
+/// Paths of the forms that get 80 though they are well formed, and the like that does not.
+pub fn refused_forms(maker: &mut Maker) {
+    let (last, _) = maker.server().exchange();
+    let schema = maker.schema();
+    let path = values::path(&mut maker.rng, &schema);
+    let fields = [
+        (0, Body::Bool(true)),
+        (0, Body::Bool(false)),
+        (1, Body::Unsigned(1)),
+        (5, Body::Null),
+        (5, Body::Unsigned(65_535)),
+        (5, Body::Unsigned(65_536)),
+    ];
+    let (tag, body) = maker.rng.pick(&fields).clone();
+    let extra = Element::context(tag, body);
+    let (opcode, tree) = match maker.rng.below(4) {
+        0 => {
+            let mut filter = spelling::filter(path.place(), 1);
+            if let Body::List(members) = &mut requests::fields(&mut filter)[0].body {
+                members.push(Element::context(0, Body::Unsigned(1)));
+            }
+            let paths = vec![spelling::open_path(None, None, None)];
+            (READ_REQUEST, spelling::read_request(paths, vec![filter]))
+        }
+        1 => {
+            let mut entry = spelling::write_entry(None, &path, &Value::Bool(true));
+            if let Body::List(members) = &mut requests::fields(&mut entry)[0].body {
+                members.push(extra);
+            }
+            (WRITE_REQUEST, spelling::write_request(false, vec![entry]))
+        }
+        _ => {
+            let mut asked =
+                spelling::open_path(Some(path.endpoint), Some(path.cluster), Some(path.attribute));
+            if let Body::List(members) = &mut asked.body {
+                members.push(extra);
+            }
+            (READ_REQUEST, spelling::read_request(vec![asked], vec![]))
+        }
+    };
+    let message = requests::message(&mut maker.rng, opcode, last + 1, 0, &tree);
+    let (_, reply) = maker.sign(&message);
+    let refused = reply.first() == Some(&STATUS_RESPONSE);
+    maker.note(if refused { "path form refused" } else { "path form passed" });
 }
