@@ -1,0 +1,10 @@
+pub mod Tables
+pub mod Picks
+pub mod HeadLaws
+pub mod FoldLaws
+pub mod WalkLaws
+pub mod TreeLaws
+pub mod Completeness
+pub mod Soundness
+pub mod ValueLaws
+pub mod MessageLaws

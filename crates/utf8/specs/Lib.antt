@@ -1,0 +1,3 @@
+pub mod WellFormed
+pub mod Sequence
+pub mod Scalar
