@@ -52,8 +52,8 @@ fn hold(folder: &str, at_least: usize) {
 }
 
 #[test]
-fn specimens_slips_and_the_morning() {
-    hold("", 19);
+fn specimens_slips_rules_and_the_morning() {
+    hold("", 27);
 }
 
 #[test]

@@ -131,10 +131,10 @@ fn base() -> Schema {
     schema
 }
 
-pub fn schema(maker: &mut Maker) -> Schema {
+/// A plan with one of the grounds, by its name.
+pub fn schema(maker: &mut Maker) -> (&'static str, Schema) {
     let (name, broken) = *maker.rng.pick(&GROUNDS);
     let mut schema = base();
     broken(&mut maker.rng, &mut schema);
-    maker.note(name);
-    schema
+    (name, schema)
 }

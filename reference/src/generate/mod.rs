@@ -16,6 +16,7 @@ use std::collections::BTreeMap;
 
 use self::maker::Maker;
 use self::plan::Size;
+use crate::answer::BAD_SCHEMA;
 use crate::envelope::{seal, Envelope, READ_REQUEST, REPORT};
 use crate::limits::{LAST_EXCHANGE, LAST_TURN};
 use crate::spelling;
@@ -51,9 +52,11 @@ pub fn script(seed: u64) -> Generated {
 /// The setup and `start`. A bad plan leaves no sign, a bad table one that answers 2 alone.
 fn begin(maker: &mut Maker) {
     if maker.rng.chance(10) {
-        let schema = bad_plan::schema(maker);
+        let (ground, schema) = bad_plan::schema(maker);
         plan::say(maker, &schema, &[]);
-        maker.say("start");
+        if maker.say("start").0 == BAD_SCHEMA {
+            maker.note(ground);
+        }
         if maker.rng.chance(30) {
             maker.say("read");
             maker.note("a line with nothing to work on");
