@@ -25,11 +25,11 @@ use Rattle.tlv.proofs.Picks.{choose-elim}
 use Rattle.tlv.proofs.Soundness.{reads-found}
 
 -- a property of every number below n, one by one
-abbrev Each : (ℕ → Type 0) → ℕ → Type 0
+abbrev pub Each : (ℕ → Type 0) → ℕ → Type 0
 Each P zero = Unit {0}
 Each P (suc n) = Each P n × P n
 
-each : (P : ℕ → Type 0) (n : ℕ) → Each P n → (k : ℕ) → k < n → P k
+pub each : (P : ℕ → Type 0) (n : ℕ) → Each P n → (k : ℕ) → k < n → P k
 each P zero a k h = absurd (omega arith)
 each P (suc n) a k h = go (eqb k n) refl (λ l. each P n (a .0) k l)
   where

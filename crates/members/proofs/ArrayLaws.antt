@@ -1,0 +1,151 @@
+-- Members that a schema reads, and arrays of them: a reader of one makes a reader of all.
+use mathlib.Core.Path.{_≡_, refl, sym, ap, subst, _∙_}
+use mathlib.Core.Bool.{Bool, true, false}
+use mathlib.Core.List.{List, map}
+use Prim.Native.Nat.{ℕ, zero, suc, _-_, _<_, _≤_}
+use native.Mathlib.Omega.{arith}
+use borrow.Author.Tests.{eq-eqb, ne-eqb}
+use lib.ListN.{length, getD}
+use Rattle.tlv.specs.declared.Element.{Element}
+use Rattle.tlv.specs.declared.Head.the-variants.{Found, Malformed}
+use Rattle.tlv.specs.Octet.{endOfContainer}
+use Rattle.tlv.specs.Tree.{Tree}
+use Rattle.tlv.specs.Tree.Tag.{anonymous}
+use Rattle.tlv.specs.Tree.Tree.{container}
+use Rattle.tlv.specs.Tree.Trees.{none}
+use Rattle.tlv.specs.Head.{headAt}
+use Rattle.tlv.specs.Walk.{Got, mapG, bindG, allowedIn, foldAt}
+use Rattle.tlv.specs.Walk.Got.{got, bad}
+use Rattle.tlv.specs.Decode.{Opt, place, bindO, foldT, treeOf, treesAt, treeAt}
+use Rattle.tlv.specs.Decode.Opt.{just, nothing}
+use Rattle.tlv.proofs.FoldLaws.{Ahead, Forward, fold-none, fold-ends, fold-barred, fold-breaks, fold-on}
+use Rattle.tlv.proofs.TreeLaws.{fold-law, tree-forward, tree-at}
+use Rattle.members.specs.Fields.{orNone, slotIn}
+use Rattle.members.specs.Fields.Slot.{absent}
+use Rattle.members.specs.Scalar.{numberIn, flagIn, wideIn, numberT, flagT, wideT}
+use Rattle.members.specs.Array.{optOf, requiredIn, requiredT, optionalIn, optionalT, eachStep, eachT}
+use Rattle.members.proofs.ScalarLaws.{number-law, flag-law, wide-law}
+use Rattle.members.proofs.MeaningLaws.{at-place}
+
+-- ---- scalars in the slots of a schema
+
+module _ (d : ℕ) (s : List ℕ) (xs : List ℕ) where
+  pub number-here : (most : ℕ) (nullable : Bool) (i : ℕ) → numberIn most nullable s (getD xs i 0) ≡ numberT most nullable (getD (map (slotIn d s) xs) i absent)
+  number-here most nullable i = number-law most nullable d s (getD xs i 0) ∙ ap (numberT most nullable) (sym (at-place d s xs i))
+
+  pub flag-here : (i : ℕ) → flagIn s (getD xs i 0) ≡ flagT (getD (map (slotIn d s) xs) i absent)
+  flag-here i = flag-law d s (getD xs i 0) ∙ ap flagT (sym (at-place d s xs i))
+
+  pub wide-here : (i : ℕ) → wideIn s (getD xs i 0) ≡ wideT (getD (map (slotIn d s) xs) i absent)
+  wide-here i = wide-law d s (getD xs i 0) ∙ ap wideT (sym (at-place d s xs i))
+
+-- ---- for any reader that is the meaning of a tree
+
+module _ {A : Type 0} (d : ℕ) (s : List ℕ) (read : ℕ → Got A) (means : Tree → Opt A) (law : (at : ℕ) → read at ≡ bindG (treeAt d s at) (λ t n. place (means t) n)) where
+  module _ (no : means (container anonymous endOfContainer none) ≡ nothing) where
+    opt-law : (g : Got Tree) → optOf (bindG g (λ t n. place (means t) n)) ≡ means (orNone g)
+    opt-law bad = sym no
+    opt-law (got t n) = go (means t)
+      where
+        go : (o : Opt A) → optOf (place o n) ≡ o
+        go (just a) = refl
+        go nothing = refl
+
+    required-law : (p : ℕ) → requiredIn read p ≡ requiredT means (slotIn d s p)
+    unfolding requiredIn requiredT slotIn
+    required-law zero = refl
+    required-law (suc p) = let e : suc p - 1 ≡ p = omega arith in rw (ne-eqb (suc p) 0 (λ z. omega arith), e, law p) (opt-law (treeAt d s p))
+
+    optional-law : (a : A) (p : ℕ) → optionalIn a read p ≡ optionalT a means (slotIn d s p)
+    unfolding optionalIn optionalT slotIn
+    optional-law a zero = refl
+    optional-law a (suc p) = let e : suc p - 1 ≡ p = omega arith in rw (ne-eqb (suc p) 0 (λ z. omega arith), e, law p) (opt-law (treeAt d s p))
+
+    pub required-here : (xs : List ℕ) (i : ℕ) → requiredIn read (getD xs i 0) ≡ requiredT means (getD (map (slotIn d s) xs) i absent)
+    required-here xs i = required-law (getD xs i 0) ∙ ap (requiredT means) (sym (at-place d s xs i))
+
+    pub optional-here : (a : A) (xs : List ℕ) (i : ℕ) → optionalIn a read (getD xs i 0) ≡ optionalT a means (getD (map (slotIn d s) xs) i absent)
+    optional-here a xs i = optional-law a (getD xs i 0) ∙ ap (optionalT a means) (sym (at-place d s xs i))
+
+  put-ahead : (at : ℕ) (o : Opt A) (n : ℕ) → (at < n) × (n ≤ length s) → Ahead at (length s) (place o n)
+  put-ahead at (just a) n h = h
+  put-ahead at nothing n h = tt
+
+  pub reader-forward : Forward s (λ at e. read at)
+  reader-forward at e h = rw (law at, tree-at d s 0 at h) (go (treeOf d s e) (tree-forward d s at e h))
+    where
+      go : (g : Got Tree) → Ahead at (length s) g → Ahead at (length s) (bindG g (λ t n. place (means t) n))
+      go bad o = tt
+      go (got t n) o = put-ahead at (means t) n o
+
+  module _ {S : Type 0} (add : S → A → S) where
+    each-forward : (x : S) → Forward s (eachStep add read x)
+    unfolding eachStep
+    each-forward x at e h = go (read at) (reader-forward at e h)
+      where
+        go : (g : Got A) → Ahead at (length s) g → Ahead at (length s) (mapG (add x) g)
+        go bad o = tt
+        go (got a n) o = o
+
+    each-step : (x : S) (at : ℕ) (e : Element) → headAt s at ≡ Found e → mapG (λ y. y) (eachStep add read x at e) ≡ bindG (treeOf d s e) (λ t n. place (eachT add means x t) n)
+    unfolding eachStep eachT
+    each-step x at e h = ap (λ g. mapG (λ y. y) (mapG (add x) g)) (law at ∙ ap (λ g. bindG g (λ t n. place (means t) n)) (tree-at d s 0 at h)) ∙ go (treeOf d s e)
+      where
+        put : (o : Opt A) (n : ℕ) → mapG (λ y. y) (mapG (add x) (place o n)) ≡ place (bindO o (λ a. just (add x a))) n
+        put (just a) n = refl
+        put nothing n = refl
+
+        go : (g : Got Tree) → mapG (λ y. y) (mapG (add x) (bindG g (λ t n. place (means t) n))) ≡ bindG g (λ t n. place (bindO (means t) (λ a. just (add x a))) n)
+        go bad = refl
+        go (got t n) = put (means t) n
+
+    same : (g : Got S) → mapG (λ y. y) g ≡ g
+    same bad = refl
+    same (got a n) = refl
+
+    -- THE LAW of an array
+    pub each-law : (x : S) (kind at : ℕ) → foldAt (eachStep add read) (length s) s kind x at ≡ bindG (treesAt d s kind at) (λ ts n. place (foldT (eachT add means) x ts) n)
+    unfolding treesAt
+    each-law x kind at = sym (same (foldAt (eachStep add read) (length s) s kind x at)) ∙ fold-law (λ y. y) (eachT add means) (eachStep add read) (treeOf d s) s kind each-step (length s) x at
+
+    -- for the code, case by case
+    module _ (kind : ℕ) (x : S) (at : ℕ) where
+      pub each-none : headAt s at ≡ Malformed → foldAt (eachStep add read) (length s) s kind x at ≡ bad
+      each-none = fold-none (eachStep add read) s each-forward kind x at
+
+      module _ {e : Element} (h : headAt s at ≡ Found e) where
+        pub each-ends : e .kind ≡ endOfContainer → foldAt (eachStep add read) (length s) s kind x at ≡ got x (e .next .at)
+        each-ends = fold-ends (eachStep add read) s each-forward kind x at h
+
+        pub each-barred : (e .kind ≡ endOfContainer → ⊥) → allowedIn kind (e .form) ≡ false → foldAt (eachStep add read) (length s) s kind x at ≡ bad
+        each-barred = fold-barred (eachStep add read) s each-forward kind x at h
+
+        pub each-breaks : (e .kind ≡ endOfContainer → ⊥) → allowedIn kind (e .form) ≡ true → read at ≡ bad → foldAt (eachStep add read) (length s) s kind x at ≡ bad
+        unfolding eachStep
+        each-breaks q a w = fold-breaks (eachStep add read) s each-forward kind x at h q a (simp w)
+
+        pub each-on : {a : A} {n : ℕ} → (e .kind ≡ endOfContainer → ⊥) → allowedIn kind (e .form) ≡ true → read at ≡ got a n → foldAt (eachStep add read) (length s) s kind x at ≡ foldAt (eachStep add read) (length s) s kind (add x a) n
+        unfolding eachStep
+        each-on q b w = fold-on (eachStep add read) s each-forward kind x at h q b (simp w)
+
+        -- the measure of a loop over an array
+        pub each-onward : {a : A} {n : ℕ} → read at ≡ got a n → (at < n) × (n ≤ length s)
+        each-onward w = subst (Ahead at (length s)) w (reader-forward at e h)
+
+-- ---- for the code: a member at a place
+
+pub required-none : {A : Type 0} (read : ℕ → Got A) (p : ℕ) → p ≡ 0 → requiredIn read p ≡ nothing
+unfolding requiredIn
+required-none read p e = simp (eq-eqb p 0 e)
+
+pub required-some : {A : Type 0} (read : ℕ → Got A) (p : ℕ) {g : Got A} → (p ≡ 0 → ⊥) → read (p - 1) ≡ g → requiredIn read p ≡ optOf g
+unfolding requiredIn
+required-some read p n e = simp (ne-eqb p 0 n, e)
+
+pub optional-none : {A : Type 0} (a : A) (read : ℕ → Got A) (p : ℕ) → p ≡ 0 → optionalIn a read p ≡ just a
+unfolding optionalIn
+optional-none a read p e = simp (eq-eqb p 0 e)
+
+pub optional-some : {A : Type 0} (a : A) (read : ℕ → Got A) (p : ℕ) {g : Got A} → (p ≡ 0 → ⊥) → read (p - 1) ≡ g → optionalIn a read p ≡ optOf g
+unfolding optionalIn
+optional-some a read p n e = simp (ne-eqb p 0 n, e)

@@ -1,0 +1,5 @@
+pub mod ScalarLaws
+pub mod FieldLaws
+pub mod MeaningLaws
+pub mod ArrayLaws
+pub mod OrderLaws
