@@ -239,11 +239,7 @@ impl Cache {
     }
 
     /// A part is checked whole, 6 before 7, then each block sets an entry.
-    fn take_report(
-        &mut self,
-        envelope: Envelope,
-        payload: &[u8],
-    ) -> Result<Option<Vec<u8>>, u8> {
+    fn take_report(&mut self, envelope: Envelope, payload: &[u8]) -> Result<Option<Vec<u8>>, u8> {
         let report = Report::read(payload).ok_or(UNUSABLE)?;
         if report.more && envelope.turn == LAST_TURN {
             return Err(UNUSABLE);

@@ -4,9 +4,7 @@
 use crate::fields::Fields;
 use crate::limits::{FILTERS, READ_PATHS, WRITES};
 use crate::paths::{ClusterPath, Path, SpelledPath};
-use crate::status::{
-    INVALID_ACTION, PATHS_EXHAUSTED, RESOURCE_EXHAUSTED, TIMED_REQUEST_MISMATCH,
-};
+use crate::status::{INVALID_ACTION, PATHS_EXHAUSTED, RESOURCE_EXHAUSTED, TIMED_REQUEST_MISMATCH};
 use crate::tlv::{read_payload, Body, Element};
 
 const U8: u64 = u8::MAX as u64;

@@ -59,11 +59,7 @@ impl SpelledPath {
     }
 
     pub fn concrete(&self) -> Option<Path> {
-        Some(Path {
-            endpoint: self.endpoint?,
-            cluster: self.cluster?,
-            attribute: self.attribute?,
-        })
+        Some(Path { endpoint: self.endpoint?, cluster: self.cluster?, attribute: self.attribute? })
     }
 
     /// A part left open covers everything in its place (004, Wildcard Path).

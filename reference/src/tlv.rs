@@ -226,13 +226,7 @@ fn string(tag: &Tag, kind: u8, bytes: &[u8], widths: &mut dyn Widths, out: &mut 
     out.extend(bytes);
 }
 
-fn container(
-    tag: &Tag,
-    kind: u8,
-    members: &[Element],
-    widths: &mut dyn Widths,
-    out: &mut Vec<u8>,
-) {
+fn container(tag: &Tag, kind: u8, members: &[Element], widths: &mut dyn Widths, out: &mut Vec<u8>) {
     head(tag, kind, out);
     for member in members {
         write_with(member, widths, out);

@@ -55,10 +55,19 @@ impl Value {
 #[derive(Clone, Debug, PartialEq, Eq)]
 pub enum Kind {
     Bool,
-    Unsigned { lowest: u64, highest: u64 },
-    Signed { lowest: i64, highest: i64 },
+    Unsigned {
+        lowest: u64,
+        highest: u64,
+    },
+    Signed {
+        lowest: i64,
+        highest: i64,
+    },
     /// Lowest and highest as bits.
-    Float { lowest: u32, highest: u32 },
+    Float {
+        lowest: u32,
+        highest: u32,
+    },
     Text,
 }
 

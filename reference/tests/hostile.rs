@@ -9,14 +9,52 @@ use reference::player::run;
 use reference::rng::Rng;
 
 const WORDS: [&str; 24] = [
-    "", "-", "*", "0", "1", "-1", "00", "FF", "G0", "#", "65535", "65536", "4294967295",
-    "4294967296", "18446744073709551615", "18446744073709551616", "-9223372036854775808",
-    "-9223372036854775809", "1099511627775", "null", "text", "float", "7FC00000", "+1",
+    "",
+    "-",
+    "*",
+    "0",
+    "1",
+    "-1",
+    "00",
+    "FF",
+    "G0",
+    "#",
+    "65535",
+    "65536",
+    "4294967295",
+    "4294967296",
+    "18446744073709551615",
+    "18446744073709551616",
+    "-9223372036854775808",
+    "-9223372036854775809",
+    "1099511627775",
+    "null",
+    "text",
+    "float",
+    "7FC00000",
+    "+1",
 ];
 
 const STARTS: [&str; 20] = [
-    "subject", "cluster", "attribute", "access", "start", "buffer", "sign", "change", "read",
-    "resend", "write", "panel", "forward", "back", "whole", "entry", "outcome", "unknown", "used",
+    "subject",
+    "cluster",
+    "attribute",
+    "access",
+    "start",
+    "buffer",
+    "sign",
+    "change",
+    "read",
+    "resend",
+    "write",
+    "panel",
+    "forward",
+    "back",
+    "whole",
+    "entry",
+    "outcome",
+    "unknown",
+    "used",
     "nothing",
 ];
 
@@ -48,7 +86,7 @@ fn damage(rng: &mut Rng, line: &str) -> Vec<u8> {
         _ => {
             let mut bytes = line.as_bytes().to_vec();
             let at = rng.below(bytes.len().max(1)).min(bytes.len());
-            bytes.insert(at, rng.next() as u8);
+            bytes.insert(at, rng.draw() as u8);
             return bytes;
         }
     }
@@ -79,12 +117,13 @@ fn damaged_lines() {
 fn lines_of_any_words() {
     for seed in 0..4000 {
         let mut rng = Rng::new(seed);
-        let mut script = String::from("subject 7\ncluster 1 6 5\nattribute 1 6 0 1 1 1 bool 1\nstart\n");
+        let mut script =
+            String::from("subject 7\ncluster 1 6 5\nattribute 1 6 0 1 1 1 bool 1\nstart\n");
         for _ in 0..20 {
-            script.push_str(*rng.pick::<&str>(&STARTS));
+            script.push_str(rng.pick::<&str>(&STARTS));
             for _ in 0..rng.below(7) {
                 script.push(' ');
-                script.push_str(*rng.pick::<&str>(&WORDS));
+                script.push_str(rng.pick::<&str>(&WORDS));
             }
             script.push('\n');
         }
@@ -105,11 +144,13 @@ fn any_bytes() {
 #[test]
 fn any_payload() {
     const CONTROLS: [u8; 16] = [
-        0x15, 0x35, 0x36, 0x37, 0x16, 0x17, 0x18, 0x24, 0x25, 0x26, 0x27, 0x2C, 0x33, 0x29, 0x28, 0xD5,
+        0x15, 0x35, 0x36, 0x37, 0x16, 0x17, 0x18, 0x24, 0x25, 0x26, 0x27, 0x2C, 0x33, 0x29, 0x28,
+        0xD5,
     ];
     for seed in 0..3000 {
         let mut rng = Rng::new(seed);
-        let mut script = String::from("subject 7\ncluster 1 6 5\nattribute 1 6 0 1 1 1 text\nstart\nread\n");
+        let mut script =
+            String::from("subject 7\ncluster 1 6 5\nattribute 1 6 0 1 1 1 text\nstart\nread\n");
         for exchange in 1..10 {
             let mut payload = vec![0x15];
             for _ in 0..rng.below(40) {
@@ -118,7 +159,8 @@ fn any_payload() {
             }
             let hex: String = payload.iter().map(|byte| format!(" {byte:02X}")).collect();
             let opcode = *rng.pick(&[1, 2, 6]);
-            script.push_str(&format!("sign 7 {opcode:02X} 00 00 00 00 {exchange:02X} 00 00{hex}\n"));
+            script
+                .push_str(&format!("sign 7 {opcode:02X} 00 00 00 00 {exchange:02X} 00 00{hex}\n"));
             let opcode = *rng.pick(&[1, 5, 7]);
             script.push_str(&format!("panel {opcode:02X} 00 00 00 00 01 00 01{hex}\n"));
         }
@@ -126,22 +168,60 @@ fn any_payload() {
     }
 }
 
+/// Each stops the run.
+const UNREADABLE: [&str; 45] = [
+    "forward",
+    "back",
+    "buffer",
+    "buffer -1",
+    "sign",
+    "sign 7 0",
+    "sign 7 000",
+    "sign 7 0x",
+    "panel  01",
+    "panel 01 ",
+    " read",
+    "read ",
+    "Read",
+    "resend now",
+    "change 1 6 0",
+    "change 1 6 0 bool 2",
+    "change 1 6 0 null 1",
+    "change 1 6 0 signed -",
+    "change 1 6 0 signed 1-",
+    "change 1 6 0 float 7FC0000",
+    "change 1 6 0 float 7FC000000",
+    "change 1 6 0 unsigned -1",
+    "change 1 6 0 unsigned 1.0",
+    "write 1 6 0 bool 1",
+    "write 1 6 0 4294967296 bool 1",
+    "whole 65536 6",
+    "whole 1 4294967296",
+    "entry 1 6",
+    "outcome 1",
+    "unknown 1",
+    "used 1099511627776",
+    "used",
+    "attribute 1 6 1 1 1 2 bool 1",
+    "attribute 1 6 1 256 1 0 bool 1",
+    "attribute 1 6 1 1 1 0 bool",
+    "attribute 1 6 1 1 1 0 list",
+    "access 256 * * *",
+    "access 1 * *",
+    "access 1 * * * *",
+    "cluster 1 6",
+    "subject",
+    "subject *",
+    "start now",
+    "\r",
+    "read\r",
+];
+
 /// What each kind of unreadable line is taken for.
 #[test]
 fn lines_that_cant_be_read() {
     let setup = "subject 7\ncluster 1 6 5\nattribute 1 6 0 1 1 1 bool 1\nstart\n";
-    let cases = [
-        "forward", "back", "buffer", "buffer -1", "sign", "sign 7 0", "sign 7 000", "sign 7 0x",
-        "panel  01", "panel 01 ", " read", "read ", "Read", "resend now", "change 1 6 0",
-        "change 1 6 0 bool 2", "change 1 6 0 null 1", "change 1 6 0 signed -", "change 1 6 0 signed 1-",
-        "change 1 6 0 float 7FC0000", "change 1 6 0 float 7FC000000", "change 1 6 0 unsigned -1",
-        "change 1 6 0 unsigned 1.0", "write 1 6 0 bool 1", "write 1 6 0 4294967296 bool 1",
-        "whole 65536 6", "whole 1 4294967296", "entry 1 6", "outcome 1", "unknown 1",
-        "used 1099511627776", "used", "attribute 1 6 1 1 1 2 bool 1", "attribute 1 6 1 256 1 0 bool 1",
-        "attribute 1 6 1 1 1 0 bool", "attribute 1 6 1 1 1 0 list", "access 256 * * *", "access 1 * *",
-        "access 1 * * * *", "cluster 1 6", "subject", "subject *", "start now", "\r", "read\r",
-    ];
-    for case in cases {
+    for case in UNREADABLE {
         let (answers, stopped) = run(format!("{setup}{case}\nread\n").as_bytes());
         assert_eq!(answers, "0\n", "{case:?}");
         assert!(stopped.is_some_and(|wrong| wrong.starts_with("line 5: ")), "{case:?}");

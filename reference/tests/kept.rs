@@ -27,9 +27,12 @@ fn first_difference(name: &str, answers: &str, expected: &str) -> Option<String>
         if our.is_none() && their.is_none() {
             return None;
         }
-        let excused = WRONG_GIVEN_ANSWERS.iter().any(|(at, line, _)| *at == name && *line == number);
+        let excused =
+            WRONG_GIVEN_ANSWERS.iter().any(|(at, line, _)| *at == name && *line == number);
         if our != their && !excused {
-            return Some(format!("{name}, answer {number}:\n  played   {our:?}\n  expected {their:?}"));
+            return Some(format!(
+                "{name}, answer {number}:\n  played   {our:?}\n  expected {their:?}"
+            ));
         }
     }
     None
@@ -53,7 +56,7 @@ fn hold(folder: &str, at_least: usize) {
 
 #[test]
 fn specimens_slips_rules_and_the_morning() {
-    hold("", 27);
+    hold("", 28);
 }
 
 #[test]

@@ -51,52 +51,54 @@ fn order() {
         (&["3 6 4"], "11"),
     ];
     for (paths, answer) in cases {
-        let all: String = paths.iter().map(|path| format!("attribute {path} 1 1 0 bool 1\n")).collect();
+        let all: String =
+            paths.iter().map(|path| format!("attribute {path} 1 1 0 bool 1\n")).collect();
         assert_eq!(start(&format!("{clusters}{all}")), answer, "{paths:?}");
     }
 }
+
+/// READ WRITE NULLABLE KIND.. of one attribute, and what `start` answers.
+const KINDS: [(&str, &str); 31] = [
+    ("1 4 0 bool 0", "0"),
+    ("- - 1 bool 1", "0"),
+    ("0 1 0 bool 1", "11"),
+    ("5 1 0 bool 1", "11"),
+    ("1 0 0 bool 1", "11"),
+    ("1 5 0 bool 1", "11"),
+    ("1 1 0 unsigned 3 3 3", "0"),
+    ("1 1 0 unsigned 0 18446744073709551615 18446744073709551615", "0"),
+    ("1 1 0 unsigned 4 3 3", "11"),
+    ("1 1 0 unsigned 4 5 3", "11"),
+    ("1 1 1 unsigned 4 5 6", "11"),
+    ("1 1 0 signed -9223372036854775808 -9223372036854775808 -9223372036854775808", "0"),
+    ("1 1 0 signed -1 1 -2", "11"),
+    ("1 1 0 signed -1 1 2", "11"),
+    ("1 1 0 signed 1 -1 0", "11"),
+    // -0.0 and 0.0 are equal by float comparison.
+    ("1 1 0 float 00000000 80000000 80000000", "0"),
+    ("1 1 0 float FF7FFFFF 7F7FFFFF 00000001", "0"),
+    ("1 1 0 float 42C80000 00000000 00000000", "11"),
+    ("1 1 0 float 00000000 42C80000 42C80001", "11"),
+    ("1 1 0 float 00000001 42C80000 80000000", "11"),
+    ("1 1 0 float FF800000 42C80000 00000000", "11"),
+    ("1 1 0 float 00000000 7F800000 00000000", "11"),
+    ("1 1 0 float 7F800000 7F800000 7F800000", "11"),
+    ("1 1 0 float 7FC00000 42C80000 00000000", "11"),
+    ("1 1 0 float 00000000 7FC00000 00000000", "11"),
+    ("1 1 0 float 00000000 42C80000 7FC00000", "11"),
+    ("1 1 0 text", "0"),
+    ("1 1 0 text F4 8F BF BF", "0"),
+    ("1 1 0 text F4 90 80 80", "11"),
+    ("1 1 0 text ED A0 80", "11"),
+    ("1 1 0 text C3", "11"),
+];
 
 #[test]
 fn kinds() {
     let long = |length: usize| format!("1 1 0 text{}", " 61".repeat(length));
     let (long_200, long_201) = (long(200), long(201));
-    let cases = [
-        ("1 4 0 bool 0", "0"),
-        ("- - 1 bool 1", "0"),
-        ("0 1 0 bool 1", "11"),
-        ("5 1 0 bool 1", "11"),
-        ("1 0 0 bool 1", "11"),
-        ("1 5 0 bool 1", "11"),
-        ("1 1 0 unsigned 3 3 3", "0"),
-        ("1 1 0 unsigned 0 18446744073709551615 18446744073709551615", "0"),
-        ("1 1 0 unsigned 4 3 3", "11"),
-        ("1 1 0 unsigned 4 5 3", "11"),
-        ("1 1 1 unsigned 4 5 6", "11"),
-        ("1 1 0 signed -9223372036854775808 -9223372036854775808 -9223372036854775808", "0"),
-        ("1 1 0 signed -1 1 -2", "11"),
-        ("1 1 0 signed -1 1 2", "11"),
-        ("1 1 0 signed 1 -1 0", "11"),
-        // -0.0 and 0.0 are equal by float comparison.
-        ("1 1 0 float 00000000 80000000 80000000", "0"),
-        ("1 1 0 float FF7FFFFF 7F7FFFFF 00000001", "0"),
-        ("1 1 0 float 42C80000 00000000 00000000", "11"),
-        ("1 1 0 float 00000000 42C80000 42C80001", "11"),
-        ("1 1 0 float 00000001 42C80000 80000000", "11"),
-        ("1 1 0 float FF800000 42C80000 00000000", "11"),
-        ("1 1 0 float 00000000 7F800000 00000000", "11"),
-        ("1 1 0 float 7F800000 7F800000 7F800000", "11"),
-        ("1 1 0 float 7FC00000 42C80000 00000000", "11"),
-        ("1 1 0 float 00000000 7FC00000 00000000", "11"),
-        ("1 1 0 float 00000000 42C80000 7FC00000", "11"),
-        ("1 1 0 text", "0"),
-        ("1 1 0 text F4 8F BF BF", "0"),
-        ("1 1 0 text F4 90 80 80", "11"),
-        ("1 1 0 text ED A0 80", "11"),
-        ("1 1 0 text C3", "11"),
-        (long_200.as_str(), "0"),
-        (long_201.as_str(), "11"),
-    ];
-    for (rest, answer) in cases {
+    let longs = [(long_200.as_str(), "0"), (long_201.as_str(), "11")];
+    for (rest, answer) in KINDS.into_iter().chain(longs) {
         assert_eq!(start(&format!("cluster 1 6 0\nattribute 1 6 0 {rest}")), answer, "{rest}");
     }
 }
@@ -104,8 +106,12 @@ fn kinds() {
 /// After refusal 11 there is neither end, though there were both before.
 #[test]
 fn a_second_start() {
-    let script = "subject 7\ncluster 1 6 0\nstart\nread\nstart\noutcome\ncluster 1 6 0\nstart\noutcome\n";
+    let script =
+        "subject 7\ncluster 1 6 0\nstart\nread\nstart\noutcome\ncluster 1 6 0\nstart\noutcome\n";
     let (answers, stopped) = run(script.as_bytes());
-    assert_eq!(answers, "0\n0 02 00 00 00 00 01 00 00 15 36 00 17 18 18 28 03 24 FF 0A 18\n0\n1\n11\n");
+    assert_eq!(
+        answers,
+        "0\n0 02 00 00 00 00 01 00 00 15 36 00 17 18 18 28 03 24 FF 0A 18\n0\n1\n11\n"
+    );
     assert!(stopped.is_some_and(|wrong| wrong.starts_with("line 9: ")));
 }

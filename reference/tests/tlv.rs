@@ -67,10 +67,15 @@ fn well_formed_payloads() {
 #[test]
 fn depth() {
     for (containers, passes) in [(1, true), (10, true), (11, false), (500, false)] {
-        let words = format!("15 {}{}18", "35 01 ".repeat(containers - 1), "18 ".repeat(containers - 1));
+        let words =
+            format!("15 {}{}18", "35 01 ".repeat(containers - 1), "18 ".repeat(containers - 1));
         assert_eq!(read_payload(&bytes(&words)).is_some(), passes, "{containers}");
         let inner = "24 01 01 ";
-        let words = format!("15 {}{inner}{}18", "35 01 ".repeat(containers - 1), "18 ".repeat(containers - 1));
+        let words = format!(
+            "15 {}{inner}{}18",
+            "35 01 ".repeat(containers - 1),
+            "18 ".repeat(containers - 1)
+        );
         assert_eq!(read_payload(&bytes(&words)).is_some(), passes, "{containers} with a number");
     }
 }

@@ -120,7 +120,7 @@ fn hurt_bytes(rng: &mut Rng, bytes: &mut Vec<u8>) {
         1 => bytes.extend(write(&Element::anonymous(Body::Null))),
         2 => bytes.push(0x18),
         3 => bytes[at] ^= 1 << rng.below(8),
-        4 => bytes[at] = rng.next() as u8,
+        4 => bytes[at] = rng.draw() as u8,
         // A tagged end.
         5 => {
             bytes.pop();

@@ -96,11 +96,11 @@ pub fn unlisted(rng: &mut Rng) -> Tag {
 pub fn any_body(rng: &mut Rng, depth: usize) -> Body {
     let kinds = if depth == 0 { 8 } else { 11 };
     match rng.below(kinds) {
-        0 => Body::Signed(rng.next() as i64 >> rng.below(64)),
-        1 => Body::Unsigned(rng.next() >> rng.below(64)),
+        0 => Body::Signed(rng.draw() as i64 >> rng.below(64)),
+        1 => Body::Unsigned(rng.draw() >> rng.below(64)),
         2 => Body::Bool(rng.chance(50)),
-        3 => Body::Float(rng.next() as u32),
-        4 => Body::Double(rng.next()),
+        3 => Body::Float(rng.draw() as u32),
+        4 => Body::Double(rng.draw()),
         5 => {
             let length = rng.below(12);
             Body::Text(rng.bytes(length))
@@ -110,7 +110,7 @@ pub fn any_body(rng: &mut Rng, depth: usize) -> Body {
             Body::Bytes(rng.bytes(length))
         }
         7 => Body::Null,
-        8 => Body::Structure(some(rng, depth, |rng| unlisted(rng))),
+        8 => Body::Structure(some(rng, depth, unlisted)),
         9 => Body::Array(some(rng, depth, |_| Tag::Anonymous)),
         _ => Body::List(some(rng, depth, |rng| {
             if rng.chance(50) {

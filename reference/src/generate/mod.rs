@@ -5,6 +5,7 @@ mod damage;
 mod disguise;
 mod filter_scenes;
 mod honest_scenes;
+mod limit_scenes;
 pub mod maker;
 mod panel_scenes;
 pub mod plan;
@@ -90,10 +91,10 @@ fn scene(maker: &mut Maker) {
         27 => sign_scenes::odd_envelope(maker),
         28 => sign_scenes::other_subject(maker),
         29 => sign_scenes::odd_status(maker),
-        30 => sign_scenes::counts(maker),
-        31 => sign_scenes::lengths(maker),
-        32 => sign_scenes::depth(maker),
-        33 => sign_scenes::missing_or_twice(maker),
+        30 => limit_scenes::counts(maker),
+        31 => limit_scenes::lengths(maker),
+        32 => limit_scenes::depth(maker),
+        33 => limit_scenes::missing_or_twice(maker),
         34 | 35 => filter_scenes::skipped_then_changed(maker),
         36 => filter_scenes::promised_then_skipped(maker),
         37 => filter_scenes::one_of_two_agrees(maker),
@@ -112,8 +113,8 @@ fn scene(maker: &mut Maker) {
         53 => {
             maker.say("resend");
         }
-        54 | 55 => sign_scenes::refused_forms(maker),
-        56 => sign_scenes::missing_or_twice(maker),
+        54 | 55 => limit_scenes::refused_forms(maker),
+        56 => limit_scenes::missing_or_twice(maker),
         _ => sign_scenes::any_change(maker),
     }
 }

@@ -249,7 +249,8 @@ pub fn not_awaited(maker: &mut Maker) {
     };
     let opcode = *maker.rng.pick(&[1, 5, 7, 5, 2, 6]);
     let tree = spelling::report(vec![], false);
-    let message = requests::message(&mut maker.rng, opcode, exchange.min(LAST_EXCHANGE), turn, &tree);
+    let message =
+        requests::message(&mut maker.rng, opcode, exchange.min(LAST_EXCHANGE), turn, &tree);
     maker.panel(&message);
 }
 
