@@ -343,6 +343,7 @@ const NOTES: &[&str] = &[
     "request ended by a status",
     "status to a later part not awaited",
     "reply lost",
+    "begin refused while something is open",
     "message resent",
     "stale message at the sign",
     "stale reply at the panel",

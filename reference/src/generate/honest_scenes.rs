@@ -3,13 +3,14 @@
 
 use super::maker::Maker;
 use super::{panel_scenes, sign_scenes, values};
-use crate::limits::LAST_EXCHANGE;
+use crate::limits::{LAST_EXCHANGE, TEXT};
+use crate::value::Value;
 
 /// Lifts the panel's numbers to those that hand-made requests have used at the sign, so that its
 /// requests are new there.
 pub fn catch_up(maker: &mut Maker) {
     let (last, _) = maker.server().exchange();
-    if last >= maker.cache().used() && last < LAST_EXCHANGE {
+    if last > maker.cache().used() && last < LAST_EXCHANGE {
         maker.say(&format!("used {last}"));
     }
 }
@@ -59,6 +60,7 @@ fn weather(maker: &mut Maker) {
                 return;
             }
             9 => sign_scenes::odd_status(maker),
+            10 if maker.rng.chance(40) => refused_begin(maker),
             _ => step(maker),
         }
     }
@@ -148,6 +150,16 @@ pub fn short_buffer(maker: &mut Maker) {
     maker.say(&format!("buffer {room}"));
 }
 
+/// A begin that is refused leaves what is open open.
+fn refused_begin(maker: &mut Maker) {
+    let schema = maker.schema();
+    let path = values::path(&mut maker.rng, &schema);
+    let text = if maker.rng.chance(50) { vec![0xC3] } else { vec![b'x'; TEXT + 1] };
+    maker.write(&path, None, &Value::Text(text));
+    maker.say("resend");
+    maker.note("begin refused while something is open");
+}
+
 /// Begins anew while something is open.
 fn abandon(maker: &mut Maker) {
     let unknown = maker.cache().unknown();
@@ -190,7 +202,7 @@ pub fn last_numbers(maker: &mut Maker) {
         }
     }
     panel_scenes::any_begin(maker);
-    maker.say("resend");
+    refused_begin(maker);
     maker.say("outcome");
     maker.say("unknown");
 }

@@ -71,7 +71,7 @@ fn begin(maker: &mut Maker) {
     };
     let schema = plan::sound(&mut maker.rng, size);
     let mut table = plan::table(&mut maker.rng, &schema);
-    if maker.rng.chance(5) {
+    if maker.rng.chance(7) {
         plan::bad_table(maker, &mut table);
     }
     plan::say(maker, &schema, &table);

@@ -210,6 +210,9 @@ pub fn status(maker: &mut Maker) {
     if maker.cache().awaited().is_none() {
         any_begin(maker);
     }
+    if maker.rng.chance(30) {
+        one_part(maker);
+    }
     let Some((exchange, turn)) = maker.cache().awaited() else { return };
     let code = *maker.rng.pick(&[0, 1, 0x80, 0xC8, 0xFF]);
     let tree = spelling::status_response(code);
@@ -225,6 +228,24 @@ pub fn status(maker: &mut Maker) {
         _ => {}
     }
     maker.say("outcome");
+    let place = maker.cache().clusters().into_iter().next();
+    if let Some((endpoint, cluster)) = place {
+        maker.say(&format!("whole {endpoint} {cluster}"));
+    }
+}
+
+/// Takes a part that promises more, if a read is open.
+fn one_part(maker: &mut Maker) {
+    let Some((exchange, turn)) = maker.cache().awaited() else { return };
+    let schema = maker.schema();
+    let path = values::path(&mut maker.rng, &schema);
+    let block = spelling::data_block(&path, 5, &Value::Bool(true));
+    let tree = spelling::report(vec![block], true);
+    let message = requests::message(&mut maker.rng, REPORT, exchange, turn, &tree);
+    maker.panel(&message);
+    if maker.rng.chance(30) {
+        maker.say("read");
+    }
 }
 
 pub fn any_begin(maker: &mut Maker) {

@@ -53,7 +53,7 @@ fn open_path(rng: &mut Rng, schema: &Schema) -> Element {
         12 => spelling::open_path(None, cluster, Some(path.attribute)),
         13 => spelling::open_path(None, None, global),
         14 => spelling::open_path(endpoint, None, global),
-        _ if rng.chance(80) => spelling::open_path(endpoint, cluster, Some(path.attribute)),
+        _ if rng.chance(40) => spelling::open_path(endpoint, cluster, Some(path.attribute)),
         // A cluster left open with an attribute named that may be no global one.
         _ => spelling::open_path(endpoint, None, Some(*rng.pick(&[0, 0xFFF7, 0xFFFE]))),
     }

@@ -29,7 +29,7 @@ fn fetch(maker: &mut Maker, request: &[u8]) {
         let (exchange, k) = maker.server().exchange();
         match maker.rng.below(20) {
             0..=4 => change_between_parts(maker),
-            5 => close(maker, request),
+            5 | 9 => close(maker, request),
             6 => {
                 maker.sign(request);
                 maker.note("first request repeated during a read");
@@ -93,8 +93,14 @@ pub fn odd_status(maker: &mut Maker) {
     maker.sign(&message);
 }
 
-/// A change that surely is one, if the schema has room for it, while more is promised.
 pub fn change_between_parts(maker: &mut Maker) {
+    if change_between(maker) {
+        maker.note("change between parts");
+    }
+}
+
+/// A change that surely is one, if a few tries find it; any try at all otherwise.
+fn change_between(maker: &mut Maker) -> bool {
     let schema = maker.schema();
     for _ in 0..8 {
         let (path, value) = values::path_and_value(&mut maker.rng, &schema);
@@ -102,11 +108,11 @@ pub fn change_between_parts(maker: &mut Maker) {
         let allowed = judge(&attribute.kind, attribute.nullable, &value) == SUCCESS;
         if allowed && *maker.server().holdings().value(&path) != value {
             maker.change(&path, &value);
-            maker.note("change between parts");
-            return;
+            return true;
         }
     }
     any_change(maker);
+    false
 }
 
 pub fn any_change(maker: &mut Maker) {
@@ -126,9 +132,10 @@ pub fn write_action(maker: &mut Maker) {
     if stored && number == 1 {
         maker.note("suppressed write stored");
     }
-    if maker.rng.chance(40) {
-        if maker.rng.chance(50) {
-            any_change(maker);
+    let again = if stored && number == 1 { 80 } else { 40 };
+    if maker.rng.chance(again) {
+        if maker.rng.chance(60) {
+            change_between(maker);
         }
         maker.sign(&message);
         maker.note(if number == 1 { "silence repeated" } else { "write repeated" });
