@@ -23,7 +23,7 @@ use Rattle.tlv.proofs.TreeLaws.{fold-law, tree-forward, tree-at}
 use Rattle.members.specs.Fields.{orNone, slotIn}
 use Rattle.members.specs.Fields.Slot.{absent}
 use Rattle.members.specs.Scalar.{numberIn, flagIn, wideIn, numberT, flagT, wideT}
-use Rattle.members.specs.Array.{optOf, requiredIn, requiredT, optionalIn, optionalT, eachStep, eachT}
+use Rattle.members.specs.Array.{optOf, mapO, requiredIn, requiredT, optionalIn, eachStep, eachT}
 use Rattle.members.proofs.ScalarLaws.{number-law, flag-law, wide-law}
 use Rattle.members.proofs.MeaningLaws.{at-place}
 
@@ -39,40 +39,48 @@ module _ (d : ℕ) (s : List ℕ) (xs : List ℕ) where
   pub wide-here : (i : ℕ) → wideIn s (getD xs i 0) ≡ wideT (getD (map (slotIn d s) xs) i absent)
   wide-here i = wide-law d s (getD xs i 0) ∙ ap wideT (sym (at-place d s xs i))
 
--- ---- for any reader that is the meaning of a tree
+-- ---- for any reader whose answer, seen through β, is the meaning of a tree
 
-module _ {A : Type 0} (d : ℕ) (s : List ℕ) (read : ℕ → Got A) (means : Tree → Opt A) (law : (at : ℕ) → read at ≡ bindG (treeAt d s at) (λ t n. place (means t) n)) where
+map-same : {A : Type 0} (g : Got A) → mapG (λ x. x) g ≡ g
+map-same bad = refl
+map-same (got a n) = refl
+
+opt-same : {A : Type 0} (o : Opt A) → mapO (λ x. x) o ≡ o
+opt-same nothing = refl
+opt-same (just a) = refl
+
+module _ {A B : Type 0} (β : A → B) (d : ℕ) (s : List ℕ) (read : ℕ → Got A) (means : Tree → Opt B) (law : (at : ℕ) → mapG β (read at) ≡ bindG (treeAt d s at) (λ t n. place (means t) n)) where
   module _ (no : means (container anonymous endOfContainer none) ≡ nothing) where
+    opt-map : (g : Got A) → mapO β (optOf g) ≡ optOf (mapG β g)
+    opt-map bad = refl
+    opt-map (got a n) = refl
+
     opt-law : (g : Got Tree) → optOf (bindG g (λ t n. place (means t) n)) ≡ means (orNone g)
     opt-law bad = sym no
     opt-law (got t n) = go (means t)
       where
-        go : (o : Opt A) → optOf (place o n) ≡ o
+        go : (o : Opt B) → optOf (place o n) ≡ o
         go (just a) = refl
         go nothing = refl
 
-    required-law : (p : ℕ) → requiredIn read p ≡ requiredT means (slotIn d s p)
+    pub member-mapped : (p : ℕ) → mapO β (optOf (read p)) ≡ means (orNone (treeAt d s p))
+    member-mapped p = opt-map (read p) ∙ ap optOf (law p) ∙ opt-law (treeAt d s p)
+
+    pub required-mapped : (p : ℕ) → mapO β (requiredIn read p) ≡ requiredT means (slotIn d s p)
     unfolding requiredIn requiredT slotIn
-    required-law zero = refl
-    required-law (suc p) = let e : suc p - 1 ≡ p = omega arith in rw (ne-eqb (suc p) 0 (λ z. omega arith), e, law p) (opt-law (treeAt d s p))
+    required-mapped zero = refl
+    required-mapped (suc p) = let e : suc p - 1 ≡ p = omega arith in rw (ne-eqb (suc p) 0 (λ z. omega arith), e) (member-mapped p)
 
-    optional-law : (a : A) (p : ℕ) → optionalIn a read p ≡ optionalT a means (slotIn d s p)
-    unfolding optionalIn optionalT slotIn
-    optional-law a zero = refl
-    optional-law a (suc p) = let e : suc p - 1 ≡ p = omega arith in rw (ne-eqb (suc p) 0 (λ z. omega arith), e, law p) (opt-law (treeAt d s p))
+  unmapped : (at : ℕ) (g : Got A) → Ahead at (length s) (mapG β g) → Ahead at (length s) g
+  unmapped at bad h = tt
+  unmapped at (got a n) h = h
 
-    pub required-here : (xs : List ℕ) (i : ℕ) → requiredIn read (getD xs i 0) ≡ requiredT means (getD (map (slotIn d s) xs) i absent)
-    required-here xs i = required-law (getD xs i 0) ∙ ap (requiredT means) (sym (at-place d s xs i))
-
-    pub optional-here : (a : A) (xs : List ℕ) (i : ℕ) → optionalIn a read (getD xs i 0) ≡ optionalT a means (getD (map (slotIn d s) xs) i absent)
-    optional-here a xs i = optional-law a (getD xs i 0) ∙ ap (optionalT a means) (sym (at-place d s xs i))
-
-  put-ahead : (at : ℕ) (o : Opt A) (n : ℕ) → (at < n) × (n ≤ length s) → Ahead at (length s) (place o n)
+  put-ahead : (at : ℕ) (o : Opt B) (n : ℕ) → (at < n) × (n ≤ length s) → Ahead at (length s) (place o n)
   put-ahead at (just a) n h = h
   put-ahead at nothing n h = tt
 
   pub reader-forward : Forward s (λ at e. read at)
-  reader-forward at e h = rw (law at, tree-at d s 0 at h) (go (treeOf d s e) (tree-forward d s at e h))
+  reader-forward at e h = unmapped at (read at) (rw (law at, tree-at d s 0 at h) (go (treeOf d s e) (tree-forward d s at e h)))
     where
       go : (g : Got Tree) → Ahead at (length s) g → Ahead at (length s) (bindG g (λ t n. place (means t) n))
       go bad o = tt
@@ -87,26 +95,27 @@ module _ {A : Type 0} (d : ℕ) (s : List ℕ) (read : ℕ → Got A) (means : T
         go bad o = tt
         go (got a n) o = o
 
-    each-step : (x : S) (at : ℕ) (e : Element) → headAt s at ≡ Found e → mapG (λ y. y) (eachStep add read x at e) ≡ bindG (treeOf d s e) (λ t n. place (eachT add means x t) n)
-    unfolding eachStep eachT
-    each-step x at e h = ap (λ g. mapG (λ y. y) (mapG (add x) g)) (law at ∙ ap (λ g. bindG g (λ t n. place (means t) n)) (tree-at d s 0 at h)) ∙ go (treeOf d s e)
-      where
-        put : (o : Opt A) (n : ℕ) → mapG (λ y. y) (mapG (add x) (place o n)) ≡ place (bindO o (λ a. just (add x a))) n
-        put (just a) n = refl
-        put nothing n = refl
+    module _ {T : Type 0} (α : S → T) (add′ : T → B → T) (same : (x : S) (a : A) → α (add x a) ≡ add′ (α x) (β a)) where
+      each-step : (x : S) (at : ℕ) (e : Element) → headAt s at ≡ Found e → mapG α (eachStep add read x at e) ≡ bindG (treeOf d s e) (λ t n. place (eachT add′ means (α x) t) n)
+      unfolding eachStep eachT
+      each-step x at e h = through (read at) ∙ ap (mapG (add′ (α x))) (law at ∙ ap (λ g. bindG g (λ t n. place (means t) n)) (tree-at d s 0 at h)) ∙ go (treeOf d s e)
+        where
+          through : (g : Got A) → mapG α (mapG (add x) g) ≡ mapG (add′ (α x)) (mapG β g)
+          through bad = refl
+          through (got a n) = ap (λ (y : T). got y n) (same x a)
 
-        go : (g : Got Tree) → mapG (λ y. y) (mapG (add x) (bindG g (λ t n. place (means t) n))) ≡ bindG g (λ t n. place (bindO (means t) (λ a. just (add x a))) n)
-        go bad = refl
-        go (got t n) = put (means t) n
+          put : (o : Opt B) (n : ℕ) → mapG (add′ (α x)) (place o n) ≡ place (bindO o (λ a. just (add′ (α x) a))) n
+          put (just a) n = refl
+          put nothing n = refl
 
-    same : (g : Got S) → mapG (λ y. y) g ≡ g
-    same bad = refl
-    same (got a n) = refl
+          go : (g : Got Tree) → mapG (add′ (α x)) (bindG g (λ t n. place (means t) n)) ≡ bindG g (λ t n. place (bindO (means t) (λ a. just (add′ (α x) a))) n)
+          go bad = refl
+          go (got t n) = put (means t) n
 
-    -- THE LAW of an array
-    pub each-law : (x : S) (kind at : ℕ) → foldAt (eachStep add read) (length s) s kind x at ≡ bindG (treesAt d s kind at) (λ ts n. place (foldT (eachT add means) x ts) n)
-    unfolding treesAt
-    each-law x kind at = sym (same (foldAt (eachStep add read) (length s) s kind x at)) ∙ fold-law (λ y. y) (eachT add means) (eachStep add read) (treeOf d s) s kind each-step (length s) x at
+      -- THE LAW of an array
+      pub each-law : (x : S) (kind at : ℕ) → mapG α (foldAt (eachStep add read) (length s) s kind x at) ≡ bindG (treesAt d s kind at) (λ ts n. place (foldT (eachT add′ means) (α x) ts) n)
+      unfolding treesAt
+      each-law x kind at = fold-law α (eachT add′ means) (eachStep add read) (treeOf d s) s kind each-step (length s) x at
 
     -- for the code, case by case
     module _ (kind : ℕ) (x : S) (at : ℕ) where
@@ -131,6 +140,15 @@ module _ {A : Type 0} (d : ℕ) (s : List ℕ) (read : ℕ → Got A) (means : T
         -- the measure of a loop over an array
         pub each-onward : {a : A} {n : ℕ} → read at ≡ got a n → (at < n) × (n ≤ length s)
         each-onward w = subst (Ahead at (length s)) w (reader-forward at e h)
+
+-- ---- for a reader that is itself the meaning of a tree
+
+module _ {A : Type 0} (d : ℕ) (s : List ℕ) (read : ℕ → Got A) (means : Tree → Opt A) (law : (at : ℕ) → read at ≡ bindG (treeAt d s at) (λ t n. place (means t) n)) where
+  pub plain : (at : ℕ) → mapG (λ x. x) (read at) ≡ bindG (treeAt d s at) (λ t n. place (means t) n)
+  plain at = map-same (read at) ∙ law at
+
+  pub required-here : means (container anonymous endOfContainer none) ≡ nothing → (xs : List ℕ) (i : ℕ) → requiredIn read (getD xs i 0) ≡ requiredT means (getD (map (slotIn d s) xs) i absent)
+  required-here z xs i = sym (opt-same (requiredIn read (getD xs i 0))) ∙ required-mapped (λ x. x) d s read means plain z (getD xs i 0) ∙ ap (requiredT means) (sym (at-place d s xs i))
 
 -- ---- for the code: a member at a place
 

@@ -15,6 +15,10 @@ abbrev pub optOf : {A : Type 0} → Got A → Opt A
 optOf bad = nothing
 optOf (got a n) = just a
 
+abbrev pub mapO : {A B : Type 0} → (A → B) → Opt A → Opt B
+mapO f nothing = nothing
+mapO f (just a) = just (f a)
+
 -- a required member: in bytes read at its place, in trees by its meaning
 unfoldable pub requiredIn : {A : Type 0} → (ℕ → Got A) → ℕ → Opt A
 requiredIn read p = pick (eqb p 0) nothing (optOf (read (p - 1)))

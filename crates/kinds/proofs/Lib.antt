@@ -1,0 +1,5 @@
+pub mod FloatLaws
+pub mod SignedLaws
+pub mod LimitLaws
+pub mod StoredLaws
+pub mod Specimens

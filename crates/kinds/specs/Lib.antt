@@ -1,0 +1,3 @@
+pub mod Float
+pub mod Limits
+pub mod Stored

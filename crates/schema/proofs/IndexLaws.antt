@@ -1,0 +1,73 @@
+-- What the check says, by index.
+use mathlib.Core.Path.{_≡_}
+use mathlib.Core.Bool.{true}
+use mathlib.Core.List.{List}
+use Prim.Native.Nat.{ℕ, _*_, _^_, _≤_, _<_}
+use borrow.Author.Tests.{leb-true, le-leb, eqb-true, eq-eqb, ltb-true, lt-ltb}
+use lib.Dec.{eqb, ltb, leb}
+use lib.ListN.{getD}
+use Rattle.schema.specs.Layout.{endpointLimit, clusterLimit, attributeLimit, clusterCountWord, attributeCountWord, spareWord, pathColumn, versionColumn, keyColumn, traitsColumn, half}
+use Rattle.schema.specs.Rows.{word, clusterCount, attributeCount}
+use Rattle.schema.specs.Check.{rises, allBelow, endpointChanges, traitsRight, allTraits, rankRight, allRanks, clustersRight, attributesRight, wellFormed}
+use Rattle.schema.proofs.BoolLaws.{both, left, right}
+use Rattle.schema.proofs.CheckLaws.{every-at, every-all, rises-below, rises-order, rises-all}
+
+pub record ByIndex (w : List ℕ) : Type 0 where
+  pub spare : getD w spareWord 0 ≡ 0
+  pub clusterNumber : getD w clusterCountWord 0 ≤ clusterLimit
+  pub attributeNumber : getD w attributeCountWord 0 ≤ attributeLimit
+  pub pathBelow : (i : ℕ) → i < clusterCount w → word w pathColumn i < 2 ^ 48
+  pub pathOrder : (j : ℕ) → j < clusterCount w → (i : ℕ) → i < j → word w pathColumn i < word w pathColumn j
+  pub versions : (i : ℕ) → i < clusterCount w → word w versionColumn i < half
+  pub endpoints : endpointChanges w (clusterCount w) ≤ endpointLimit
+  pub keyBelow : (i : ℕ) → i < attributeCount w → word w keyColumn i < clusterCount w * half
+  pub keyOrder : (j : ℕ) → j < attributeCount w → (i : ℕ) → i < j → word w keyColumn i < word w keyColumn j
+  pub traits : (i : ℕ) → i < attributeCount w → traitsRight (word w traitsColumn i) ≡ true
+  pub ranks : (i : ℕ) → i < attributeCount w → rankRight w i ≡ true
+
+module _ (w : List ℕ) where
+  clusters-index : clustersRight w (clusterCount w) ≡ true → (rises w pathColumn (clusterCount w) (2 ^ 48) ≡ true) × (allBelow w versionColumn (clusterCount w) half ≡ true) × (endpointChanges w (clusterCount w) ≤ endpointLimit)
+  clusters-index h =
+      let t = right (rises w pathColumn (clusterCount w) (2 ^ 48)) _ h in
+      (left _ _ h, left _ _ t, leb-true _ _ (right (allBelow w versionColumn (clusterCount w) half) _ t))
+
+  attributes-index : attributesRight w (clusterCount w) (attributeCount w) ≡ true → (rises w keyColumn (attributeCount w) (clusterCount w * half) ≡ true) × (allTraits w (attributeCount w) ≡ true) × (allRanks w (attributeCount w) ≡ true)
+  attributes-index h =
+      let t = right (rises w keyColumn (attributeCount w) (clusterCount w * half)) _ h in
+      (left _ _ h, left _ _ t, right (allTraits w (attributeCount w)) _ t)
+
+  pub to-index : wellFormed w ≡ true → ByIndex w
+  unfolding wellFormed
+  to-index h =
+      let h1 = right (eqb (getD w spareWord 0) 0) _ h in
+      let h2 = right (leb (getD w clusterCountWord 0) clusterLimit) _ h1 in
+      let h3 = right (leb (getD w attributeCountWord 0) attributeLimit) _ h2 in
+      let cs = clusters-index (left _ _ h3) in
+      let bs = attributes-index (right (clustersRight w (clusterCount w)) _ h3) in
+      record {
+        spare = eqb-true _ _ (left _ _ h);
+        clusterNumber = leb-true _ _ (left _ _ h1);
+        attributeNumber = leb-true _ _ (left _ _ h2);
+        pathBelow = rises-below w pathColumn (clusterCount w) (2 ^ 48) (cs .0);
+        pathOrder = rises-order w pathColumn (clusterCount w) (2 ^ 48) (cs .0);
+        versions = λ i l. ltb-true _ _ (every-at (λ k. ltb (word w versionColumn k) half) (clusterCount w) (cs .1) i l);
+        endpoints = cs .2;
+        keyBelow = rises-below w keyColumn (attributeCount w) (clusterCount w * half) (bs .0);
+        keyOrder = rises-order w keyColumn (attributeCount w) (clusterCount w * half) (bs .0);
+        traits = every-at (λ k. traitsRight (word w traitsColumn k)) (attributeCount w) (bs .1);
+        ranks = every-at (rankRight w) (attributeCount w) (bs .2);
+      }
+
+  pub from-index : ByIndex w → wellFormed w ≡ true
+  unfolding wellFormed
+  from-index x =
+      both _ _ (eq-eqb _ _ (x .spare))
+      (both _ _ (le-leb _ _ (x .clusterNumber))
+      (both _ _ (le-leb _ _ (x .attributeNumber))
+      (both _ _
+      (both _ _ (rises-all w pathColumn (clusterCount w) (2 ^ 48) (x .pathBelow) (x .pathOrder))
+      (both _ _ (every-all (λ k. ltb (word w versionColumn k) half) (clusterCount w) (λ i l. lt-ltb _ _ (x .versions i l)))
+      (le-leb _ _ (x .endpoints))))
+      (both _ _ (rises-all w keyColumn (attributeCount w) (clusterCount w * half) (x .keyBelow) (x .keyOrder))
+      (both _ _ (every-all (λ k. traitsRight (word w traitsColumn k)) (attributeCount w) (x .traits))
+      (every-all (rankRight w) (attributeCount w) (x .ranks)))))))

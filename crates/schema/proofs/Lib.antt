@@ -1,0 +1,13 @@
+pub mod BoolLaws
+pub mod SearchLaws
+pub mod CheckLaws
+pub mod TraitLaws
+pub mod RowLaws
+pub mod CountLaws
+pub mod OrderLaws
+pub mod IndexLaws
+pub mod RulesLaws
+pub mod PathLaws
+pub mod FindLaws
+pub mod TextLaws
+pub mod Examples

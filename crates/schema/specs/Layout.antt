@@ -1,0 +1,65 @@
+-- The limits, and where the schema's words lie. The code has constants of the same names; the contracts hold the two together.
+use Prim.Native.Nat.{ℕ, _+_, _^_}
+
+-- document 01, A sign's plan: "At most 8 endpoints, 32 clusters, 256 attributes"
+abbrev pub endpointLimit : ℕ
+endpointLimit = 8
+
+abbrev pub clusterLimit : ℕ
+clusterLimit = 32
+
+abbrev pub attributeLimit : ℕ
+attributeLimit = 256
+
+-- "text of up to 200 bytes": what one text takes in the page of edits
+abbrev pub textSize : ℕ
+textSize = 200
+
+-- the last of the five kinds, which is text, and the highest of the four privileges
+abbrev pub textKind : ℕ
+textKind = 4
+
+abbrev pub administer : ℕ
+administer = 4
+
+-- the header's words
+abbrev pub clusterCountWord : ℕ
+clusterCountWord = 0
+
+abbrev pub attributeCountWord : ℕ
+attributeCountWord = 1
+
+abbrev pub subjectWord : ℕ
+subjectWord = 2
+
+abbrev pub spareWord : ℕ
+spareWord = 3
+
+-- where each column starts
+abbrev pub pathColumn : ℕ
+pathColumn = 4
+
+abbrev pub versionColumn : ℕ
+versionColumn = pathColumn + clusterLimit
+
+abbrev pub keyColumn : ℕ
+keyColumn = versionColumn + clusterLimit
+
+abbrev pub traitsColumn : ℕ
+traitsColumn = keyColumn + attributeLimit
+
+abbrev pub lowColumn : ℕ
+lowColumn = traitsColumn + attributeLimit
+
+abbrev pub highColumn : ℕ
+highColumn = lowColumn + attributeLimit
+
+abbrev pub firstColumn : ℕ
+firstColumn = highColumn + attributeLimit
+
+abbrev pub wordCount : ℕ
+wordCount = firstColumn + attributeLimit
+
+-- a path (endpoint, cluster) and a key (index of the cluster's row, attribute) are two halves of 32 bits
+abbrev pub half : ℕ
+half = 2 ^ 32

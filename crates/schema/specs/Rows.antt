@@ -1,0 +1,76 @@
+-- The schema as lists of typed rows, decoded from its words (document 01, A sign's plan). Nothing of a word is lost: two words that decode alike are equal.
+use Prim.Native.Nat.{ℕ, zero, suc, _+_, _/_, _%_, _^_, min}
+use mathlib.Core.List.{List, [], _∷_}
+use mathlib.Core.Bool.{Bool}
+use lib.Dec.{eqb}
+use lib.ListN.{getD}
+use Rattle.schema.specs.Layout.{clusterLimit, attributeLimit, clusterCountWord, attributeCountWord, pathColumn, versionColumn, keyColumn, traitsColumn, lowColumn, highColumn, firstColumn, half, textKind}
+
+-- word i of a column
+abbrev pub word : List ℕ → ℕ → ℕ → ℕ
+word w column i = getD w (column + i) 0
+
+-- a cluster on an endpoint, with the data version that it starts with
+pub record ClusterRow : Type 0 where
+  pub endpoint : ℕ
+  pub cluster : ℕ
+  pub version : ℕ
+
+-- an attribute: the place of its cluster among the cluster rows, its id, what it may hold, and the privileges that reading and writing it need
+pub record AttributeRow : Type 0 where
+  pub clusterIndex : ℕ
+  pub id : ℕ
+  -- 0 boolean, 1 unsigned, 2 signed, 3 float, 4 text
+  pub kind : ℕ
+  -- 0 no, 1 yes
+  pub nullable : ℕ
+  -- 0 not readable (not writable), 1 View, 2 Operate, 3 Manage, 4 Administer
+  pub read : ℕ
+  pub write : ℕ
+  -- by kind: lowest, highest and first value; of a text where its factory text starts, its length, and the text's rank
+  pub low : ℕ
+  pub high : ℕ
+  pub first : ℕ
+
+abbrev pub clusterRow : List ℕ → ℕ → ClusterRow
+clusterRow w i =
+    record {
+      endpoint = word w pathColumn i / half;
+      cluster = word w pathColumn i % half;
+      version = word w versionColumn i;
+    }
+
+abbrev pub attributeRow : List ℕ → ℕ → AttributeRow
+attributeRow w i =
+    record {
+      clusterIndex = word w keyColumn i / half;
+      id = word w keyColumn i % half;
+      kind = word w traitsColumn i % 256;
+      nullable = word w traitsColumn i / 256 % 256;
+      read = word w traitsColumn i / 2 ^ 16 % 256;
+      write = word w traitsColumn i / 2 ^ 24;
+      low = word w lowColumn i;
+      high = word w highColumn i;
+      first = word w firstColumn i;
+    }
+
+-- how many rows are in use: what the header says, at most the limit. Rows after those are not looked at.
+abbrev pub clusterCount : List ℕ → ℕ
+clusterCount w = min (getD w clusterCountWord 0) clusterLimit
+
+abbrev pub attributeCount : List ℕ → ℕ
+attributeCount w = min (getD w attributeCountWord 0) attributeLimit
+
+-- the n rows from k on
+unfoldable pub rowsFrom : {A : Type 0} → (ℕ → A) → ℕ → ℕ → List A
+rowsFrom f zero k = []
+rowsFrom f (suc n) k = f k ∷ rowsFrom f n (suc k)
+
+abbrev pub clusters : List ℕ → List ClusterRow
+clusters w = rowsFrom (clusterRow w) (clusterCount w) 0
+
+abbrev pub attributes : List ℕ → List AttributeRow
+attributes w = rowsFrom (attributeRow w) (attributeCount w) 0
+
+abbrev pub isText : AttributeRow → Bool
+isText a = eqb (a .kind) textKind

@@ -1,0 +1,184 @@
+// Whether the words are a schema by the rules of document 01 (specs/Rules.antt). It is asked at every call of a server, so each rule is one plain loop
+// over a column.
+ghost use mathlib.Core.Path.{_≡_};
+ghost use Prim.Native.Nat.{_+_, _≤_};
+ghost use Rattle.schema.specs.Layout.{clusterLimit, attributeLimit, wordCount};
+ghost use Rattle.schema.specs.Check.{rises, allBelow, endpointChanges, topBitsClear, allTraits, allRanks, clustersRight, attributesRight, wellFormed};
+use super::ADMINISTER;
+use super::ATTRIBUTE_COUNT_WORD;
+use super::ATTRIBUTES;
+use super::CLUSTER_COUNT_WORD;
+use super::CLUSTERS;
+use super::ENDPOINTS;
+use super::FIRST;
+use super::HALF;
+use super::KEY;
+use super::NULLABLE_PART;
+use super::PATH;
+use super::READ_PART;
+use super::SPARE_WORD;
+use super::TEXT;
+use super::TRAITS;
+use super::VERSION;
+use super::WORDS;
+use super::WRITE_PART;
+
+// What each part of the traits has left to 127 at its highest value.
+const MARGINS: u64 = 127 - TEXT
+    + (127 - 1) * NULLABLE_PART
+    + (127 - ADMINISTER) * READ_PART
+    + (127 - ADMINISTER) * WRITE_PART;
+
+// The n words from `from` on rise strictly, and the last is below limit: walked from the end, each word against the one after it.
+fn rising(w: &[u64; WORDS], from: usize, n: usize, limit: u64) -> bool
+    requires { ⌜ from + n ≤ wordCount ⌝ }
+    ensures { λ r. ⌜ r ≡ rises (now (w .entry)) from n limit ⌝ }
+{
+    let mut high = limit;
+    let mut i = n;
+    while 0 < i {
+        i -= 1;
+        let x = w[from + i];
+        if high <= x {
+            return false;
+        }
+        high = x;
+    }
+    true
+}
+
+// Each of the n words from `from` on is below limit.
+fn all_below(w: &[u64; WORDS], from: usize, n: usize, limit: u64) -> bool
+    requires { ⌜ from + n ≤ wordCount ⌝ }
+    ensures { λ r. ⌜ r ≡ allBelow (now (w .entry)) from n limit ⌝ }
+{
+    let mut i = 0;
+    while i < n {
+        if limit <= w[from + i] {
+            return false;
+        }
+        i += 1;
+    }
+    true
+}
+
+// How often the endpoint changes from one cluster row to the next, the first row counted: in rising order, how many endpoints there are.
+fn endpoint_changes(w: &[u64; WORDS], n: usize) -> usize
+    requires { ⌜ n ≤ clusterLimit ⌝ }
+    ensures { λ r. ⌜ r ≡ endpointChanges (now (w .entry)) n ⌝ }
+{
+    let mut changes = 0;
+    let mut last = HALF;
+    let mut i = 0;
+    while i < n {
+        let e = super::cluster_endpoint(w, i);
+        if e == last {
+            i += 1;
+        } else {
+            changes += 1;
+            last = e;
+            i += 1;
+        }
+    }
+    changes
+}
+
+// The top bits of the four bytes are clear, and all bits above them.
+fn top_bits_clear(x: u64) -> bool
+    ensures { λ r. ⌜ r ≡ topBitsClear x ⌝ }
+{
+    if 2_147_483_648 <= x {
+        return false;
+    }
+    if x / 8_388_608 % 2 != 0 {
+        return false;
+    }
+    if x / 32_768 % 2 != 0 {
+        return false;
+    }
+    x / 128 % 2 == 0
+}
+
+// Each part of each traits word is one that there is. A part is too high exactly if its top bit is set in the word, or in the word with MARGINS added:
+// so all words and sums are joined by OR, which takes no branch a word, and the top bits are looked at once.
+fn all_traits(w: &[u64; WORDS], n: usize) -> bool
+    requires { ⌜ n ≤ attributeLimit ⌝ }
+    ensures { λ r. ⌜ r ≡ allTraits (now (w .entry)) n ⌝ }
+{
+    let mut bits: u64 = 0;
+    let mut i = 0;
+    while i < n {
+        let t = w[TRAITS + i];
+        bits = bits | t | (t % HALF + MARGINS);
+        i += 1;
+    }
+    top_bits_clear(bits)
+}
+
+// The first word of each text is its rank: how many texts stand before it.
+fn all_ranks(w: &[u64; WORDS], n: usize) -> bool
+    requires { ⌜ n ≤ attributeLimit ⌝ }
+    ensures { λ r. ⌜ r ≡ allRanks (now (w .entry)) n ⌝ }
+{
+    let mut rank: u64 = 0;
+    let mut i = 0;
+    while i < n {
+        if super::is_text(w, i) {
+            if w[FIRST + i] != rank {
+                return false;
+            }
+            rank += 1;
+            i += 1;
+        } else {
+            i += 1;
+        }
+    }
+    true
+}
+
+fn clusters_right(w: &[u64; WORDS], n: usize) -> bool
+    requires { ⌜ n ≤ clusterLimit ⌝ }
+    ensures { λ r. ⌜ r ≡ clustersRight (now (w .entry)) n ⌝ }
+{
+    if !rising(w, PATH, n, 65_536 * HALF) {
+        return false;
+    }
+    if !all_below(w, VERSION, n, HALF) {
+        return false;
+    }
+    endpoint_changes(w, n) <= ENDPOINTS
+}
+
+fn attributes_right(w: &[u64; WORDS], n: usize, m: usize) -> bool
+    requires { ⌜ (n ≤ clusterLimit) × (m ≤ attributeLimit) ⌝ }
+    ensures { λ r. ⌜ r ≡ attributesRight (now (w .entry)) n m ⌝ }
+{
+    if !rising(w, KEY, m, n as u64 * HALF) {
+        return false;
+    }
+    if !all_traits(w, m) {
+        return false;
+    }
+    all_ranks(w, m)
+}
+
+// True exactly if the words are a schema.
+pub fn well_formed(w: &[u64; WORDS]) -> bool
+    ensures { λ r. ⌜ r ≡ wellFormed (now (w .entry)) ⌝ }
+{
+    if w[SPARE_WORD] != 0 {
+        return false;
+    }
+    if w[CLUSTER_COUNT_WORD] > CLUSTERS as u64 {
+        return false;
+    }
+    if w[ATTRIBUTE_COUNT_WORD] > ATTRIBUTES as u64 {
+        return false;
+    }
+    let n = super::cluster_count(w);
+    let m = super::attribute_count(w);
+    if !clusters_right(w, n) {
+        return false;
+    }
+    attributes_right(w, n, m)
+}
