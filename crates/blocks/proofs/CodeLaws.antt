@@ -1,0 +1,145 @@
+-- What the code of each reader goes on with: its frame, and each way that it may be refused.
+use mathlib.Core.Path.{_≡_, refl, sym, ap, _∙_}
+use mathlib.Core.Bool.{Bool, true, false}
+use mathlib.Core.List.{List}
+use Prim.Native.Nat.{ℕ, _-_, _<_, _≤_}
+use borrow.Author.Tests.{eq-eqb, ne-eqb, lt-ltb, le-ltb}
+use lib.ListN.{getD}
+use lib.Dec.{eqb}
+use Rattle.tlv.specs.Octet.{pick}
+use Rattle.tlv.specs.Walk.{Got, bindG}
+use Rattle.tlv.specs.Walk.Got.{bad}
+use Rattle.tlv.specs.Decode.{Opt, bindO, place}
+use Rattle.tlv.specs.Decode.Opt.{just, nothing}
+use Rattle.members.specs.declared.Members.{Members}
+use Rattle.members.specs.Fields.{insideAt, membersOf}
+use Rattle.members.specs.Scalar.{ABSENT, WRONG, numberIn, flagIn, wideIn}
+use Rattle.members.specs.Array.{requiredIn}
+use Rattle.members.proofs.FieldLaws.{inside-deep, bad-members, good-members}
+use Rattle.blocks.specs.declared.Path.{Path}
+use Rattle.blocks.specs.declared.Cluster.{Cluster}
+use Rattle.blocks.specs.declared.Status.{Status}
+use Rattle.blocks.specs.declared.Answer.{Answer}
+use Rattle.blocks.specs.Path.{checked, soundPath, pathFrom, pathAt}
+use Rattle.blocks.specs.Filter.{soundCluster, clusterFrom, clusterAt, filterOf, filterFrom}
+use Rattle.blocks.specs.Status.{soundStatus, statusFrom, statusAt, answerFrom, answerAt}
+use Rattle.blocks.specs.Data.{DataOf, anyIn, dataFrom, dataAt, shown, refused, maybeIn, reportFrom}
+
+-- a frame: the members of a container, and what is made of them
+module _ {A : Type 0} (kind d : ℕ) (s : List ℕ) (tags : List Bool) (at : ℕ) (F : List ℕ → Opt A) where
+  abbrev pub frame : Got A
+  frame = bindG (insideAt kind d s tags at) (λ seen n. place (F seen) n)
+
+  pub frame-deep : d ≡ 0 → frame ≡ bad
+  frame-deep e = ap (λ g. bindG g (λ seen n. place (F seen) n)) (inside-deep kind d s tags at e)
+
+  module _ (m : Members) (e : m ≡ membersOf (insideAt kind d s tags at)) where
+    pub frame-bad : m .good ≡ false → frame ≡ bad
+    frame-bad q = bad-members m (insideAt kind d s tags at) (λ seen n. place (F seen) n) e q
+
+    pub frame-good : m .good ≡ true → {o : Opt A} → F (m .at) ≡ o → frame ≡ place o (m .next)
+    frame-good q f = good-members m (insideAt kind d s tags at) (λ seen n. place (F seen) n) e q ∙ ap (λ o. place o (m .next)) f
+
+-- what was checked
+pub checked-no : {A : Type 0} (sound : A → Bool) (x : A) → sound x ≡ false → checked sound x ≡ nothing
+checked-no sound x e = simp e
+
+pub checked-yes : {A : Type 0} (sound : A → Bool) (x : A) → sound x ≡ true → checked sound x ≡ just x
+checked-yes sound x e = simp e
+
+-- ---- flat schemas: what was gathered is what the schema makes of the places
+
+module _ (s : List ℕ) (xs : List ℕ) where
+  pub path-gathered : (p : Path) → p .compress ≡ flagIn s (getD xs 0 0) → p .node ≡ wideIn s (getD xs 1 0) → p .endpoint ≡ numberIn 65535 false s (getD xs 2 0) → p .cluster ≡ numberIn 4294967295 false s (getD xs 3 0) → p .attribute ≡ numberIn 4294967295 false s (getD xs 4 0) → p .index ≡ numberIn 65535 true s (getD xs 5 0) → pathFrom s xs ≡ checked soundPath p
+  unfolding pathFrom
+  path-gathered p e0 e1 e2 e3 e4 e5 = ap (checked soundPath) (λ j. record { compress = sym e0 j; node = sym e1 j; endpoint = sym e2 j; cluster = sym e3 j; attribute = sym e4 j; index = sym e5 j })
+
+  pub cluster-gathered : (p : Cluster) → p .node ≡ wideIn s (getD xs 0 0) → p .endpoint ≡ numberIn 65535 false s (getD xs 1 0) → p .cluster ≡ numberIn 4294967295 false s (getD xs 2 0) → clusterFrom s xs ≡ checked soundCluster p
+  unfolding clusterFrom
+  cluster-gathered p e0 e1 e2 = ap (checked soundCluster) (λ j. record { node = sym e0 j; endpoint = sym e1 j; cluster = sym e2 j })
+
+  pub status-gathered : (p : Status) → p .code ≡ numberIn 255 false s (getD xs 0 0) → p .cluster ≡ numberIn 255 false s (getD xs 1 0) → statusFrom s xs ≡ checked soundStatus p
+  unfolding statusFrom
+  status-gathered p e0 e1 = ap (checked soundStatus) (λ j. record { code = sym e0 j; cluster = sym e1 j })
+
+-- ---- nested schemas, by what their members read as
+
+bind-none : {A B : Type 0} (o : Opt A) → _≡_ {A = Opt B} (bindO o (λ x. nothing)) nothing
+bind-none nothing = refl
+bind-none (just x) = refl
+
+module _ (d : ℕ) (s : List ℕ) (xs : List ℕ) where
+  pub filter-lacks : requiredIn (clusterAt d s) (getD xs 0 0) ≡ nothing → filterFrom d s xs ≡ nothing
+  unfolding filterFrom
+  filter-lacks e = simp e
+
+  pub filter-has : {p : Cluster} {v : ℕ} → requiredIn (clusterAt d s) (getD xs 0 0) ≡ just p → v ≡ numberIn 4294967295 false s (getD xs 1 0) → filterFrom d s xs ≡ filterOf p v
+  unfolding filterFrom
+  filter-has {p} e f = simp e (ap (filterOf p) (sym f))
+
+  pub answer-lacks-path : requiredIn (pathAt d s) (getD xs 0 0) ≡ nothing → answerFrom d s xs ≡ nothing
+  unfolding answerFrom
+  answer-lacks-path e = simp e
+
+  pub answer-lacks-status : requiredIn (statusAt d s) (getD xs 1 0) ≡ nothing → answerFrom d s xs ≡ nothing
+  unfolding answerFrom
+  answer-lacks-status e = simp e (bind-none (requiredIn (pathAt d s) (getD xs 0 0)))
+
+  pub answer-has : {p : Path} {x : Status} → requiredIn (pathAt d s) (getD xs 0 0) ≡ just p → requiredIn (statusAt d s) (getD xs 1 0) ≡ just x → answerFrom d s xs ≡ just (record { path = p; status = x })
+  unfolding answerFrom
+  answer-has e f = simp (e, f)
+
+  pub data-lacks-path : requiredIn (pathAt d s) (getD xs 1 0) ≡ nothing → dataFrom d s xs ≡ nothing
+  unfolding dataFrom
+  data-lacks-path e = simp e
+
+  pub data-lacks-data : getD xs 2 0 ≡ 0 → dataFrom d s xs ≡ nothing
+  unfolding dataFrom anyIn
+  data-lacks-data e = simp (eq-eqb _ _ e) (bind-none (requiredIn (pathAt d s) (getD xs 1 0)))
+
+  data-either : (v : ℕ) → v ≡ WRONG → (p : Opt Path) (x : Opt ℕ) → _≡_ {A = Opt (DataOf ℕ)} (bindO p (λ q. bindO x (λ y. pick (eqb v WRONG) nothing (just (record { version = v; path = q; element = y }))))) nothing
+  data-either v e nothing x = refl
+  data-either v e (just q) nothing = refl
+  data-either v e (just q) (just y) = rw (eq-eqb v WRONG e) refl
+
+  pub data-wrong : {v : ℕ} → v ≡ numberIn 4294967295 false s (getD xs 0 0) → v ≡ WRONG → dataFrom d s xs ≡ nothing
+  unfolding dataFrom
+  data-wrong e w = data-either (numberIn 4294967295 false s (getD xs 0 0)) (sym e ∙ w) (requiredIn (pathAt d s) (getD xs 1 0)) (anyIn (getD xs 2 0))
+
+  pub data-has : {p : Path} {v : ℕ} → requiredIn (pathAt d s) (getD xs 1 0) ≡ just p → (getD xs 2 0 ≡ 0 → ⊥) → v ≡ numberIn 4294967295 false s (getD xs 0 0) → (v ≡ WRONG → ⊥) → dataFrom d s xs ≡ just (record { version = v; path = p; element = getD xs 2 0 - 1 })
+  unfolding dataFrom anyIn
+  data-has e n f w = rw (e, ne-eqb (getD xs 2 0) 0 n, ← f, ne-eqb _ WRONG w) refl
+
+-- ---- reports
+
+module _ (d : ℕ) (s : List ℕ) (xs : List ℕ) where
+  maybe-none : {A : Type 0} (read : ℕ → Got A) (p : ℕ) → p ≡ 0 → maybeIn read p ≡ nothing
+  unfolding maybeIn
+  maybe-none read p e = simp (eq-eqb p 0 e)
+
+  maybe-some : {A : Type 0} (read : ℕ → Got A) (p : ℕ) → (p ≡ 0 → ⊥) → {o : Opt A} → requiredIn read p ≡ o → maybeIn read p ≡ just o
+  unfolding maybeIn
+  maybe-some read p n e = simp (ne-eqb p 0 n, e)
+
+  pub report-neither : getD xs 0 0 ≡ 0 → getD xs 1 0 ≡ 0 → reportFrom d s xs ≡ nothing
+  unfolding reportFrom
+  report-neither e f = rw (maybe-none (answerAt d s) (getD xs 0 0) e, maybe-none (dataAt d s) (getD xs 1 0) f) refl
+
+  pub report-data : getD xs 0 0 ≡ 0 → (getD xs 1 0 ≡ 0 → ⊥) → {o : Opt (DataOf ℕ)} → requiredIn (dataAt d s) (getD xs 1 0) ≡ o → reportFrom d s xs ≡ bindO o (λ x. just (shown x))
+  unfolding reportFrom
+  report-data e n f = rw (maybe-none (answerAt d s) (getD xs 0 0) e, maybe-some (dataAt d s) (getD xs 1 0) n f) refl
+
+  pub report-both : (getD xs 0 0 ≡ 0 → ⊥) → (getD xs 1 0 ≡ 0 → ⊥) → reportFrom d s xs ≡ nothing
+  unfolding reportFrom
+  report-both n m = rw (maybe-some (answerAt d s) (getD xs 0 0) n refl, maybe-some (dataAt d s) (getD xs 1 0) m refl) refl
+
+  pub report-status : (getD xs 0 0 ≡ 0 → ⊥) → getD xs 1 0 ≡ 0 → {o : Opt Answer} → requiredIn (answerAt d s) (getD xs 0 0) ≡ o → reportFrom d s xs ≡ bindO o (λ x. just (refused x))
+  unfolding reportFrom
+  report-status n e f = rw (maybe-some (answerAt d s) (getD xs 0 0) n f, maybe-none (dataAt d s) (getD xs 1 0) e) refl
+
+-- a filter's version is required
+pub filter-over : (p : Cluster) (v : ℕ) → ABSENT ≤ v → filterOf p v ≡ nothing
+filter-over p v l = rw (le-ltb v ABSENT l) refl
+
+pub filter-under : (p : Cluster) (v : ℕ) → v < ABSENT → filterOf p v ≡ just (record { path = p; version = v })
+filter-under p v l = rw (lt-ltb v ABSENT l) refl

@@ -1,0 +1,80 @@
+-- Cluster paths and data version filters (chapter 10, 10.5.7 and 10.5.3).
+use Prim.Native.Nat.{ℕ, _-_}
+use mathlib.Core.List.{List, [], _∷_}
+use mathlib.Core.Bool.{Bool, true, false}
+use lib.ListN.{getD}
+use lib.Dec.{ltb, eqb}
+use Rattle.tlv.specs.Octet.{pick, structure, list}
+use Rattle.tlv.specs.Tree.{Tree}
+use Rattle.tlv.specs.Walk.{Got, bindG}
+use Rattle.tlv.specs.Walk.Got.{got, bad}
+use Rattle.tlv.specs.Decode.{Opt, bindO, place}
+use Rattle.tlv.specs.Decode.Opt.{just, nothing}
+use Rattle.members.specs.Fields.{Slot, insideAt, insideT}
+use Rattle.members.specs.Fields.Slot.{absent}
+use Rattle.members.specs.Scalar.{ABSENT, WRONG, numberIn, wideIn, numberT, wideT}
+use Rattle.members.specs.Array.{requiredIn, requiredT}
+use Rattle.blocks.specs.declared.Cluster.{Cluster}
+use Rattle.blocks.specs.declared.ClusterRead.{ClusterRead}
+use Rattle.blocks.specs.declared.ClusterRead.the-variants as cluster
+use Rattle.blocks.specs.declared.Filter.{Filter}
+use Rattle.blocks.specs.declared.FilterRead.{FilterRead}
+use Rattle.blocks.specs.declared.FilterRead.the-variants as filter
+use Rattle.blocks.specs.Path.{checked}
+
+-- endpoint and cluster are required in a filter's path
+unfoldable pub soundCluster : Cluster → Bool
+soundCluster p = pick (eqb (p .node) WRONG) false (pick (ltb (p .endpoint) ABSENT) (ltb (p .cluster) ABSENT) false)
+
+abbrev pub clusterTags : List Bool
+clusterTags = true ∷ true ∷ true ∷ false ∷ false ∷ false ∷ false ∷ false ∷ false ∷ false ∷ []
+
+abbrev pub clusterWith : {A : Type 0} → (A → ℕ) → (ℕ → Bool → A → ℕ) → (ℕ → A) → Cluster
+clusterWith wide number at = record {
+  node = wide (at 0);
+  endpoint = number 65535 false (at 1);
+  cluster = number 4294967295 false (at 2);
+}
+
+unfoldable pub clusterFrom : List ℕ → List ℕ → Opt Cluster
+clusterFrom s seen = checked soundCluster (clusterWith (wideIn s) (λ m b p. numberIn m b s p) (λ i. getD seen i 0))
+
+unfoldable pub clusterAt : ℕ → List ℕ → ℕ → Got Cluster
+clusterAt d s at = bindG (insideAt list d s clusterTags at) (λ seen n. place (clusterFrom s seen) n)
+
+abbrev pub clusterRead : Got Cluster → ClusterRead
+clusterRead bad = cluster.BadCluster
+clusterRead (got p n) = cluster.Cluster p n
+
+unfoldable pub clusterOf : List Slot → Opt Cluster
+clusterOf xs = checked soundCluster (clusterWith wideT numberT (λ i. getD xs i absent))
+
+unfoldable pub clusterT : Tree → Opt Cluster
+clusterT t = bindO (insideT list clusterTags t) clusterOf
+
+-- a structure with tags 0 and 1
+abbrev pub pairTags : List Bool
+pairTags = true ∷ true ∷ false ∷ false ∷ false ∷ false ∷ false ∷ false ∷ false ∷ false ∷ []
+
+abbrev pub filterOf : Cluster → ℕ → Opt Filter
+filterOf p v = pick (ltb v ABSENT) (just (record { path = p; version = v })) nothing
+
+-- path and version are required
+abbrev pub filterWith : {A : Type 0} → (A → Opt Cluster) → (ℕ → Bool → A → ℕ) → (ℕ → A) → Opt Filter
+filterWith path number at = bindO (path (at 0)) (λ p. filterOf p (number 4294967295 false (at 1)))
+
+unfoldable pub filterFrom : ℕ → List ℕ → List ℕ → Opt Filter
+filterFrom d s seen = filterWith (requiredIn (clusterAt d s)) (λ m b p. numberIn m b s p) (λ i. getD seen i 0)
+
+unfoldable pub filterAt : ℕ → List ℕ → ℕ → Got Filter
+filterAt d s at = bindG (insideAt structure d s pairTags at) (λ seen n. place (filterFrom (d - 1) s seen) n)
+
+abbrev pub filterRead : Got Filter → FilterRead
+filterRead bad = filter.BadFilter
+filterRead (got p n) = filter.Filter p n
+
+unfoldable pub filterSlots : List Slot → Opt Filter
+filterSlots xs = filterWith (requiredT clusterT) numberT (λ i. getD xs i absent)
+
+unfoldable pub filterT : Tree → Opt Filter
+filterT t = bindO (insideT structure pairTags t) filterSlots

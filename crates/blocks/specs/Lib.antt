@@ -1,0 +1,4 @@
+pub mod Path
+pub mod Filter
+pub mod Status
+pub mod Data
