@@ -1,0 +1,67 @@
+-- A whole message (document 01, Spelling): one untagged structure of depth at most 10 that ends where the payload ends.
+use Prim.Native.Nat.{ℕ, zero, suc, _-_}
+use mathlib.Core.List.{List, [], _∷_, _++_}
+use mathlib.Core.Bool.{Bool, false}
+use lib.ListN.{length, set}
+use lib.Dec.{ltb, eqb}
+use Rattle.tlv.specs.Octet.{pick, structure, array}
+use Rattle.tlv.specs.Tree.{Tree, Trees, maxDepth}
+use Rattle.tlv.specs.Tree.Tree.{primitive, container}
+use Rattle.tlv.specs.Head.{headAt}
+use Rattle.tlv.specs.Walk.{Got, bindG, foldAt, headed}
+use Rattle.tlv.specs.Walk.Got.{got, bad}
+use Rattle.tlv.specs.Decode.{Opt, bindO, place, foldT}
+use Rattle.tlv.specs.Decode.Opt.{nothing}
+use Rattle.members.specs.Fields.{Slot, insideAt, fieldsT}
+use Rattle.members.specs.Scalar.{ABSENT}
+use Rattle.members.specs.Array.{optOf, eachStep, eachT}
+use Rattle.interaction.specs.declared.Opened.{Opened}
+use Rattle.interaction.specs.declared.Opened.the-variants.{Members, NotArray}
+
+unfoldable pub untagged : List ℕ → Bool
+untagged s = headed false (λ e. eqb (e .form) 0) (headAt s 0)
+
+-- IN BYTES: where the listed members of the message stand
+unfoldable pub messageAt : List Bool → List ℕ → Got (List ℕ)
+messageAt listed s =
+    pick (untagged s) (bindG (insideAt structure maxDepth s listed 0) (λ seen n. pick (eqb n (length s)) (got seen n) bad)) bad
+
+-- what is made of them
+abbrev pub wholeIn : {A : Type 0} → List Bool → (List ℕ → Opt A) → List ℕ → Opt A
+wholeIn listed F s = optOf (bindG (messageAt listed s) (λ seen n. place (F seen) n))
+
+-- IN TREES: of the members of the message's structure
+abbrev pub wholeT : {A : Type 0} → List Bool → (List Slot → Opt A) → Trees → Opt A
+wholeT listed G ts = bindO (fieldsT listed ts) G
+
+-- a number that must be there
+abbrev pub given : ℕ → Bool
+given n = ltb n ABSENT
+
+abbrev pub snoc : {A : Type 0} → List A → A → List A
+snoc l a = l ++ (a ∷ [])
+
+-- the meaning of an array whose members all have one meaning
+abbrev pub listT : {A : Type 0} → (Tree → Opt A) → Tree → Opt (List A)
+listT means (primitive t x) = nothing
+listT means (container t k ts) = pick (eqb k array) (foldT (eachT snoc means) [] ts) nothing
+
+-- the first n of a list, filled up to n
+unfoldable pub firstOf : {A : Type 0} → ℕ → A → List A → List A
+firstOf zero z l = []
+firstOf (suc n) z [] = z ∷ firstOf n z []
+firstOf (suc n) z (x ∷ l) = x ∷ firstOf n z l
+
+-- a list of n places with one more stored at its place, if that is one of them
+abbrev pub keepOf : {A : Type 0} → ℕ → List A → ℕ → A → List A
+keepOf n kept count a = pick (ltb count n) (set kept count a) kept
+
+-- IN BYTES: the array at a position, each member read by one reader
+unfoldable pub listAt : {A : Type 0} → (ℕ → List ℕ → ℕ → Got A) → ℕ → List ℕ → ℕ → Got (List A)
+listAt read zero s at = bad
+listAt read (suc d) s at =
+    headed bad (λ e. pick (eqb (e .kind) array) (foldAt (eachStep snoc (read d s)) (length s) s array [] (e .next .at)) bad) (headAt s at)
+
+-- where the members of the array at a place start
+unfoldable pub openedIn : List ℕ → ℕ → Opened
+openedIn s p = pick (eqb p 0) NotArray (headed NotArray (λ e. pick (eqb (e .kind) array) (Members (e .next)) NotArray) (headAt s (p - 1)))

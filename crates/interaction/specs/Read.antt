@@ -1,0 +1,141 @@
+-- The Read Request (chapter 10, 10.6.2; document 01, Spelling and On the wire).
+use Prim.Native.Nat.{ℕ}
+use mathlib.Core.List.{List, [], _∷_}
+use mathlib.Core.Bool.{Bool, true, false}
+use lib.ListN.{length, getD, replicate}
+use lib.Dec.{ltb, eqb}
+use Rattle.tlv.specs.Octet.{pick, array}
+use Rattle.tlv.specs.Tree.{Tree, Trees}
+use Rattle.tlv.specs.Walk.{Got, bindG, foldAt}
+use Rattle.tlv.specs.Walk.Got.{got, bad}
+use Rattle.tlv.specs.Decode.{Opt, bindO, place}
+use Rattle.tlv.specs.Decode.Opt.{just, nothing}
+use Rattle.members.specs.Fields.{Slot}
+use Rattle.members.specs.Fields.Slot.{absent}
+use Rattle.members.specs.Scalar.{ABSENT, numberIn, flagIn, numberT, flagT}
+use Rattle.members.specs.Array.{eachStep, optionalIn, optionalT}
+use Rattle.blocks.specs.declared.Path.{Path}
+use Rattle.blocks.specs.declared.Filter.{Filter}
+use Rattle.blocks.specs.Path.{pathAt, pathT, askableP}
+use Rattle.blocks.specs.Filter.{filterAt, filterT}
+use Rattle.interaction.specs.Message.{snoc, listT, listAt, firstOf, given, wholeIn, wholeT}
+use Rattle.interaction.specs.declared.Target.{Target}
+use Rattle.interaction.specs.declared.Paths.{Paths}
+use Rattle.interaction.specs.declared.Wanted.{Wanted}
+use Rattle.interaction.specs.declared.Wants.{Wants}
+use Rattle.interaction.specs.declared.ReadRequest.{ReadRequest}
+
+abbrev pub maxPaths : ℕ
+maxPaths = 16
+
+abbrev pub maxFilters : ℕ
+maxFilters = 32
+
+abbrev pub targetOf : Path → Target
+targetOf p = record { endpoint = p .endpoint; cluster = p .cluster; attribute = p .attribute }
+
+abbrev pub nowhere : Target
+nowhere = record { endpoint = 0; cluster = 0; attribute = 0 }
+
+-- a path that a read may have, as what it asks for
+unfoldable pub askedOf : Path → Opt Target
+askedOf p = pick (askableP p) (just (targetOf p)) nothing
+
+unfoldable pub askedAt : ℕ → List ℕ → ℕ → Got Target
+askedAt d s at = bindG (pathAt d s at) (λ p n. place (askedOf p) n)
+
+unfoldable pub askedT : Tree → Opt Target
+askedT t = bindO (pathT t) askedOf
+
+-- the paths of an array, from a member on
+unfoldable pub pathsFrom : ℕ → List ℕ → List Target → ℕ → Got (List Target)
+pathsFrom d s l at = foldAt (eachStep snoc (askedAt d s)) (length s) s array l at
+
+unfoldable pub pathsAt : ℕ → List ℕ → ℕ → Got (List Target)
+pathsAt d s at = pathsFrom d s [] at
+
+abbrev pub pathsStruct : List Target → Paths
+pathsStruct l = record { good = true; count = length l; kept = firstOf maxPaths nowhere l }
+
+abbrev pub pathsRead : Got (List Target) → Paths
+pathsRead bad = record { good = false; count = 0; kept = replicate maxPaths nowhere }
+pathsRead (got l n) = pathsStruct l
+
+abbrev pub pathsOpt : Opt (List Target) → Paths
+pathsOpt nothing = record { good = false; count = 0; kept = replicate maxPaths nowhere }
+pathsOpt (just l) = pathsStruct l
+
+-- a filter as what it vouches for; one with a node in its path is refused
+abbrev pub wantedOf : Filter → Wanted
+wantedOf f = record { endpoint = f .path .endpoint; cluster = f .path .cluster; version = f .version }
+
+abbrev pub unwanted : Wanted
+unwanted = record { endpoint = 0; cluster = 0; version = 0 }
+
+unfoldable pub localF : Filter → Bool
+localF f = eqb (f .path .node) ABSENT
+
+unfoldable pub wantedIf : Filter → Opt Wanted
+wantedIf f = pick (localF f) (just (wantedOf f)) nothing
+
+unfoldable pub wantedAt : ℕ → List ℕ → ℕ → Got Wanted
+wantedAt d s at = bindG (filterAt d s at) (λ f n. place (wantedIf f) n)
+
+unfoldable pub wantedT : Tree → Opt Wanted
+wantedT t = bindO (filterT t) wantedIf
+
+unfoldable pub wantsFrom : ℕ → List ℕ → List Wanted → ℕ → Got (List Wanted)
+wantsFrom d s l at = foldAt (eachStep snoc (wantedAt d s)) (length s) s array l at
+
+unfoldable pub wantsAt : ℕ → List ℕ → ℕ → Got (List Wanted)
+wantsAt d s at = wantsFrom d s [] at
+
+abbrev pub wantsStruct : List Wanted → Wants
+wantsStruct l = record { good = true; count = length l; kept = firstOf maxFilters unwanted l }
+
+abbrev pub wantsRead : Got (List Wanted) → Wants
+wantsRead bad = record { good = false; count = 0; kept = replicate maxFilters unwanted }
+wantsRead (got l n) = wantsStruct l
+
+abbrev pub wantsOpt : Opt (List Wanted) → Wants
+wantsOpt nothing = record { good = false; count = 0; kept = replicate maxFilters unwanted }
+wantsOpt (just l) = wantsStruct l
+
+-- THE MEANING of a read: all that it asks for, and all its filters
+pub record Read : Type 0 where
+  pub paths : List Target
+  pub filters : List Wanted
+
+abbrev pub readTags : List Bool
+readTags = true ∷ false ∷ false ∷ true ∷ true ∷ false ∷ false ∷ false ∷ false ∷ true ∷ []
+
+-- FabricFiltered and the revision are required, an absent list is empty
+abbrev pub readOf : ℕ → ℕ → Opt (List Target) → Opt (List Wanted) → Opt Read
+readOf filtered revision ps fs =
+    pick (given filtered) (pick (given revision) (bindO ps (λ p. bindO fs (λ f. just (record { paths = p; filters = f })))) nothing) nothing
+
+unfoldable pub readFrom : List ℕ → List ℕ → Opt Read
+readFrom s seen =
+    readOf (flagIn s (getD seen 3 0)) (numberIn 255 false s (getD seen 9 0)) (optionalIn [] (listAt askedAt 9 s) (getD seen 0 0)) (optionalIn [] (listAt wantedAt 9 s) (getD seen 4 0))
+
+unfoldable pub readIn : List ℕ → Opt Read
+readIn s = wholeIn readTags (readFrom s) s
+
+unfoldable pub readSlots : List Slot → Opt Read
+readSlots xs =
+    readOf (flagT (getD xs 3 absent)) (numberT 255 false (getD xs 9 absent)) (optionalT [] (listT askedT) (getD xs 0 absent)) (optionalT [] (listT wantedT) (getD xs 4 absent))
+
+unfoldable pub readT : Trees → Opt Read
+readT ts = wholeT readTags readSlots ts
+
+-- document 01, "On the wire": 80, then C8 over 16 paths, then 89 over 32 filters; 0 if none applies
+unfoldable pub readVerdict : ℕ → ℕ → ℕ
+readVerdict paths filters = pick (ltb maxPaths paths) 0xC8 (pick (ltb maxFilters filters) 0x89 0)
+
+abbrev pub readRead : Opt Read → ReadRequest
+readRead nothing = record { verdict = 0x80; paths = pathsOpt nothing; filters = wantsOpt nothing }
+readRead (just r) = record {
+  verdict = readVerdict (length (r .paths)) (length (r .filters));
+  paths = pathsStruct (r .paths);
+  filters = wantsStruct (r .filters);
+}

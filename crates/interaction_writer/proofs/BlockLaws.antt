@@ -1,0 +1,104 @@
+-- The blocks that we write: they are ours to write, and mean what was meant.
+use mathlib.Core.Path.{_≡_, refl}
+use Prim.Native.Nat.{ℕ, _^_, _<_}
+use native.Mathlib.Omega.{arith}
+use borrow.Author.Tests.{le-ltb, lt-ltb, ne-eqb}
+use Rattle.tlv.specs.Octet.{structure}
+use Rattle.tlv.specs.Tree.{Tag, depth, stands}
+use Rattle.tlv.specs.Tree.Tag.{context}
+use Rattle.tlv.specs.Tree.Tree.{container}
+use Rattle.tlv.specs.Tree.Trees.{more}
+use Rattle.tlv.specs.Value.{Datum}
+use Rattle.tlv.specs.Decode.{foldT}
+use Rattle.tlv.specs.Decode.Opt.{just}
+use Rattle.tlv_writer.specs.Meaning.{Writable}
+use Rattle.members.specs.Fields.{placeOf, putT, fieldM, fieldsT, insideT}
+use Rattle.members.specs.Scalar.{ABSENT, WRONG, numberT, flagT, wideT}
+use Rattle.members.specs.Array.{requiredT}
+use Rattle.blocks.specs.Path.{soundPath, pathOf, pathT}
+use Rattle.blocks.specs.Status.{soundStatus, statusOf, statusT, answerOf, answerT}
+use Rattle.blocks.specs.Data.{shown, refused, dataOf, dataT, reportOf, reportT}
+use Rattle.interaction_writer.specs.Spelling.{primitiveD, OurTag, Ours, OursAll}
+use Rattle.interaction_writer.specs.Block.{number, pathTree, dataMembers, dataBlockTree, statusTree, answerMembers, answerTree, statusBlockTree}
+use Rattle.interaction_writer.specs.Message.{Listed}
+use Rattle.interaction_writer.specs.Meaning.{exactPath, plainStatus, plainAnswer, exactData}
+
+-- statuses, whatever they are of
+module _ (code : ℕ) (fits : code < 2 ^ 8) where
+  ours-status : (tag : ℕ) → tag < 256 → Ours (statusTree tag code)
+  unfolding Ours OurTag Writable statusTree stands
+  ours-status tag h = (h, (omega arith, (omega arith, (refl, ((omega arith, omega arith), tt)))))
+
+  pub status-means : (tag : ℕ) → statusT (statusTree tag code) ≡ just (plainStatus code)
+  unfolding statusT statusOf soundStatus insideT fieldsT foldT fieldM putT placeOf numberT statusTree
+  status-means tag = rw (le-ltb 255 code (omega arith), lt-ltb code ABSENT (omega arith)) refl
+
+module _ (e c a : ℕ) (fe : e < 2 ^ 16) (fc : c < 2 ^ 32) (fa : a < 2 ^ 32) where
+  ours-path : (tag : ℕ) → tag < 256 → Ours (pathTree tag e c a)
+  unfolding Ours OurTag Writable pathTree stands
+  ours-path tag h =
+      (h, (omega arith, (omega arith, (refl, ((omega arith, omega arith), (refl, ((omega arith, omega arith), (refl, ((omega arith, omega arith), tt)))))))))
+
+  pub path-means : (tag : ℕ) → pathT (pathTree tag e c a) ≡ just (exactPath e c a)
+  unfolding pathT pathOf soundPath insideT fieldsT foldT fieldM putT placeOf numberT flagT wideT pathTree
+  path-means tag =
+      rw (le-ltb 65535 e (omega arith), le-ltb 4294967295 c (omega arith), le-ltb 4294967295 a (omega arith), ne-eqb e WRONG (λ q. omega arith), ne-eqb c WRONG (λ q. omega arith), ne-eqb a WRONG (λ q. omega arith))
+      refl
+
+  -- path and status
+  module _ (code : ℕ) (fits : code < 2 ^ 8) where
+    ours-answer : OursAll structure (answerMembers e c a code)
+    unfolding Ours answerMembers stands pathTree statusTree
+    ours-answer = (refl, (ours-path 0 (omega arith), (refl, (ours-status code fits 1 (omega arith), tt))))
+
+    pub answer-means : (tag : Tag) → answerT (container tag structure (answerMembers e c a code)) ≡ just (plainAnswer e c a code)
+    unfolding answerT answerOf insideT fieldsT foldT fieldM putT placeOf requiredT answerMembers pathTree statusTree
+    answer-means tag = rw (path-means 0, status-means code fits 1) refl
+
+    pub listed-write-status : Listed (answerTree e c a code)
+    unfolding Ours OurTag answerTree stands depth answerMembers pathTree statusTree
+    listed-write-status = record { ours = (tt, (omega arith, (omega arith, ours-answer))); untagged = refl; shallow = omega arith }
+
+    pub listed-status-block : Listed (statusBlockTree e c a code)
+    unfolding Ours OurTag statusBlockTree stands depth answerMembers pathTree statusTree
+    listed-status-block = record {
+      ours = (tt, (omega arith, (omega arith, (refl, ((omega arith, (omega arith, (omega arith, ours-answer))), tt)))));
+      untagged = refl;
+      shallow = omega arith;
+    }
+
+    pub status-block-means : reportT (statusBlockTree e c a code) ≡ just (refused (plainAnswer e c a code))
+    unfolding reportT reportOf insideT fieldsT foldT fieldM putT placeOf statusBlockTree
+    status-block-means = rw (answer-means (context 0)) refl
+
+  -- path and data
+  module _ (d : Datum) where
+    pub ours-data : Writable (primitiveD d) → OursAll structure (dataMembers e c a d)
+    unfolding Ours OurTag dataMembers stands pathTree
+    ours-data w = (refl, (ours-path 1 (omega arith), (refl, ((omega arith, w), tt))))
+
+    pub data-means : (tag : Tag) → dataT (container tag structure (dataMembers e c a d)) ≡ just (exactData ABSENT e c a d)
+    unfolding dataT dataOf insideT fieldsT foldT fieldM putT placeOf requiredT numberT dataMembers pathTree
+    data-means tag = rw (path-means 1) refl
+
+    module _ (version : ℕ) (fits : version < 2 ^ 32) where
+      pub ours-versioned : Writable (primitiveD d) → OursAll structure (more (number 0 version) (dataMembers e c a d))
+      unfolding Ours OurTag Writable stands
+      ours-versioned w = (refl, ((omega arith, omega arith), ours-data w))
+
+      pub versioned-means : (tag : Tag) → dataT (container tag structure (more (number 0 version) (dataMembers e c a d))) ≡ just (exactData version e c a d)
+      unfolding dataT dataOf insideT fieldsT foldT fieldM putT placeOf requiredT numberT dataMembers pathTree
+      versioned-means tag =
+          rw (path-means 1, le-ltb 4294967295 version (omega arith), ne-eqb version WRONG (λ q. omega arith)) refl
+
+      pub listed-data-block : Writable (primitiveD d) → Listed (dataBlockTree version e c a d)
+      unfolding Ours OurTag dataBlockTree stands depth dataMembers pathTree
+      listed-data-block w = record {
+        ours = (tt, (omega arith, (omega arith, (refl, ((omega arith, (omega arith, (omega arith, ours-versioned w))), tt)))));
+        untagged = refl;
+        shallow = omega arith;
+      }
+
+      pub data-block-means : reportT (dataBlockTree version e c a d) ≡ just (shown (exactData version e c a d))
+      unfolding reportT reportOf insideT fieldsT foldT fieldM putT placeOf dataBlockTree
+      data-block-means = rw (versioned-means (context 1)) refl
