@@ -1,0 +1,6 @@
+pub mod KindLaws
+pub mod FirstLaws
+pub mod RulesLaws
+pub mod PageLaws
+pub mod TextLaws
+pub mod Examples

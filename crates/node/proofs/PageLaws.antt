@@ -1,0 +1,53 @@
+-- Laws of the two pages: a stored text is shown, and every other shown text stays as it was.
+use mathlib.Core.Path.{_≡_, refl, ap, _∙_}
+use mathlib.Core.Bool.{Bool, true, false}
+use mathlib.Core.List.{List, [], _∷_}
+use Prim.Native.Nat.{ℕ, suc, _+_, _-_, _≤_}
+use native.Mathlib.Omega.{arith}
+use borrow.Author.Tests.{ltb-true, ltb-false}
+use lib.Dec.{ltb}
+use lib.ListN.{length, take, drop, set}
+use lib.Seq.{take-set-le, drop-set-lt, drop-set-add}
+use Rattle.octets.specs.Store.{store}
+use Rattle.octets.proofs.StoreLaws.{store-back}
+use Rattle.schema.specs.Layout.{textSize}
+use Rattle.schema.proofs.BoolLaws.{by-test}
+use Rattle.node.specs.Pages.{place, shownText}
+
+-- ---- a part of a page before or after what is stored
+
+part-after : (l : List ℕ) (at : ℕ) (bs : List ℕ) (p n : ℕ) → at + length bs ≤ p → take n (drop p (store l at bs)) ≡ take n (drop p l)
+unfolding store
+part-after l at [] p n h = refl
+part-after l at (b ∷ bs) p n h =
+    part-after (set l at b) (suc at) bs p n (omega arith) ∙ ap (take n) (drop-set-lt p l at b (omega arith))
+
+part-before : (l : List ℕ) (at : ℕ) (bs : List ℕ) (p n : ℕ) → p + n ≤ at → take n (drop p (store l at bs)) ≡ take n (drop p l)
+unfolding store
+part-before l at [] p n h = refl
+part-before l at (b ∷ bs) p n h =
+    let e : at ≡ p + (at - p) = omega arith in
+    part-before (set l at b) (suc at) bs p n (omega arith)
+    ∙ ap (λ (k : ℕ). take n (drop p (set l k b))) e
+    ∙ ap (take n) (drop-set-add p l (at - p) b)
+    ∙ take-set-le n (drop p l) (at - p) b (omega arith)
+
+module _ (defaults edits : List ℕ) (rank : ℕ) (text : List ℕ) where
+  pub stored-shown : place rank + length text ≤ length edits → (start : ℕ) → shownText defaults (store edits (place rank) text) start rank (length text) true ≡ text
+  unfolding shownText
+  stored-shown fits start = store-back edits (place rank) text fits
+
+  -- a factory text, also the stored one's own
+  pub factory-stays : (start other len : ℕ) → shownText defaults (store edits (place rank) text) start other len false ≡ shownText defaults edits start other len false
+  unfolding shownText
+  factory-stays start other len = refl
+
+  edited-stays : length text ≤ textSize → (start other len : ℕ) → (other ≡ rank → ⊥) → len ≤ textSize → shownText defaults (store edits (place rank) text) start other len true ≡ shownText defaults edits start other len true
+  unfolding shownText
+  edited-stays size start other len apart short =
+      by-test (ltb other rank) (λ t. part-before edits (place rank) text (place other) len (omega (arith, ltb-true other rank t)))
+      (λ t. part-after edits (place rank) text (place other) len (omega (arith, ltb-false other rank t, apart)))
+
+  pub others-stay : length text ≤ textSize → (start other len : ℕ) (edited : Bool) → (other ≡ rank → ⊥) → len ≤ textSize → shownText defaults (store edits (place rank) text) start other len edited ≡ shownText defaults edits start other len edited
+  others-stay size start other len true apart short = edited-stays size start other len apart short
+  others-stay size start other len false apart short = factory-stays start other len

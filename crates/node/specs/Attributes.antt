@@ -1,0 +1,59 @@
+-- The schema as a list of typed attributes, decoded from its words (document 01, A sign's plan).
+use mathlib.Core.Bool.{Bool}
+use mathlib.Core.List.{List, [], _∷_}
+use Prim.Native.Nat.{ℕ, _%_}
+use lib.Dec.{eqb}
+use lib.ListN.{getD}
+use mir.Syntax.{w64}
+use mir.Val.{toZ}
+use Rattle.tlv.specs.Octet.{pick}
+use Rattle.kinds.specs.declared.Kind.{Kind}
+use Rattle.kinds.specs.declared.Kind.the-variants.{Boolean, Unsigned, Signed, Float, Text}
+use Rattle.kinds.specs.Float.{rangeOf}
+use Rattle.schema.specs.Layout.{half}
+use Rattle.schema.specs.Rows.{AttributeRow, attributeRow, attributeCount, rowsFrom, isText}
+use Rattle.node.specs.declared.Attribute.{Attribute}
+
+-- one answer for each kind code: 0 boolean, 1 unsigned, 2 signed, 3 float, 4 text. A code that there is not counts as boolean; the check refuses it
+abbrev pub byCode : {A : Type 0} → A → A → A → A → A → ℕ → A
+byCode b u s f t code = getD (b ∷ u ∷ s ∷ f ∷ t ∷ []) code b
+
+abbrev pub floatCode : ℕ
+floatCode = 3
+
+-- "one of five kinds, each with its own limits": a signed limit is in two's complement, a float's is its 32 bits
+unfoldable pub kindOf : AttributeRow → Kind
+kindOf a =
+    byCode Boolean (Unsigned (a .low) (a .high)) (Signed (toZ w64 (a .low)) (toZ w64 (a .high)))
+    (Float (rangeOf (a .low % half) (a .high % half) (a .first % half))) Text (a .kind)
+
+-- what only a text has: where its factory text starts, and its length
+abbrev pub ofText : Bool → ℕ → ℕ
+ofText text x = pick text x 0
+
+-- the first value as it is stored: a text's is its length
+abbrev pub firstWord : AttributeRow → ℕ
+firstWord a = pick (isText a) (a .high) (a .first)
+
+unfoldable pub typed : AttributeRow → Attribute
+unfolding kindOf
+typed a =
+    record {
+      cluster = a .clusterIndex;
+      id = a .id;
+      kind = kindOf a;
+      nullable = eqb (a .nullable) 1;
+      read = a .read;
+      write = a .write;
+      first = firstWord a;
+      text = ofText (isText a) (a .low);
+      len = ofText (isText a) (a .high);
+    }
+
+-- attribute i of the schema
+abbrev pub attributeOf : List ℕ → ℕ → Attribute
+attributeOf w i = typed (attributeRow w i)
+
+-- the schema's attributes, in order
+abbrev pub attributesOf : List ℕ → List Attribute
+attributesOf w = rowsFrom (attributeOf w) (attributeCount w) 0

@@ -1,0 +1,58 @@
+-- The whole check of a schema, as the code makes it. What it means is the record SchemaRules; proofs/RulesLaws.antt shows that they agree.
+use mathlib.Core.Bool.{Bool, true, _&&_}
+use mathlib.Core.List.{List}
+use Prim.Native.Nat.{ℕ, _+_}
+use lib.Dec.{ltb, leb}
+use lib.ListN.{length, take, drop}
+use mir.Syntax.{w64}
+use mir.Val.{toZ}
+use Rattle.tlv.specs.Octet.{pick}
+use Rattle.utf8.specs.WellFormed.{wellFormed}
+use Rattle.kinds.specs.Float.{rangeOk}
+use Rattle.kinds.specs.Limits.{textMax, between, betweenZ}
+use Rattle.schema.specs.Layout.{half}
+use Rattle.schema.specs.Rows.{AttributeRow, attributeRow, attributeCount, isText}
+use Rattle.schema.specs.Check.{every}
+use Rattle.schema.specs.Check as Schema
+use Rattle.node.specs.Attributes.{byCode}
+
+-- three words of 32 bits, finite as floats and in order
+unfoldable pub floatRight : ℕ → ℕ → ℕ → Bool
+floatRight low high first = ltb low half && (ltb high half && (ltb first half && rangeOk low high first))
+
+-- the first value of a row that is no text, by its kind's code
+unfoldable pub numberRight : AttributeRow → Bool
+numberRight a =
+    byCode (leb (a .first) 1) (between (a .low) (a .first) (a .high))
+    (betweenZ (toZ w64 (a .low)) (toZ w64 (a .first)) (toZ w64 (a .high))) (floatRight (a .low) (a .high) (a .first)) true (a .kind)
+
+-- a factory text: its length, its place in the page, its bytes
+unfoldable pub factoryRight : List ℕ → ℕ → ℕ → Bool
+factoryRight page start len = leb len textMax && (leb (start + len) (length page) && wellFormed (take len (drop start page)))
+
+-- a text's row says where its factory text starts, and its length
+unfoldable pub textRight : List ℕ → AttributeRow → Bool
+unfolding factoryRight
+textRight page a = pick (isText a) (factoryRight page (a .low) (a .high)) true
+
+unfoldable pub numbersRight : List ℕ → Bool
+unfolding numberRight
+numbersRight w = every (λ i. numberRight (attributeRow w i)) (attributeCount w)
+
+unfoldable pub textsRight : List ℕ → List ℕ → Bool
+unfolding textRight
+textsRight w page = every (λ i. textRight page (attributeRow w i)) (attributeCount w)
+
+unfoldable pub accepted : List ℕ → List ℕ → Bool
+accepted w page = Schema.wellFormed w && (numbersRight w && textsRight w page)
+
+-- document 01, When either end says no: 0 done, 11 "plan breaks a rule above"
+abbrev pub done : ℕ
+done = 0
+
+abbrev pub schemaRefused : ℕ
+schemaRefused = 11
+
+unfoldable pub checked : List ℕ → List ℕ → ℕ
+unfolding accepted
+checked w page = pick (accepted w page) done schemaRefused

@@ -1,0 +1,4 @@
+pub mod Attributes
+pub mod Check
+pub mod Rules
+pub mod Pages

@@ -1,0 +1,133 @@
+// First values: whether the limits allow them. Numbers and texts are two loops, since a server judges the numbers at every call, and the bytes of a
+// factory text only where it is shown. A word that a kind does not use (a boolean's lowest and highest) is not looked at: document 01 has no rule for it.
+use super::FLOAT;
+use super::SIGNED;
+use super::UNSIGNED;
+use kinds::TEXT_MAX;
+use kinds::float::range_ok;
+use kinds::stored::signed_of;
+use schema::HALF;
+use schema::TEXT;
+use schema::WORDS;
+ghost use mathlib.Core.Path.{_≡_};
+ghost use Prim.Native.Nat.{_<_};
+ghost use mir.Syntax.{w64};
+ghost use mir.Val.{toZ};
+ghost use Rattle.kinds.specs.Limits.{between, betweenZ};
+ghost use Rattle.schema.specs.Layout.{attributeLimit};
+ghost use Rattle.schema.specs.Rows.{attributeRow};
+ghost use Rattle.node.specs.Check.{floatRight, numberRight, factoryRight, textRight, numbersRight, textsRight};
+
+fn unsigned_within(low: u64, n: u64, high: u64) -> bool
+    ensures { λ r. ⌜ r ≡ between low n high ⌝ }
+{
+    if low <= n { n <= high } else { false }
+}
+
+fn signed_within(low: i64, z: i64, high: i64) -> bool
+    ensures { λ r. ⌜ r ≡ betweenZ low z high ⌝ }
+{
+    if low <= z { z <= high } else { false }
+}
+
+// Signed numbers in two's complement, compared by value.
+fn signed_ok(low: u64, n: u64, high: u64) -> bool
+    ensures { λ r. ⌜ r ≡ betweenZ (toZ w64 low) (toZ w64 n) (toZ w64 high) ⌝ }
+{
+    signed_within(signed_of(low), signed_of(n), signed_of(high))
+}
+
+// A float's lowest, highest and first value: 32 bits each, finite and in order.
+fn float_ok(low: u64, high: u64, first: u64) -> bool
+    ensures { λ r. ⌜ r ≡ floatRight low high first ⌝ }
+{
+    if HALF <= low {
+        return false;
+    }
+    if HALF <= high {
+        return false;
+    }
+    if HALF <= first {
+        return false;
+    }
+    range_ok(low as u32, high as u32, first as u32)
+}
+
+// Whether the limits allow the first value of attribute i, if it is no text.
+pub fn first_ok(w: &[u64; WORDS], i: usize) -> bool
+    requires { ⌜ i < attributeLimit ⌝ }
+    ensures { λ r. ⌜ r ≡ numberRight (attributeRow (now (w .entry)) i) ⌝ }
+{
+    let code = schema::kind_code(w, i);
+    let low = schema::lowest(w, i);
+    let high = schema::highest(w, i);
+    let first = schema::first_value(w, i);
+    match code {
+        UNSIGNED => unsigned_within(low, first, high),
+        SIGNED => signed_ok(low, first, high),
+        FLOAT => float_ok(low, high, first),
+        TEXT => true,
+        _ => first <= 1,
+    }
+}
+
+// A factory text lies in the page of defaults, is at most TEXT_MAX bytes long and well-formed.
+pub fn factory_ok(defaults: &[u8], start: usize, len: usize) -> bool
+    ensures { λ r. ⌜ r ≡ factoryRight (now (defaults .entry)) start len ⌝ }
+{
+    if TEXT_MAX < len {
+        return false;
+    }
+    if defaults.len() < len {
+        return false;
+    }
+    if defaults.len() - len < start {
+        return false;
+    }
+    utf8::valid(&defaults[start..start + len])
+}
+
+// Whether attribute i, if it is a text, has a factory text that the limits allow.
+pub fn text_ok(w: &[u64; WORDS], i: usize, defaults: &[u8]) -> bool
+    requires { ⌜ i < attributeLimit ⌝ }
+    ensures { λ r. ⌜ r ≡ textRight (now (defaults .entry)) (attributeRow (now (w .entry)) i) ⌝ }
+{
+    if !schema::is_text(w, i) {
+        return true;
+    }
+    factory_ok(
+        defaults,
+        schema::lowest(w, i) as usize,
+        schema::highest(w, i) as usize,
+    )
+}
+
+// Every first value that is no text.
+pub fn numbers_ok(w: &[u64; WORDS]) -> bool
+    ensures { λ r. ⌜ r ≡ numbersRight (now (w .entry)) ⌝ }
+{
+    let n = schema::attribute_count(w);
+    let mut i = 0;
+    while i < n {
+        if !first_ok(w, i) {
+            return false;
+        }
+        i += 1;
+    }
+    true
+}
+
+// Every factory text.
+pub fn texts_ok(w: &[u64; WORDS], defaults: &[u8]) -> bool
+    ensures { λ r. ⌜ r ≡ textsRight (now (w .entry)) (now (defaults .entry)) ⌝ }
+{
+    let n = schema::attribute_count(w);
+    let mut i = 0;
+    while i < n {
+        if !text_ok(w, i, defaults) {
+            return false;
+        }
+        i += 1;
+    }
+    true
+}

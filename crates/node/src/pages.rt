@@ -1,0 +1,46 @@
+// The two pages of texts: a text is shown from the page of defaults (document 01: the factory page) until it is changed, then from the page of edits
+// (document 01: the edited page), where it has a place by its rank among the schema's texts.
+use octets::put_bytes;
+use schema::TEXT_SIZE;
+ghost use mathlib.Core.Path.{_≡_};
+ghost use Prim.Native.Nat.{_+_, _^_, _≤_, _<_};
+ghost use lib.ListN.{length};
+ghost use Rattle.octets.specs.Store.{store};
+ghost use Rattle.node.specs.Pages.{place, shownFrom, shownIn, shownText};
+
+// Where the text of this rank starts in the page of edits.
+pub fn place_of(rank: usize) -> usize
+    requires { ⌜ place rank < 2 ^ 64 ⌝ }
+    ensures { λ r. ⌜ r ≡ place rank ⌝ }
+{
+    TEXT_SIZE * rank
+}
+
+// The shown text: that very part of one page or the other.
+pub fn shown<'a>(
+    defaults: &'a [u8],
+    edits: &'a [u8],
+    start: usize,
+    rank: usize,
+    len: usize,
+    edited: bool,
+) -> &'a [u8]
+    requires { ⌜ shownFrom start rank edited + len ≤ length (shownIn (now defaults) (now edits) edited) ⌝ }
+    ensures { λ r. ⌜ now r ≡ shownText (now (defaults .entry)) (now (edits .entry)) start rank len edited ⌝ }
+{
+    if edited {
+        let at = place_of(rank);
+        &edits[at..at + len]
+    } else {
+        &defaults[start..start + len]
+    }
+}
+
+// Stores a text in its place: exactly its bytes, the rest of the page as it was.
+pub fn store_text(edits: &mut [u8], rank: usize, text: &[u8])
+    requires { ⌜ place rank + length (now text) ≤ length (now edits) ⌝ }
+    ensures { λ _. ⌜ now (edits .exit) ≡ store (now (edits .entry)) (place rank) (now (text .entry)) ⌝ }
+{
+    let at = place_of(rank);
+    put_bytes(edits, at, text);
+}
