@@ -2,7 +2,7 @@
 use mathlib.Core.Path.{_≡_, refl, sym, ap, _∙_}
 use mathlib.Core.Bool.{Bool, true, false}
 use mathlib.Core.List.{List, [], _∷_, _++_, map, append-nil}
-use Prim.Native.Nat.{ℕ, zero, suc, _-_}
+use Prim.Native.Nat.{ℕ, zero, suc, _-_, _≤_}
 use native.Mathlib.Omega.{arith}
 use borrow.Author.Tests.{eq-eqb, ne-eqb, eqb-true}
 use lib.ListN.{length, getD}
@@ -11,10 +11,10 @@ use Rattle.tlv.specs.declared.Element.{Element}
 use Rattle.tlv.specs.declared.Head.{Head}
 use Rattle.tlv.specs.declared.Head.the-variants.{Found, Malformed}
 use Rattle.tlv.specs.Octet.{pick, structure, endOfContainer}
-use Rattle.tlv.specs.Tree.{Tree, Trees, maxDepth, SpellsMessage}
+use Rattle.tlv.specs.Tree.{Tree, Trees, maxDepth, SpellsMessage, tagOfTree}
 use Rattle.tlv.specs.Tree.Tag.{anonymous}
 use Rattle.tlv.specs.Tree.Tree.{container}
-use Rattle.tlv.specs.Tree.Trees.{none}
+use Rattle.tlv.specs.Tree.Trees.{none, more}
 use Rattle.tlv.specs.Head.{headAt}
 use Rattle.tlv.specs.Walk.{Got, mapG, bindG, headed, membersEnd, endsAt, isMessage}
 use Rattle.tlv.specs.Walk.Got.{got, bad}
@@ -24,9 +24,10 @@ use Rattle.tlv.proofs.Completeness.{tree-back}
 use Rattle.tlv.proofs.WalkLaws.{end-within, message-is}
 use Rattle.tlv.proofs.TreeLaws.{passed, end-of-trees}
 use Rattle.tlv.proofs.MessageLaws.{message-accepted, accepted}
-use Rattle.members.specs.Fields.{Slot, slotIn, insideAt, insideT, insideBy, fieldsAt, fieldsT, orNone}
+use Rattle.members.specs.Fields.{Slot, slotT, slotIn, insideAt, insideT, insideBy, fieldsAt, fieldsT, orNone}
 use Rattle.members.specs.Fields.Slot.{absent}
-use Rattle.members.specs.Array.{optOf, requiredIn, requiredT, optionalIn, optionalT}
+use Rattle.members.specs.Array.{mapO, optOf, requiredIn, requiredT, optionalIn, optionalT}
+use Rattle.members.proofs.OrderLaws.{Reordered, any-order, unlisted}
 use Rattle.members.proofs.MeaningLaws.{inside-law, fields-law, at-place}
 use Rattle.members.proofs.ArrayLaws.{required-here, number-here, flag-here}
 use Rattle.interaction.specs.Message.{untagged, messageAt, wholeIn, wholeT, listT, listAt}
@@ -135,3 +136,25 @@ whole-none listed F s q = go (messageAt listed s) refl
     go : (g : Got (List ℕ)) → messageAt listed s ≡ g → optOf (bindG g (λ seen n. place (F seen) n)) ≡ nothing
     go bad e = refl
     go (got xs n) e = never (let z : true ≡ false = sym (message-there listed s e) ∙ q in sym (ap (λ (b : Bool). pick b 1 0) z))
+
+-- what is read of a message, seen through a map
+pub whole-mapped : {A B : Type 0} (listed : List Bool) (F : List ℕ → Opt A) (β : A → B) (s : List ℕ) → mapO β (wholeIn listed F s) ≡ wholeIn listed (λ xs. mapO β (F xs)) s
+whole-mapped listed F β s = go (messageAt listed s)
+  where
+    put : (o : Opt _) (n : ℕ) → mapO β (optOf (place o n)) ≡ optOf (place (mapO β o) n)
+    put nothing n = refl
+    put (just a) n = refl
+
+    go : (g : Got (List ℕ)) → mapO β (optOf (bindG g (λ seen n. place (F seen) n))) ≡ optOf (bindG g (λ seen n. place (mapO β (F seen)) n))
+    go bad = refl
+    go (got xs n) = put (F xs) n
+
+-- ---- the order of fields does not matter, and members that are not listed are as if absent
+
+pub read-any-order : {ts us : Trees} → Reordered ts us → readT ts ≡ readT us
+unfolding readT
+read-any-order r = ap (λ o. bindO o readSlots) (any-order readTags r)
+
+pub read-unlisted : (t : Tree) (ts : Trees) → 10 ≤ slotT readTags (tagOfTree t) → readT (more t ts) ≡ readT ts
+unfolding readT
+read-unlisted t ts l = ap (λ o. bindO o readSlots) (unlisted readTags t ts l)

@@ -179,13 +179,13 @@ pub fn paths_from(s: &[u8], c: Cursor, left: usize) -> Paths
 }
 
 // Where the members of an array start.
-enum Opened {
+pub enum Opened {
     Members(Cursor),
     NotArray,
 }
 
 // The array whose place is p, plus one.
-fn open_array(s: &[u8], p: usize) -> Opened
+pub fn open_array(s: &[u8], p: usize) -> Opened
     ensures { λ r. ⌜ r ≡ openedIn (now (s .entry)) p ⌝ }
 {
     if p == 0 {

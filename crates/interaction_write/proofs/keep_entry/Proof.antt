@@ -1,0 +1,24 @@
+use mathlib.Core.Path.{refl}
+use borrow.Author.Tests.{lt-ltb, le-ltb}
+use borrow.Author.Needs.{needs}
+use Rattle.interaction_write.proofs.keep_entry.Statement.{statement}
+use Rattle.interaction_write.proofs.keep_entry.Tie as tie
+
+entry-of-requires : tie.Need-entry-of-requires
+entry-of-requires c κs = search needs
+
+mul-next : tie.Need-mul-next
+mul-next c = search needs
+
+array-set-from-next : tie.Need-array-set-from-next
+array-set-from-next c = search needs
+
+returns : tie.Need-returns
+returns c = rw (lt-ltb _ _ (c .before .if1 .taken), ← (c .entry-of .ensures)) refl
+
+returns-2 : tie.Need-returns-2
+returns-2 c = rw (le-ltb _ _ (c .if1 .left)) refl
+
+pub keep-entry-spec : {M : Type 1} → statement M
+keep-entry-spec =
+    tie.close (tie.spec entry-of-requires mul-next array-set-from-next returns returns-2)

@@ -1,0 +1,137 @@
+-- The Write Request (chapter 10, 10.6.6; document 01, Spelling and On the wire). In bytes an entry's data is the place where it
+-- stands, in trees it is a tree.
+use Prim.Native.Nat.{ℕ}
+use mathlib.Core.List.{List, [], _∷_, map}
+use mathlib.Core.Bool.{Bool, true, false}
+use lib.ListN.{length, getD, replicate}
+use lib.Dec.{ltb, eqb}
+use Rattle.tlv.specs.Octet.{pick, array}
+use Rattle.tlv.specs.Tree.{Tree, Trees}
+use Rattle.tlv.specs.Walk.{Got, bindG, foldAt}
+use Rattle.tlv.specs.Walk.Got.{got, bad}
+use Rattle.tlv.specs.Decode.{Opt, bindO, place, treeAt}
+use Rattle.tlv.specs.Decode.Opt.{just, nothing}
+use Rattle.members.specs.Fields.{Slot, orNone}
+use Rattle.members.specs.Fields.Slot.{absent}
+use Rattle.members.specs.Scalar.{ABSENT, numberIn, flagIn, numberT, flagT}
+use Rattle.members.specs.Array.{eachStep, requiredIn, requiredT}
+use Rattle.blocks.specs.declared.Data.{Data}
+use Rattle.blocks.specs.Path.{exactP}
+use Rattle.blocks.specs.Data.{DataOf, dataAt, dataT}
+use Rattle.interaction.specs.Message.{snoc, listT, listAt, firstOf, given, wholeIn, wholeT}
+use Rattle.interaction_write.specs.declared.Entry.{Entry}
+use Rattle.interaction_write.specs.declared.Entries.{Entries}
+use Rattle.interaction_write.specs.declared.WriteRequest.{WriteRequest}
+
+abbrev pub maxWrites : ℕ
+maxWrites = 16
+
+-- an entry, over what data is
+pub record EntryOf (D : Type 0) : Type 0 where
+  pub version : ℕ
+  pub endpoint : ℕ
+  pub cluster : ℕ
+  pub attribute : ℕ
+  pub element : D
+
+abbrev pub entryFor : {D : Type 0} → DataOf D → EntryOf D
+entryFor x = record {
+  version = x .version;
+  endpoint = x .path .endpoint;
+  cluster = x .path .cluster;
+  attribute = x .path .attribute;
+  element = x .element;
+}
+
+-- a write path lacking a part, or of a form that document 01 refuses, gets 80
+abbrev pub entryIf : {D : Type 0} → DataOf D → Opt (EntryOf D)
+entryIf x = pick (exactP (x .path)) (just (entryFor x)) nothing
+
+unfoldable pub entryAt : ℕ → List ℕ → ℕ → Got (EntryOf ℕ)
+entryAt d s at = bindG (dataAt d s at) (λ x n. place (entryIf x) n)
+
+unfoldable pub entryT : Tree → Opt (EntryOf Tree)
+entryT t = bindO (dataT t) entryIf
+
+unfoldable pub entriesFrom : ℕ → List ℕ → List (EntryOf ℕ) → ℕ → Got (List (EntryOf ℕ))
+entriesFrom d s l at = foldAt (eachStep snoc (entryAt d s)) (length s) s array l at
+
+unfoldable pub entriesAt : ℕ → List ℕ → ℕ → Got (List (EntryOf ℕ))
+entriesAt d s at = entriesFrom d s [] at
+
+-- as the code has them
+abbrev pub entryStruct : EntryOf ℕ → Entry
+entryStruct x = record { version = x .version; endpoint = x .endpoint; cluster = x .cluster; attribute = x .attribute; place = x .element }
+
+abbrev pub entryOf : Data → Entry
+entryOf d = record { version = d .version; endpoint = d .path .endpoint; cluster = d .path .cluster; attribute = d .path .attribute; place = d .place }
+
+abbrev pub noEntry : Entry
+noEntry = record { version = 0; endpoint = 0; cluster = 0; attribute = 0; place = 0 }
+
+abbrev pub entriesStruct : List (EntryOf ℕ) → Entries
+entriesStruct l = record { good = true; count = length l; kept = firstOf maxWrites noEntry (map entryStruct l) }
+
+abbrev pub entriesRead : Got (List (EntryOf ℕ)) → Entries
+entriesRead bad = record { good = false; count = 0; kept = replicate maxWrites noEntry }
+entriesRead (got l n) = entriesStruct l
+
+abbrev pub entriesOpt : Opt (List (EntryOf ℕ)) → Entries
+entriesOpt nothing = record { good = false; count = 0; kept = replicate maxWrites noEntry }
+entriesOpt (just l) = entriesStruct l
+
+-- THE MEANING of a write
+pub record WriteOf (D : Type 0) : Type 0 where
+  pub suppress : ℕ
+  pub timed : ℕ
+  pub entries : List (EntryOf D)
+
+abbrev pub writeTags : List Bool
+writeTags = true ∷ true ∷ true ∷ true ∷ false ∷ false ∷ false ∷ false ∷ false ∷ true ∷ []
+
+unfoldable pub unchunked : ℕ → Bool
+unchunked more = pick (eqb more 0) true (eqb more ABSENT)
+
+abbrev pub isEmpty : {A : Type 0} → List A → Bool
+isEmpty [] = true
+isEmpty (x ∷ l) = false
+
+-- SuppressResponse, TimedRequest, WriteRequests and the revision are required; a chunked or empty write gets 80
+abbrev pub writeOf : {D : Type 0} → ℕ → ℕ → ℕ → ℕ → Opt (List (EntryOf D)) → Opt (WriteOf D)
+writeOf suppress timed more revision es =
+    pick (given suppress)
+    (pick (given timed)
+    (pick (unchunked more)
+    (pick (given revision) (bindO es (λ l. pick (isEmpty l) nothing (just (record { suppress = suppress; timed = timed; entries = l })))) nothing)
+    nothing)
+    nothing)
+    nothing
+
+unfoldable pub writeFrom : List ℕ → List ℕ → Opt (WriteOf ℕ)
+writeFrom s seen =
+    writeOf (flagIn s (getD seen 0 0)) (flagIn s (getD seen 1 0)) (flagIn s (getD seen 3 0)) (numberIn 255 false s (getD seen 9 0)) (requiredIn (listAt entryAt 9 s) (getD seen 2 0))
+
+unfoldable pub writeIn : List ℕ → Opt (WriteOf ℕ)
+writeIn s = wholeIn writeTags (writeFrom s) s
+
+unfoldable pub writeSlots : List Slot → Opt (WriteOf Tree)
+writeSlots xs =
+    writeOf (flagT (getD xs 0 absent)) (flagT (getD xs 1 absent)) (flagT (getD xs 3 absent)) (numberT 255 false (getD xs 9 absent)) (requiredT (listT entryT) (getD xs 2 absent))
+
+unfoldable pub writeT : Trees → Opt (WriteOf Tree)
+writeT ts = wholeT writeTags writeSlots ts
+
+-- document 01, "On the wire": 80, then C9 TimedRequest true, then 89 over 16 writes; 0 if none applies
+unfoldable pub writeVerdict : ℕ → ℕ → ℕ
+writeVerdict timed entries = pick (eqb timed 1) 0xC9 (pick (ltb maxWrites entries) 0x89 0)
+
+abbrev pub writeRead : Opt (WriteOf ℕ) → WriteRequest
+writeRead nothing = record { verdict = 0x80; suppress = 0; entries = entriesOpt nothing }
+writeRead (just w) = record { verdict = writeVerdict (w .timed) (length (w .entries)); suppress = w .suppress; entries = entriesStruct (w .entries) }
+
+-- the tree that stands at a place, for each entry
+abbrev pub entryTree : ℕ → List ℕ → EntryOf ℕ → EntryOf Tree
+entryTree d s x = record { version = x .version; endpoint = x .endpoint; cluster = x .cluster; attribute = x .attribute; element = orNone (treeAt d s (x .element)) }
+
+abbrev pub writeTree : ℕ → List ℕ → WriteOf ℕ → WriteOf Tree
+writeTree d s w = record { suppress = w .suppress; timed = w .timed; entries = map (entryTree d s) (w .entries) }

@@ -1,0 +1,220 @@
+// Write Requests, read to their meaning (chapter 10, section 10.6.6; document 01, Spelling and On the wire).
+ghost use mathlib.Core.Path.{_≡_};
+ghost use Rattle.tlv.specs.Walk.Got.{bad};
+ghost use Rattle.tlv.specs.Decode.Opt.{nothing};
+ghost use Rattle.members.specs.Array.{requiredIn};
+ghost use Rattle.blocks.specs.Data.{DataOf};
+ghost use Rattle.interaction.specs.Message.{keepOf, listAt};
+ghost use Rattle.interaction_write.specs.Write.{entryOf, entryAt, entriesAt, entriesRead, entriesOpt, unchunked, writeVerdict, writeIn, writeRead};
+use blocks::Data;
+use blocks::DataRead;
+use interaction::Opened;
+use members::ABSENT;
+use tlv::Cursor;
+use tlv::Head;
+
+// How many entries of a write are kept.
+pub const MAX_WRITES: usize = 16;
+
+// An entry of a write: the version it was given for or ABSENT, the attribute it names, and where its data stands.
+pub struct Entry {
+    pub version: u64,
+    pub endpoint: u64,
+    pub cluster: u64,
+    pub attribute: u64,
+    pub place: usize,
+}
+
+// The entries of a write: how many, and the first of them.
+pub struct Entries {
+    pub good: bool,
+    pub count: usize,
+    pub kept: [Entry; 16],
+}
+
+const NO_ENTRY: Entry = Entry {
+    version: 0,
+    endpoint: 0,
+    cluster: 0,
+    attribute: 0,
+    place: 0,
+};
+
+fn no_entries() -> Entries
+    ensures { λ r. ⌜ r ≡ entriesRead bad ⌝ }
+{
+    Entries {
+        good: false,
+        count: 0,
+        kept: [NO_ENTRY; 16],
+    }
+}
+
+fn entry_of(d: Data) -> Entry
+    ensures { λ r. ⌜ r ≡ entryOf d ⌝ }
+{
+    let path = d.path;
+    Entry {
+        version: d.version,
+        endpoint: path.endpoint,
+        cluster: path.cluster,
+        attribute: path.attribute,
+        place: d.place,
+    }
+}
+
+// The kept entries with one more, if there is room.
+fn keep_entry(kept: [Entry; 16], count: usize, d: Data) -> [Entry; 16]
+    ensures { λ r. ⌜ r ≡ keepOf 16 kept count (entryOf d) ⌝ }
+{
+    let mut next = kept;
+    if count < MAX_WRITES {
+        next[count] = entry_of(d);
+    }
+    next
+}
+
+// The entries of an array from one of its members on: all are checked and counted, the first are kept.
+pub fn entries_from(s: &[u8], c: Cursor, left: usize) -> Entries
+    ensures { λ r. ⌜ r ≡ entriesRead (entriesAt left (now (s .entry)) (c .at)) ⌝ }
+{
+    let mut count: usize = 0;
+    let mut kept = [NO_ENTRY; 16];
+    let mut at = c.at;
+    loop {
+        let here = Cursor { at };
+        let Head::Found(e) = here.head(s) else {
+            return no_entries();
+        };
+        if e.kind == tlv::END {
+            return Entries {
+                good: true,
+                count,
+                kept,
+            };
+        }
+        if !tlv::allowed(tlv::ARRAY, e.form) {
+            return no_entries();
+        }
+        let DataRead::Data(p, next) = blocks::data_at(s, here, left) else {
+            return no_entries();
+        };
+        let path = p.path;
+        if !blocks::exact(path) {
+            return no_entries();
+        }
+        let more = keep_entry(kept, count, p);
+        kept = more;
+        count += 1;
+        at = next;
+    }
+}
+
+// The entries of the array at a place, where there must be one.
+fn required_entries(s: &[u8], p: usize, left: usize) -> Entries
+    ensures { λ r. ⌜ r ≡ entriesOpt (requiredIn (listAt entryAt left (now (s .entry))) p) ⌝ }
+{
+    if p == 0 {
+        return no_entries();
+    }
+    if left == 0 {
+        return no_entries();
+    }
+    let Opened::Members(c) = interaction::open_array(s, p) else {
+        return no_entries();
+    };
+    entries_from(s, c, left - 1)
+}
+
+// A write that is no part of a longer one: MoreChunkedMessages false or absent.
+fn is_unchunked(more: u64) -> bool
+    ensures { λ r. ⌜ r ≡ unchunked more ⌝ }
+{
+    if more == 0 {
+        return true;
+    }
+    more == ABSENT
+}
+
+// A write request: 0, or the status that refuses it whole; whether its answer is suppressed, and its entries.
+pub struct WriteRequest {
+    pub verdict: u64,
+    pub suppress: u64,
+    pub entries: Entries,
+}
+
+const WRITE: [bool; 10] = [
+    true,
+    true,
+    true,
+    true,
+    false,
+    false,
+    false,
+    false,
+    false,
+    true,
+];
+
+fn refused_write() -> WriteRequest
+    ensures { λ r. ⌜ r ≡ writeRead nothing ⌝ }
+{
+    WriteRequest {
+        verdict: 0x80,
+        suppress: 0,
+        entries: no_entries(),
+    }
+}
+
+// C9 where a timed write is meant, then 89 over 16 entries.
+fn write_verdict(timed: u64, entries: usize) -> u64
+    ensures { λ r. ⌜ r ≡ writeVerdict timed entries ⌝ }
+{
+    if timed == 1 {
+        return 0xC9;
+    }
+    if MAX_WRITES < entries {
+        return 0x89;
+    }
+    0
+}
+
+// WriteRequestMessage: SuppressResponse (tag 0), TimedRequest (1), the entries (2), MoreChunkedMessages (3) and the revision.
+pub fn write_request(s: &[u8]) -> WriteRequest
+    ensures { λ r. ⌜ r ≡ writeRead (writeIn (now (s .entry))) ⌝ }
+{
+    let listed = WRITE;
+    let m = interaction::message(s, &listed);
+    if !m.good {
+        return refused_write();
+    }
+    let a = m.at;
+    let suppress = members::flag_at(s, a[0]);
+    let timed = members::flag_at(s, a[1]);
+    let more = members::flag_at(s, a[3]);
+    let revision = members::number_at(s, a[9], 255, false);
+    if ABSENT <= suppress {
+        return refused_write();
+    }
+    if ABSENT <= timed {
+        return refused_write();
+    }
+    if !is_unchunked(more) {
+        return refused_write();
+    }
+    if ABSENT <= revision {
+        return refused_write();
+    }
+    let entries = required_entries(s, a[2], tlv::MAX_DEPTH - 1);
+    if !entries.good {
+        return refused_write();
+    }
+    if entries.count == 0 {
+        return refused_write();
+    }
+    WriteRequest {
+        verdict: write_verdict(timed, entries.count),
+        suppress,
+        entries,
+    }
+}
