@@ -1,0 +1,88 @@
+-- Report Data (chapter 10, 10.6.3; document 01, Spelling).
+use Prim.Native.Nat.{ℕ}
+use mathlib.Core.List.{List, [], _∷_}
+use mathlib.Core.Bool.{Bool, true, false}
+use lib.ListN.{length, getD}
+use lib.Dec.{eqb}
+use Rattle.tlv.specs.Octet.{pick, array}
+use Rattle.tlv.specs.Tree.{Tree, Trees}
+use Rattle.tlv.specs.Walk.{Got, foldAt}
+use Rattle.tlv.specs.Walk.Got.{got, bad}
+use Rattle.tlv.specs.Decode.{Opt, bindO}
+use Rattle.tlv.specs.Decode.Opt.{just, nothing}
+use Rattle.members.specs.Fields.{Slot}
+use Rattle.members.specs.Fields.Slot.{absent}
+use Rattle.members.specs.Scalar.{WRONG, numberIn, flagIn, numberT, flagT}
+use Rattle.members.specs.Array.{eachStep, optionalIn, optionalT}
+use Rattle.blocks.specs.Data.{ReportOf, reportAt, reportT}
+use Rattle.interaction.specs.Message.{snoc, listT, listAt, openedIn, given, wholeIn, wholeT}
+use Rattle.interaction.specs.declared.Opened.{Opened}
+use Rattle.interaction.specs.declared.Opened.the-variants.{Members, NotArray}
+use Rattle.interaction_report.specs.declared.Count.{Count}
+use Rattle.interaction_report.specs.declared.Part.{Part}
+
+unfoldable pub blocksFrom : ℕ → List ℕ → List (ReportOf ℕ) → ℕ → Got (List (ReportOf ℕ))
+blocksFrom d s l at = foldAt (eachStep snoc (reportAt d s)) (length s) s array l at
+
+unfoldable pub blocksAt : ℕ → List ℕ → ℕ → Got (List (ReportOf ℕ))
+blocksAt d s at = blocksFrom d s [] at
+
+abbrev pub countRead : Got (List (ReportOf ℕ)) → Count
+countRead bad = record { good = false; blocks = 0 }
+countRead (got l n) = record { good = true; blocks = length l }
+
+abbrev pub countOpt : Opt (List (ReportOf ℕ)) → Count
+countOpt nothing = record { good = false; blocks = 0 }
+countOpt (just l) = record { good = true; blocks = length l }
+
+abbrev pub firstOpened : Opened → ℕ
+firstOpened NotArray = 0
+firstOpened (Members c) = c .at
+
+unfoldable pub firstIn : List ℕ → ℕ → ℕ
+firstIn s p = firstOpened (openedIn s p)
+
+-- THE MEANING of a part: its blocks, over what data is, and MoreChunkedMessages (0, 1 or absent)
+pub record PartOf (D : Type 0) : Type 0 where
+  pub more : ℕ
+  pub blocks : List (ReportOf D)
+
+abbrev pub partTags : List Bool
+partTags = true ∷ true ∷ false ∷ true ∷ true ∷ false ∷ false ∷ false ∷ false ∷ true ∷ []
+
+-- the revision is required; an absent array is empty; the other listed fields may be absent, and are of the right type if not
+abbrev pub partOf : {D : Type 0} → ℕ → ℕ → ℕ → ℕ → Opt (List (ReportOf D)) → Opt (PartOf D)
+partOf subscription more suppress revision bs =
+    pick (eqb subscription WRONG) nothing
+    (pick (eqb more WRONG) nothing
+    (pick (eqb suppress WRONG) nothing
+    (pick (given revision) (bindO bs (λ l. just (record { more = more; blocks = l }))) nothing)))
+
+-- IN BYTES, with where the first block stands
+pub record PartAt : Type 0 where
+  pub part : PartOf ℕ
+  pub first : ℕ
+
+abbrev pub placed : ℕ → Opt (PartOf ℕ) → Opt PartAt
+placed n nothing = nothing
+placed n (just p) = just (record { part = p; first = n })
+
+unfoldable pub partFrom : List ℕ → List ℕ → Opt PartAt
+partFrom s seen =
+    placed (firstIn s (getD seen 1 0))
+    (partOf (numberIn 4294967295 false s (getD seen 0 0)) (flagIn s (getD seen 3 0)) (flagIn s (getD seen 4 0)) (numberIn 255 false s (getD seen 9 0)) (optionalIn [] (listAt reportAt 9 s) (getD seen 1 0)))
+
+unfoldable pub partIn : List ℕ → Opt PartAt
+partIn s = wholeIn partTags (partFrom s) s
+
+abbrev pub partRead : Opt PartAt → Part
+partRead nothing = record { good = false; more = 0; blocks = 0; first = 0 }
+partRead (just p) = record { good = true; more = p .part .more; blocks = length (p .part .blocks); first = p .first }
+
+-- IN TREES
+unfoldable pub partSlots : List Slot → Opt (PartOf Tree)
+partSlots xs =
+    partOf (numberT 4294967295 false (getD xs 0 absent)) (flagT (getD xs 3 absent)) (flagT (getD xs 4 absent)) (numberT 255 false (getD xs 9 absent)) (optionalT [] (listT reportT) (getD xs 1 absent))
+
+unfoldable pub partT : Trees → Opt (PartOf Tree)
+partT ts = wholeT partTags partSlots ts
