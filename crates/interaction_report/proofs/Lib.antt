@@ -1,2 +1,3 @@
 pub mod BlocksLaws
 pub mod PartLaws
+pub mod MeaningLaws

@@ -1,6 +1,6 @@
 -- Report Data (chapter 10, 10.6.3; document 01, Spelling).
 use Prim.Native.Nat.{ℕ}
-use mathlib.Core.List.{List, [], _∷_}
+use mathlib.Core.List.{List, [], _∷_, map}
 use mathlib.Core.Bool.{Bool, true, false}
 use lib.ListN.{length, getD}
 use lib.Dec.{eqb}
@@ -14,7 +14,7 @@ use Rattle.members.specs.Fields.{Slot}
 use Rattle.members.specs.Fields.Slot.{absent}
 use Rattle.members.specs.Scalar.{WRONG, numberIn, flagIn, numberT, flagT}
 use Rattle.members.specs.Array.{eachStep, optionalIn, optionalT}
-use Rattle.blocks.specs.Data.{ReportOf, reportAt, reportT}
+use Rattle.blocks.specs.Data.{ReportOf, reportAt, reportT, reportTree}
 use Rattle.interaction.specs.Message.{snoc, listT, listAt, openedIn, given, wholeIn, wholeT}
 use Rattle.interaction.specs.declared.Opened.{Opened}
 use Rattle.interaction.specs.declared.Opened.the-variants.{Members, NotArray}
@@ -86,3 +86,7 @@ partSlots xs =
 
 unfoldable pub partT : Trees → Opt (PartOf Tree)
 partT ts = wholeT partTags partSlots ts
+
+-- a part read from bytes, each place replaced by the tree that stands there
+abbrev pub partTree : ℕ → List ℕ → PartAt → PartOf Tree
+partTree d s p = record { more = p .part .more; blocks = map (reportTree d s) (p .part .blocks) }
