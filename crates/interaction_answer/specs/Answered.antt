@@ -1,0 +1,57 @@
+-- The Write Response (chapter 10, 10.6.7; document 01, Spelling): exactly one status.
+use Prim.Native.Nat.{ℕ}
+use mathlib.Core.List.{List, [], _∷_}
+use mathlib.Core.Bool.{Bool, true, false}
+use lib.ListN.{length, getD}
+use Rattle.tlv.specs.Octet.{pick, array}
+use Rattle.tlv.specs.Tree.{Trees}
+use Rattle.tlv.specs.Walk.{Got, foldAt}
+use Rattle.tlv.specs.Decode.{Opt, bindO}
+use Rattle.tlv.specs.Decode.Opt.{just, nothing}
+use Rattle.members.specs.Fields.{Slot}
+use Rattle.members.specs.Fields.Slot.{absent}
+use Rattle.members.specs.Scalar.{numberIn, numberT}
+use Rattle.members.specs.Array.{eachStep, requiredIn, requiredT}
+use Rattle.blocks.specs.declared.Answer.{Answer}
+use Rattle.blocks.specs.Status.{answerAt, answerT}
+use Rattle.interaction.specs.Message.{snoc, listT, listAt, given, wholeIn, wholeT}
+use Rattle.interaction_answer.specs.declared.Answered.{Answered}
+use Rattle.interaction_answer.specs.declared.Answered.the-variants.{One, NotOne}
+
+-- the statuses of an array from one of its members on, after some that were seen
+unfoldable pub answersFrom : ℕ → List ℕ → List Answer → ℕ → Got (List Answer)
+answersFrom d s l at = foldAt (eachStep snoc (answerAt d s)) (length s) s array l at
+
+unfoldable pub answersAt : ℕ → List ℕ → ℕ → Got (List Answer)
+answersAt d s at = answersFrom d s [] at
+
+-- exactly one
+abbrev pub only : List Answer → Opt Answer
+only [] = nothing
+only (x ∷ []) = just x
+only (x ∷ y ∷ l) = nothing
+
+abbrev pub oneRead : Opt Answer → Answered
+oneRead nothing = NotOne
+oneRead (just x) = One x
+
+abbrev pub answeredTags : List Bool
+answeredTags = true ∷ false ∷ false ∷ false ∷ false ∷ false ∷ false ∷ false ∷ false ∷ true ∷ []
+
+-- the list and the revision are required
+abbrev pub answeredOf : ℕ → Opt (List Answer) → Opt Answer
+answeredOf revision xs = pick (given revision) (bindO xs only) nothing
+
+-- IN BYTES
+unfoldable pub answeredFrom : List ℕ → List ℕ → Opt Answer
+answeredFrom s seen = answeredOf (numberIn 255 false s (getD seen 9 0)) (requiredIn (listAt answerAt 9 s) (getD seen 0 0))
+
+unfoldable pub answeredIn : List ℕ → Opt Answer
+answeredIn s = wholeIn answeredTags (answeredFrom s) s
+
+-- IN TREES
+unfoldable pub answeredSlots : List Slot → Opt Answer
+answeredSlots xs = answeredOf (numberT 255 false (getD xs 9 absent)) (requiredT (listT answerT) (getD xs 0 absent))
+
+unfoldable pub answeredT : Trees → Opt Answer
+answeredT ts = wholeT answeredTags answeredSlots ts
