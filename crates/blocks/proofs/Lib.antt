@@ -1,3 +1,4 @@
 pub mod BlockLaws
 pub mod DataLaws
 pub mod CodeLaws
+pub mod OrderLaws

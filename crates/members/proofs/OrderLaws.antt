@@ -9,11 +9,12 @@ use lib.ListN.{length, getD, set, replicate, length-set}
 use lib.Seq.{getD-set-same, getD-set-other, set-comm}
 use lib.Dec.{ltb, eqb}
 use Rattle.tlv.specs.Octet.{pick}
-use Rattle.tlv.specs.Tree.{Tree, Trees, tagOfTree}
+use Rattle.tlv.specs.Tree.{Tag, Tree, Trees, tagOfTree}
+use Rattle.tlv.specs.Tree.Tree.{container}
 use Rattle.tlv.specs.Tree.Trees.{more}
 use Rattle.tlv.specs.Decode.{Opt, bindO, foldT}
 use Rattle.tlv.specs.Decode.Opt.{just, nothing}
-use Rattle.members.specs.Fields.{Slot, free, putT, slotT, fieldM, fieldsT}
+use Rattle.members.specs.Fields.{Slot, free, putT, slotT, fieldM, fieldsT, insideT}
 use Rattle.members.specs.Fields.Slot.{absent, present}
 
 -- the same members in another order
@@ -127,3 +128,13 @@ module _ (listed : List Bool) where
   pub unlisted : (t : Tree) (ts : Trees) → 10 ≤ slotT listed (tagOfTree t) → fieldsT listed (more t ts) ≡ fieldsT listed ts
   unfolding fieldsT foldT fieldM
   unlisted t ts l = simp (put-kept (replicate 10 absent) (slotT listed (tagOfTree t)) t l)
+
+  -- THE LAWS for what any schema makes of a container of a type
+  module _ {A : Type 0} (G : List Slot → Opt A) (kind : ℕ) (tag : Tag) (k : ℕ) where
+    pub inside-any-order : {ts us : Trees} → Reordered ts us → bindO (insideT kind listed (container tag k ts)) G ≡ bindO (insideT kind listed (container tag k us)) G
+    unfolding insideT
+    inside-any-order r = ap (λ o. bindO (pick (eqb k kind) o nothing) G) (any-order r)
+
+    pub inside-unlisted : (t : Tree) (ts : Trees) → 10 ≤ slotT listed (tagOfTree t) → bindO (insideT kind listed (container tag k (more t ts))) G ≡ bindO (insideT kind listed (container tag k ts)) G
+    unfolding insideT
+    inside-unlisted t ts l = ap (λ o. bindO (pick (eqb k kind) o nothing) G) (unlisted t ts l)
