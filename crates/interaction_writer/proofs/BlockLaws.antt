@@ -19,9 +19,9 @@ use Rattle.blocks.specs.Path.{soundPath, pathOf, pathT}
 use Rattle.blocks.specs.Status.{soundStatus, statusOf, statusT, answerOf, answerT}
 use Rattle.blocks.specs.Data.{shown, refused, dataOf, dataT, reportOf, reportT}
 use Rattle.interaction_writer.specs.Spelling.{primitiveD, OurTag, Ours, OursAll}
-use Rattle.interaction_writer.specs.Block.{number, pathTree, dataMembers, dataBlockTree, statusTree, answerMembers, answerTree, statusBlockTree}
+use Rattle.interaction_writer.specs.Block.{number, pathTree, dataMembers, dataBlockTree, statusTree, answerMembers, answerTree, statusBlockTree, Block, value, status, blockTree}
 use Rattle.interaction_writer.specs.Message.{Listed}
-use Rattle.interaction_writer.specs.Meaning.{exactPath, plainStatus, plainAnswer, exactData}
+use Rattle.interaction_writer.specs.Meaning.{exactPath, plainStatus, plainAnswer, exactData, PathFits, Fits, blockMeans}
 
 -- statuses, whatever they are of
 module _ (code : ℕ) (fits : code < 2 ^ 8) where
@@ -102,3 +102,14 @@ module _ (e c a : ℕ) (fe : e < 2 ^ 16) (fc : c < 2 ^ 32) (fa : a < 2 ^ 32) whe
       pub data-block-means : reportT (dataBlockTree version e c a d) ≡ just (shown (exactData version e c a d))
       unfolding reportT reportOf insideT fieldsT foldT fieldM putT placeOf dataBlockTree
       data-block-means = rw (versioned-means (context 1)) refl
+
+-- a block, whichever it is
+pub listed-block : (b : Block) → Fits b → Listed (blockTree b)
+unfolding blockTree Fits
+listed-block (value version e c a d) (fv, (p, w)) = listed-data-block e c a (p .endpoint-fits) (p .cluster-fits) (p .attribute-fits) d version fv w
+listed-block (status e c a code) (p, fits) = listed-status-block e c a (p .endpoint-fits) (p .cluster-fits) (p .attribute-fits) code fits
+
+pub block-means : (b : Block) → Fits b → reportT (blockTree b) ≡ just (blockMeans b)
+unfolding blockTree Fits blockMeans
+block-means (value version e c a d) (fv, (p, w)) = data-block-means e c a (p .endpoint-fits) (p .cluster-fits) (p .attribute-fits) d version fv
+block-means (status e c a code) (p, fits) = status-block-means e c a (p .endpoint-fits) (p .cluster-fits) (p .attribute-fits) code fits

@@ -48,6 +48,15 @@ statusBlockTree endpoint cluster attribute code =
     container anonymous structure
     (more (container (context 0) structure (answerMembers endpoint cluster attribute code)) none)
 
+-- a block of a report: an attribute's value at its cluster's version, or the status that its path gets
+pub data Block : Type 0 where
+  value : (version endpoint cluster attribute : ℕ) → Datum → Block
+  status : (endpoint cluster attribute code : ℕ) → Block
+
+unfoldable pub blockTree : Block → Tree
+blockTree (Block.value version endpoint cluster attribute d) = dataBlockTree version endpoint cluster attribute d
+blockTree (Block.status endpoint cluster attribute code) = statusBlockTree endpoint cluster attribute code
+
 -- an AttributeStatusIB of a write response
 unfoldable pub answerTree : ℕ → ℕ → ℕ → ℕ → Tree
 answerTree endpoint cluster attribute code =

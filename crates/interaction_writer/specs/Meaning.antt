@@ -1,15 +1,17 @@
 -- What the blocks that we write are meant to say, in terms of the readers of blocks.
-use Prim.Native.Nat.{ℕ}
+use Prim.Native.Nat.{ℕ, _^_, _<_}
 use Rattle.tlv.specs.Tree.{Tree}
 use Rattle.tlv.specs.Tree.Tag.{context}
 use Rattle.tlv.specs.Tree.Tree.{primitive}
 use Rattle.tlv.specs.Value.{Datum}
+use Rattle.tlv_writer.specs.Meaning.{Writable}
 use Rattle.members.specs.Scalar.{ABSENT}
 use Rattle.blocks.specs.declared.Path.{Path}
 use Rattle.blocks.specs.declared.Status.{Status}
 use Rattle.blocks.specs.declared.Answer.{Answer}
-use Rattle.blocks.specs.Data.{DataOf}
+use Rattle.blocks.specs.Data.{DataOf, ReportOf, shown, refused}
 use Rattle.interaction_writer.specs.Spelling.{primitiveD}
+use Rattle.interaction_writer.specs.Block.{Block, value, status}
 
 -- the path of one attribute, and nothing else
 abbrev pub exactPath : ℕ → ℕ → ℕ → Path
@@ -28,3 +30,18 @@ plainAnswer endpoint cluster attribute code =
 abbrev pub exactData : ℕ → ℕ → ℕ → ℕ → Datum → DataOf Tree
 exactData version endpoint cluster attribute d =
     record { version = version; path = exactPath endpoint cluster attribute; element = primitive (context 2) (primitiveD d) }
+
+-- numbers that have the widths of document 01, A sign's plan
+pub record PathFits (endpoint cluster attribute : ℕ) : Type 0 where
+  pub endpoint-fits : endpoint < 2 ^ 16
+  pub cluster-fits : cluster < 2 ^ 32
+  pub attribute-fits : attribute < 2 ^ 32
+
+-- a block that can be written: its numbers have their widths, and its value is one that we write
+unfoldable pub Fits : Block → Type 0
+Fits (value version endpoint cluster attribute d) = (version < 2 ^ 32) × (PathFits endpoint cluster attribute × Writable (primitiveD d))
+Fits (status endpoint cluster attribute code) = PathFits endpoint cluster attribute × (code < 2 ^ 8)
+
+unfoldable pub blockMeans : Block → ReportOf Tree
+blockMeans (value version endpoint cluster attribute d) = shown (exactData version endpoint cluster attribute d)
+blockMeans (status endpoint cluster attribute code) = refused (plainAnswer endpoint cluster attribute code)

@@ -71,6 +71,6 @@ unfoldable mutual
   OursAll kind (more t ts) = (stands kind (tagOfTree t) ≡ true) × (Ours t × OursAll kind ts)
 
 -- what holds of each of them
-unfoldable pub Each : (Tree → Type 0) → List Tree → Type 0
+unfoldable pub Each : {A : Type 0} → (A → Type 0) → List A → Type 0
 Each P [] = Unit {0}
-Each P (t ∷ l) = P t × Each P l
+Each P (x ∷ l) = P x × Each P l
