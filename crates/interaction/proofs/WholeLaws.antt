@@ -149,12 +149,27 @@ whole-mapped listed F β s = go (messageAt listed s)
     go bad = refl
     go (got xs n) = put (F xs) n
 
--- ---- the order of fields does not matter, and members that are not listed are as if absent
+-- ---- the order of fields does not matter, and members that are not listed are as if absent: said of any schema, and of each message
+
+module _ {A : Type 0} (listed : List Bool) (G : List Slot → Opt A) where
+  pub whole-any-order : {ts us : Trees} → Reordered ts us → wholeT listed G ts ≡ wholeT listed G us
+  whole-any-order r = ap (λ o. bindO o G) (any-order listed r)
+
+  pub whole-unlisted : (t : Tree) (ts : Trees) → 10 ≤ slotT listed (tagOfTree t) → wholeT listed G (more t ts) ≡ wholeT listed G ts
+  whole-unlisted t ts l = ap (λ o. bindO o G) (unlisted listed t ts l)
+
+pub response-any-order : {ts us : Trees} → Reordered ts us → responseT ts ≡ responseT us
+unfolding responseT
+response-any-order r = whole-any-order responseTags responseSlots r
+
+pub response-unlisted : (t : Tree) (ts : Trees) → 10 ≤ slotT responseTags (tagOfTree t) → responseT (more t ts) ≡ responseT ts
+unfolding responseT
+response-unlisted t ts l = whole-unlisted responseTags responseSlots t ts l
 
 pub read-any-order : {ts us : Trees} → Reordered ts us → readT ts ≡ readT us
 unfolding readT
-read-any-order r = ap (λ o. bindO o readSlots) (any-order readTags r)
+read-any-order r = whole-any-order readTags readSlots r
 
 pub read-unlisted : (t : Tree) (ts : Trees) → 10 ≤ slotT readTags (tagOfTree t) → readT (more t ts) ≡ readT ts
 unfolding readT
-read-unlisted t ts l = ap (λ o. bindO o readSlots) (unlisted readTags t ts l)
+read-unlisted t ts l = whole-unlisted readTags readSlots t ts l

@@ -2,25 +2,27 @@
 use mathlib.Core.Path.{_≡_, refl, _∙_}
 use mathlib.Core.Bool.{Bool, true, false}
 use mathlib.Core.List.{List, [], map}
-use Prim.Native.Nat.{ℕ, zero, suc, _-_}
+use Prim.Native.Nat.{ℕ, zero, suc, _-_, _≤_}
 use native.Mathlib.Omega.{arith}
 use borrow.Author.Tests.{ne-eqb}
 use lib.ListN.{getD}
 use lib.Dec.{eqb}
 use Rattle.tlv.specs.Octet.{pick}
-use Rattle.tlv.specs.Tree.{Trees, SpellsMessage}
+use Rattle.tlv.specs.Tree.{Tree, Trees, SpellsMessage, tagOfTree}
+use Rattle.tlv.specs.Tree.Trees.{more}
 use Rattle.tlv.specs.Decode.{Opt, bindO}
 use Rattle.tlv.specs.Decode.Opt.{just, nothing}
-use Rattle.members.specs.Fields.{slotIn}
+use Rattle.members.specs.Fields.{slotT, slotIn}
 use Rattle.members.specs.Scalar.{WRONG, numberIn, flagIn}
 use Rattle.members.specs.Array.{mapO, optionalIn, optionalT}
+use Rattle.members.proofs.OrderLaws.{Reordered}
 use Rattle.members.proofs.MeaningLaws.{at-place}
 use Rattle.members.proofs.ArrayLaws.{member-mapped, number-here, flag-here}
 use Rattle.blocks.specs.Data.{ReportOf, reportAt, reportT, reportTree}
 use Rattle.blocks.proofs.DataLaws.{report-law}
 use Rattle.interaction.specs.Message.{given, listT, listAt}
 use Rattle.interaction.proofs.ListLaws.{list-law}
-use Rattle.interaction.proofs.WholeLaws.{whole-law, whole-mapped}
+use Rattle.interaction.proofs.WholeLaws.{whole-law, whole-mapped, whole-any-order, whole-unlisted}
 use Rattle.interaction_report.specs.Report.{partTags, placed, partFrom, partIn, partSlots, partT, partTree, firstIn}
 
 -- the blocks: none where the array is absent
@@ -53,3 +55,12 @@ part-from s xs =
 pub part-law : (ts : Trees) (s : List ℕ) → SpellsMessage ts s → mapO (partTree 6 s) (partIn s) ≡ partT ts
 unfolding partIn partT
 part-law ts s m = whole-mapped partTags (partFrom s) (partTree 6 s) s ∙ whole-law partTags (λ xs. mapO (partTree 6 s) (partFrom s xs)) partSlots ts s m (part-from s)
+
+-- the order of fields does not matter, and members that are not listed are as if absent
+pub part-any-order : {ts us : Trees} → Reordered ts us → partT ts ≡ partT us
+unfolding partT
+part-any-order r = whole-any-order partTags partSlots r
+
+pub part-unlisted : (t : Tree) (ts : Trees) → 10 ≤ slotT partTags (tagOfTree t) → partT (more t ts) ≡ partT ts
+unfolding partT
+part-unlisted t ts l = whole-unlisted partTags partSlots t ts l

@@ -6,20 +6,22 @@ use Prim.Native.Nat.{ℕ, _<_, _≤_}
 use native.Mathlib.Omega.{arith}
 use lib.ListN.{length, getD}
 use Rattle.tlv.specs.Octet.{pick}
-use Rattle.tlv.specs.Tree.{Trees, SpellsMessage}
+use Rattle.tlv.specs.Tree.{Tree, Trees, SpellsMessage, tagOfTree}
+use Rattle.tlv.specs.Tree.Trees.{more}
 use Rattle.tlv.specs.Walk.{Got}
 use Rattle.tlv.specs.Walk.Got.{got, bad}
 use Rattle.tlv.specs.Decode.{Opt, bindO}
 use Rattle.tlv.specs.Decode.Opt.{just, nothing}
-use Rattle.members.specs.Fields.{slotIn}
+use Rattle.members.specs.Fields.{slotT, slotIn}
 use Rattle.members.specs.Scalar.{ABSENT, numberIn, flagIn}
 use Rattle.members.specs.Array.{mapO, optOf, requiredIn}
+use Rattle.members.proofs.OrderLaws.{Reordered}
 use Rattle.members.proofs.MeaningLaws.{at-place}
 use Rattle.members.proofs.ArrayLaws.{required-mapped, number-here, flag-here}
 use Rattle.interaction.specs.Message.{given, listT, listAt}
 use Rattle.interaction.proofs.MessageLaws.{given-no, given-yes}
 use Rattle.interaction.proofs.ListLaws.{list-law}
-use Rattle.interaction.proofs.WholeLaws.{whole-law, whole-mapped}
+use Rattle.interaction.proofs.WholeLaws.{whole-law, whole-mapped, whole-any-order, whole-unlisted}
 use Rattle.interaction_write.specs.declared.Entries.{Entries}
 use Rattle.interaction_write.specs.Write.{EntryOf, entryAt, entryT, entryTree, entriesStruct, entriesRead, entriesOpt, WriteOf, writeTags, unchunked, isEmpty, writeOf, writeFrom, writeIn, writeSlots, writeT, writeVerdict, writeRead, writeTree}
 use Rattle.interaction_write.proofs.EntryLaws.{entry-law}
@@ -114,3 +116,12 @@ write-from s xs =
 pub write-law : (ts : Trees) (s : List ℕ) → SpellsMessage ts s → mapO (writeTree 7 s) (writeIn s) ≡ writeT ts
 unfolding writeIn writeT
 write-law ts s m = whole-mapped writeTags (writeFrom s) (writeTree 7 s) s ∙ whole-law writeTags (λ xs. mapO (writeTree 7 s) (writeFrom s xs)) writeSlots ts s m (write-from s)
+
+-- the order of fields does not matter, and members that are not listed are as if absent
+pub write-any-order : {ts us : Trees} → Reordered ts us → writeT ts ≡ writeT us
+unfolding writeT
+write-any-order r = whole-any-order writeTags writeSlots r
+
+pub write-unlisted : (t : Tree) (ts : Trees) → 10 ≤ slotT writeTags (tagOfTree t) → writeT (more t ts) ≡ writeT ts
+unfolding writeT
+write-unlisted t ts l = whole-unlisted writeTags writeSlots t ts l
