@@ -21,7 +21,7 @@ use Rattle.blocks.specs.Data.{shown, refused, dataOf, dataT, reportOf, reportT}
 use Rattle.interaction_writer.specs.Spelling.{primitiveD, OurTag, Ours, OursAll}
 use Rattle.interaction_writer.specs.Block.{number, pathTree, dataMembers, dataBlockTree, statusTree, answerMembers, answerTree, statusBlockTree, Block, value, status, blockTree}
 use Rattle.interaction_writer.specs.Message.{Listed}
-use Rattle.interaction_writer.specs.Meaning.{exactPath, plainStatus, plainAnswer, exactData, PathFits, Fits, blockMeans}
+use Rattle.interaction_writer.specs.Meaning.{exactPath, plainStatus, plainAnswer, exactData, Fits, blockMeans}
 
 -- statuses, whatever they are of
 module _ (code : ℕ) (fits : code < 2 ^ 8) where
