@@ -1,3 +1,4 @@
 pub mod BlocksLaws
 pub mod PartLaws
 pub mod MeaningLaws
+pub mod FirstLaws
