@@ -91,11 +91,11 @@ pub fn privilege_ok(privilege: u8) -> bool
 }
 
 // Whether a privilege is granted at the cluster whose row is at i: false where the schema can have no such row.
-pub fn is_granted(g: Grants, i: usize, privilege: u8) -> bool
+pub fn is_granted(g: Grants, i: usize, privilege: u64) -> bool
     ensures { λ r. ⌜ r ≡ isGranted g i privilege ⌝ }
 {
     if CLUSTERS <= i {
         return false;
     }
-    privilege <= g.level[i]
+    privilege <= g.level[i] as u64
 }

@@ -1,18 +1,33 @@
 -- Laws of the two pages: a stored text is shown, and every other shown text stays as it was.
-use mathlib.Core.Path.{_≡_, refl, ap, _∙_}
+use mathlib.Core.Path.{_≡_, refl, sym, ap, _∙_}
 use mathlib.Core.Bool.{Bool, true, false}
 use mathlib.Core.List.{List, [], _∷_}
 use Prim.Native.Nat.{ℕ, suc, _+_, _-_, _≤_}
 use native.Mathlib.Omega.{arith}
 use borrow.Author.Tests.{ltb-true, ltb-false}
 use lib.Dec.{ltb}
-use lib.ListN.{length, take, drop, set}
-use lib.Seq.{take-set-le, drop-set-lt, drop-set-add}
+use lib.ListN.{length, take, drop, set, length-drop}
+use lib.Seq.{take-all, take-nil, drop-nil, drop-length, drop-drop, take-set-le, drop-set-lt, drop-set-add}
 use Rattle.octets.specs.Store.{store}
 use Rattle.octets.proofs.StoreLaws.{store-back}
 use Rattle.schema.specs.Layout.{textSize}
 use Rattle.schema.proofs.BoolLaws.{by-test}
 use Rattle.node.specs.Pages.{place, shownText}
+
+-- ---- parts that a page does not have, or not whole
+
+drop-past : (n : ℕ) (l : List ℕ) → length l ≤ n → drop n l ≡ []
+drop-past n l h =
+    let e : n ≡ length l + (n - length l) = omega arith in
+    ap (λ (k : ℕ). drop k l) e ∙ sym (drop-drop (n - length l) (length l) l) ∙ ap (drop (n - length l)) (drop-length l) ∙ drop-nil (n - length l)
+
+pub nothing-there : (n start : ℕ) (l : List ℕ) → length l ≤ start → take n (drop start l) ≡ []
+nothing-there n start l h = ap (take n) (drop-past start l h) ∙ take-nil n
+
+pub to-the-end : (n start : ℕ) (l : List ℕ) → length l - start ≤ n → take n (drop start l) ≡ take (length l - start) (drop start l)
+to-the-end n start l h =
+    take-all n (drop start l) (omega (arith, length-drop start l))
+    ∙ sym (take-all (length l - start) (drop start l) (omega (arith, length-drop start l)))
 
 -- ---- a part of a page before or after what is stored
 

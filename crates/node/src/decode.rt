@@ -52,7 +52,7 @@ fn of_text(text: bool, x: u64) -> usize
 }
 
 // The first value as it is stored.
-fn first_word(w: &[u64; WORDS], i: usize) -> u64
+pub fn first_word(w: &[u64; WORDS], i: usize) -> u64
     requires { ⌜ i < attributeLimit ⌝ }
     ensures { λ r. ⌜ r ≡ firstWord (attributeRow (now (w .entry)) i) ⌝ }
 {

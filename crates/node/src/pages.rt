@@ -4,9 +4,9 @@ use octets::put_bytes;
 use schema::TEXT_SIZE;
 ghost use mathlib.Core.Path.{_≡_};
 ghost use Prim.Native.Nat.{_+_, _^_, _≤_, _<_};
-ghost use lib.ListN.{length};
+ghost use lib.ListN.{length, take, drop};
 ghost use Rattle.octets.specs.Store.{store};
-ghost use Rattle.node.specs.Pages.{place, shownFrom, shownIn, shownText};
+ghost use Rattle.node.specs.Pages.{place, shownText};
 
 // Where the text of this rank starts in the page of edits.
 pub fn place_of(rank: usize) -> usize
@@ -14,6 +14,19 @@ pub fn place_of(rank: usize) -> usize
     ensures { λ r. ⌜ r ≡ place rank ⌝ }
 {
     TEXT_SIZE * rank
+}
+
+// The len bytes of a page from start on, as far as the page has them.
+pub fn part(page: &[u8], start: usize, len: usize) -> &[u8]
+    ensures { λ r. ⌜ now r ≡ take len (drop start (now (page .entry))) ⌝ }
+{
+    if page.len() <= start {
+        return &page[0..0];
+    }
+    if page.len() - start < len {
+        return &page[start..page.len()];
+    }
+    &page[start..start + len]
 }
 
 // The shown text: that very part of one page or the other.
@@ -25,15 +38,15 @@ pub fn shown<'a>(
     len: usize,
     edited: bool,
 ) -> &'a [u8]
-    requires { ⌜ shownFrom start rank edited + len ≤ length (shownIn (now defaults) (now edits) edited) ⌝ }
     ensures { λ r. ⌜ now r ≡ shownText (now (defaults .entry)) (now (edits .entry)) start rank len edited ⌝ }
 {
-    if edited {
-        let at = place_of(rank);
-        &edits[at..at + len]
-    } else {
-        &defaults[start..start + len]
+    if !edited {
+        return part(defaults, start, len);
     }
+    if edits.len() / TEXT_SIZE < rank {
+        return part(edits, edits.len(), len);
+    }
+    part(edits, place_of(rank), len)
 }
 
 // Stores a text in its place: exactly its bytes, the rest of the page as it was.

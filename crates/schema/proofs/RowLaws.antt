@@ -1,12 +1,14 @@
 -- What holds of the rows of a list, by index.
-use mathlib.Core.Path.{_≡_, refl, ap, subst, _∙_}
-use mathlib.Core.List.{map}
-use Prim.Native.Nat.{ℕ, zero, suc, _+_, _≤_, _<_}
+use mathlib.Core.Path.{_≡_, refl, sym, ap, subst, _∙_}
+use mathlib.Core.List.{List, [], _∷_, _++_, map}
+use Prim.Native.Nat.{ℕ, zero, suc, _+_, _-_, _≤_, _<_}
+use native.Mathlib.Numerals.{add-one}
 use native.Mathlib.Omega.{arith}
 use borrow.Author.Tests.{eqb-true, eqb-false}
 use lib.Dec.{eqb}
-use lib.ListN.{length, getD}
-use Rattle.schema.specs.Rows.{rowsFrom}
+use lib.ListN.{length, getD, set, replicate, List·getD-append}
+use lib.Seq.{set-at, append-snoc}
+use Rattle.schema.specs.Rows.{rowsFrom, filled}
 use Rattle.schema.specs.Rules.{Each, Rising}
 use Rattle.schema.proofs.BoolLaws.{by-test}
 
@@ -51,3 +53,29 @@ module _ {A : Type 0} (f : ℕ → A) where
   rising-all R zero k h = tt
   rising-all R (suc n) k h =
       (each-all (R (f k)) n (suc k) (λ j l u. h k j (omega arith) (omega arith) (omega arith)), rising-all R n (suc k) (λ i j l m u. h i j (omega arith) m (omega arith)))
+
+-- ---- places filled one by one, by f, the rest with z
+module _ {A : Type 0} (z : A) (f : ℕ → A) where
+  rows-snoc : (i k : ℕ) → rowsFrom f (suc i) k ≡ rowsFrom f i k ++ (f (i + k) ∷ [])
+  unfolding rowsFrom
+  rows-snoc zero k = ap (λ (j : ℕ). f j ∷ []) (omega arith)
+  rows-snoc (suc i) k =
+      let q : i + suc k ≡ suc i + k = omega arith in
+      ap (λ (l : List A). f k ∷ l) (rows-snoc i (suc k) ∙ ap (λ (j : ℕ). rowsFrom f i (suc k) ++ (f j ∷ [])) q)
+
+  pub fill-begin : (n : ℕ) → replicate n z ≡ filled z f n 0
+  unfolding rowsFrom
+  fill-begin n = let q : n ≡ n - 0 = omega arith in ap (λ (m : ℕ). replicate m z) q
+
+  pub fill-step : (n i : ℕ) → i < n → set (filled z f n i) i (f i) ≡ filled z f n (i + 1)
+  fill-step n i h =
+      let q : n - i ≡ suc (n - (i + 1)) = omega arith in
+      let y : i + 0 ≡ i = omega arith in
+      ap (λ (m : ℕ). set (rowsFrom f i 0 ++ replicate m z) i (f i)) q
+      ∙ set-at (rowsFrom f i 0) z (replicate (n - (i + 1)) z) (f i) i (rows-length f i 0)
+      ∙ sym (append-snoc (rowsFrom f i 0) (f i) (replicate (n - (i + 1)) z))
+      ∙ ap (λ (l : List A). l ++ replicate (n - (i + 1)) z) (ap (λ (j : ℕ). rowsFrom f i 0 ++ (f j ∷ [])) (sym y) ∙ sym (rows-snoc i 0) ∙ ap (λ (j : ℕ). rowsFrom f j 0) (sym (add-one i)))
+
+  -- a place that is filled, and one that is not
+  pub filled-at : (n i k : ℕ) (d : A) → k < i → getD (filled z f n i) k d ≡ f k
+  filled-at n i k d h = List·getD-append (rowsFrom f i 0) (replicate (n - i) z) d k (omega (arith, rows-length f i 0)) ∙ rows-get f i 0 k d h ∙ ap f (omega arith)

@@ -1,9 +1,9 @@
 -- The schema as lists of typed rows, decoded from its words (document 01, A sign's plan). Nothing of a word is lost: two words that decode alike are equal.
-use Prim.Native.Nat.{ℕ, zero, suc, _+_, _/_, _%_, _^_, min}
-use mathlib.Core.List.{List, [], _∷_}
+use Prim.Native.Nat.{ℕ, zero, suc, _+_, _-_, _/_, _%_, _^_, min}
+use mathlib.Core.List.{List, [], _∷_, _++_}
 use mathlib.Core.Bool.{Bool}
 use lib.Dec.{eqb}
-use lib.ListN.{getD}
+use lib.ListN.{getD, replicate}
 use Rattle.schema.specs.Layout.{clusterLimit, attributeLimit, clusterCountWord, attributeCountWord, pathColumn, versionColumn, keyColumn, traitsColumn, lowColumn, highColumn, firstColumn, half, textKind}
 
 -- word i of a column
@@ -65,6 +65,10 @@ attributeCount w = min (getD w attributeCountWord 0) attributeLimit
 unfoldable pub rowsFrom : {A : Type 0} → (ℕ → A) → ℕ → ℕ → List A
 rowsFrom f zero k = []
 rowsFrom f (suc n) k = f k ∷ rowsFrom f n (suc k)
+
+-- the first i of n places filled by f, the rest with z
+abbrev pub filled : {A : Type 0} → A → (ℕ → A) → ℕ → ℕ → List A
+filled z f n i = rowsFrom f i 0 ++ replicate (n - i) z
 
 abbrev pub clusters : List ℕ → List ClusterRow
 clusters w = rowsFrom (clusterRow w) (clusterCount w) 0

@@ -2,14 +2,15 @@ use mathlib.Core.Path.{_≡_}
 use Prim.Native.Nat.{_≤_, _-_}
 use borrow.Author.Needs.{needs}
 use Rattle.schema.specs.Layout.{clusterLimit}
-use Rattle.schema.specs.Rows.{clusterCount}
+use Rattle.schema.specs.Rows.{clusterCount, filled}
+use Rattle.schema.proofs.RowLaws.{fill-begin}
 use Rattle.acl.specs.Table.{entriesOf}
-use Rattle.acl.proofs.GrantLaws.{filled, levelAt, fill-begin, grants-step, grants-done}
+use Rattle.acl.proofs.GrantLaws.{levelAt, grants-step, grants-done}
 use Rattle.acl.proofs.table.grants.Statement.{statement}
 use Rattle.acl.proofs.table.grants.Tie as tie
 
 abbrev Inv-loop : tie.InvT-loop
-Inv-loop t subject w n level₀ i₀ level i = (i ≤ n) × (n ≡ clusterCount w) × (level ≡ filled (levelAt (entriesOf t) subject w) clusterLimit i)
+Inv-loop t subject w n level₀ i₀ level i = (i ≤ n) × (n ≡ clusterCount w) × (level ≡ filled 0 (levelAt (entriesOf t) subject w) clusterLimit i)
 
 abbrev μ-loop : tie.MeasureT-loop
 μ-loop t subject w n level₀ i₀ level i = n - i
@@ -18,7 +19,7 @@ cluster-count-requires : tie.Need-cluster-count-requires Inv-loop μ-loop
 cluster-count-requires c κs = search needs
 
 loop-holds : tie.Need-loop-holds Inv-loop μ-loop
-loop-holds c = (search needs, c .cluster-count .ensures, fill-begin _ clusterLimit)
+loop-holds c = (search needs, c .cluster-count .ensures, fill-begin 0 _ clusterLimit)
 
 cluster-endpoint-requires : tie.Need-cluster-endpoint-requires Inv-loop μ-loop
 cluster-endpoint-requires c κs = search needs
