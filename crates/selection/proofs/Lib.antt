@@ -1,0 +1,4 @@
+pub mod LocateLaws
+pub mod AskedLaws
+pub mod FilterLaws
+pub mod ItemLaws

@@ -1,0 +1,66 @@
+use mathlib.Core.Path.{_≡_, refl, sym, ap, _∙_}
+use mathlib.Core.Bool.{true, false}
+use Prim.Native.Nat.{_<_}
+use native.Mathlib.Omega.{arith}
+use borrow.Author.Tests.{not-true, not-false}
+use Rattle.schema.specs.Rows.{attributeCount}
+use Rattle.selection.specs.Asked.{concrete}
+use Rattle.selection.specs.Items.{silent, span, itemAt, wildcardItem}
+use borrow.Author.Needs.{needs}
+use Rattle.selection.proofs.items.item_at.Statement.{statement}
+use Rattle.selection.proofs.items.item_at.Tie as tie
+use Rattle.selection.proofs.items.item_at.Reads as reads
+use Rattle.selection.proofs.items.item_at.Lts as lts
+use Rattle.selection.proofs.asked.asks_row.Reads as asks-row-reads
+use Rattle.selection.proofs.asked.is_concrete.Reads as is-concrete-reads
+use Rattle.selection.proofs.items.concrete_item.Reads as concrete-item-reads
+use Rattle.selection.proofs.items.read_item.Reads as read-item-reads
+use Rattle.selection.proofs.items.silenced.Reads as silenced-reads
+
+is-concrete-requires : tie.Need-is-concrete-requires
+is-concrete-requires c κs = search needs
+
+concrete-item-requires : tie.Need-concrete-item-requires
+concrete-item-requires c κs = search needs
+
+returns : tie.Need-returns
+unfolding itemAt
+returns c = let q : concrete (c .before .before .before .args .p) ≡ true = sym (c .before .before .is-concrete .ensures) ∙ c .before .if1 .taken in rw q (c .concrete-item .ensures)
+
+-- a path that is not concrete has a place for each attribute
+not-wild : (c : tie.Else1) → concrete (c .before .before .args .p) ≡ false
+not-wild c = sym (c .before .is-concrete .ensures) ∙ c .if1 .left
+
+wild : (c : tie.Else1) → c .before .before .args .i < attributeCount (c .before .before .args .w .now)
+unfolding span
+wild c = rw (not-wild c) at (c .before .before .pre .1)
+
+asks-row-requires : tie.Need-asks-row-requires
+asks-row-requires c κs = (c .before .before .pre .0, wild c)
+
+returns-2 : tie.Need-returns-2
+unfolding itemAt wildcardItem
+returns-2 c = rw (not-wild (c .before .before), sym (c .before .asks-row .ensures) ∙ not-true _ (c .if2 .taken)) refl
+
+read-item-requires : tie.Need-read-item-requires
+read-item-requires c κs = omega (arith, wild (c .before .before))
+
+silenced-requires : tie.Need-silenced-requires
+silenced-requires c κs = search needs
+
+returns-3 : tie.Need-returns-3
+unfolding itemAt wildcardItem
+returns-3 c = rw (not-wild (c .before .before .before .before), sym (c .before .before .before .asks-row .ensures) ∙ not-false _ (c .before .before .if2 .left)) (c .silenced .ensures ∙ ap silent (c .before .read-item .ensures))
+
+pub item-at-spec : {M : Type 1} → statement M
+item-at-spec =
+    tie.close
+    (tie.spec
+    is-concrete-requires
+    concrete-item-requires
+    returns
+    asks-row-requires
+    returns-2
+    read-item-requires
+    silenced-requires
+    returns-3)

@@ -1,0 +1,5 @@
+pub mod Status
+pub mod Locate
+pub mod Asked
+pub mod Filters
+pub mod Items
