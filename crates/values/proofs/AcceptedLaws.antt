@@ -1,0 +1,122 @@
+-- A value that the verdict allows, by what it means: its stored form is allowed and means that very value, and a text fits its place.
+use mathlib.Core.Path.{_≡_, refl, sym, ap, ap₂, _∙_}
+use mathlib.Core.List.{List}
+use mathlib.Core.Bool.{Bool, true, false}
+use Prim.Native.Nat.{ℕ, _≤_}
+use native.Mathlib.Omega.{arith}
+use lib.ListN.{length}
+use mir.Syntax.{w64}
+use mir.ValLaws.{toZ-ofZ}
+use Rattle.tlv.specs.declared.Value.{Value}
+use Rattle.tlv.specs.declared.Value.the-variants as Parsed
+use Rattle.tlv.specs.Value.{Datum, datumIn}
+use Rattle.utf8.specs.WellFormed.{wellFormed, completes}
+use Rattle.kinds.specs.declared.Kind.{Kind}
+use Rattle.kinds.specs.declared.Kind.the-variants as Kinds
+use Rattle.kinds.specs.declared.Verdict.the-variants.{Success}
+use Rattle.kinds.specs.Limits.{isNull, inside, against, againstIn, judgedIn}
+use Rattle.kinds.specs.Stored.{wordOf, held}
+use Rattle.kinds.proofs.LimitLaws.{Fit, fit, also-wrong}
+use Rattle.kinds.proofs.LimitLaws.Fit.{boolean, unsigned, signed, float, text, apart}
+use Rattle.kinds.proofs.StoredLaws.{Sized, accepted-held}
+use Rattle.schema.specs.Layout.{textSize}
+use Rattle.node.proofs.TextLaws.{Judged, judged-text}
+use Rattle.values.specs.Values.{heldDatum}
+use Rattle.values.specs.Change.{textOf, isText, wordFor}
+use Rattle.values.proofs.ChangeLaws.{null-in}
+use Rattle.values.proofs.ValueLaws.{part-length, textual}
+
+pub record Accepted (k : Kind) (nullable : Bool) (d : Datum) : Type 0 where
+  -- the limits allow what it is stored as
+  pub within : held k nullable (wordFor d) (isNull d) ≡ true
+  -- and that means this value
+  pub back : heldDatum k (wordFor d) (isNull d) (textOf d) ≡ d
+  pub size : length (textOf d) ≤ textSize
+  pub valid : wellFormed (textOf d) ≡ true
+
+module _ (s : List ℕ) (nullable : Bool) where
+  -- only a text's kind allows a text
+  text-kind : (k : Kind) (a n : ℕ) → judgedIn s k nullable (Parsed.Text a n) ≡ Success → k ≡ Kinds.Text
+  unfolding judgedIn against
+  text-kind Kinds.Boolean a n h = cc (also-wrong (inside s (Parsed.Text a n)))
+  text-kind (Kinds.Unsigned l u) a n h = cc (also-wrong (inside s (Parsed.Text a n)))
+  text-kind (Kinds.Signed l u) a n h = cc (also-wrong (inside s (Parsed.Text a n)))
+  text-kind (Kinds.Float r) a n h = cc (also-wrong (inside s (Parsed.Text a n)))
+  text-kind Kinds.Text a n h = refl
+
+  judged : (k : Kind) (a n : ℕ) → judgedIn s k nullable (Parsed.Text a n) ≡ Success → Judged s a n
+  judged k a n h = judged-text s nullable a n (rw (text-kind k a n h) at h)
+
+  -- a value's word is that of what it means
+  judged-word : (k : Kind) (v : Value) → judgedIn s k nullable v ≡ Success → wordOf v ≡ wordFor (datumIn s v)
+  unfolding wordOf wordFor
+  judged-word k Parsed.Null h = refl
+  judged-word k (Parsed.Boolean b) h = refl
+  judged-word k (Parsed.Unsigned n) h = refl
+  judged-word k (Parsed.Signed z) h = refl
+  judged-word k (Parsed.Float n) h = refl
+  judged-word k (Parsed.Text a n) h = sym (part-length s a n (judged k a n h .inside))
+  judged-word k Parsed.Other h = refl
+
+  bytes-judged : (k : Kind) (v : Value) → judgedIn s k nullable v ≡ Success → (length (textOf (datumIn s v)) ≤ textSize) × (wellFormed (textOf (datumIn s v)) ≡ true)
+  unfolding wellFormed completes
+  bytes-judged k Parsed.Null h = (omega arith, refl)
+  bytes-judged k (Parsed.Boolean b) h = (omega arith, refl)
+  bytes-judged k (Parsed.Unsigned n) h = (omega arith, refl)
+  bytes-judged k (Parsed.Signed z) h = (omega arith, refl)
+  bytes-judged k (Parsed.Float n) h = (omega arith, refl)
+  bytes-judged k (Parsed.Text a n) h = let j = judged k a n h in (omega (arith, part-length s a n (j .inside), j .size), j .valid)
+  bytes-judged k Parsed.Other h = (omega arith, refl)
+
+  present-back : {k : Kind} {v : Value} → Fit s k v → Sized v → againstIn s v k ≡ Success → heldDatum k (wordFor (datumIn s v)) false (textOf (datumIn s v)) ≡ datumIn s v
+  unfolding heldDatum wordFor
+  present-back (boolean true) f h = refl
+  present-back (boolean false) f h = refl
+  present-back (unsigned low high n) f h = refl
+  present-back (signed low high z) f h = ap Datum.signed (toZ-ofZ w64 z f)
+  present-back (float r n) f h = ap Datum.float (omega arith)
+  present-back (text a n) f h = refl
+  present-back {k} {v} (apart e) f h = cc (also-wrong (inside s v))
+
+  means-back : (k : Kind) (v : Value) → Sized v → judgedIn s k nullable v ≡ Success → heldDatum k (wordFor (datumIn s v)) (isNull (datumIn s v)) (textOf (datumIn s v)) ≡ datumIn s v
+  unfolding judgedIn heldDatum
+  means-back k Parsed.Null f h = refl
+  means-back k (Parsed.Boolean b) f h = present-back (fit s k (Parsed.Boolean b)) f h
+  means-back k (Parsed.Unsigned n) f h = present-back (fit s k (Parsed.Unsigned n)) f h
+  means-back k (Parsed.Signed z) f h = present-back (fit s k (Parsed.Signed z)) f h
+  means-back k (Parsed.Float n) f h = present-back (fit s k (Parsed.Float n)) f h
+  means-back k (Parsed.Text a n) f h = present-back (fit s k (Parsed.Text a n)) f h
+  means-back k Parsed.Other f h = present-back (fit s k Parsed.Other) f h
+
+  -- what passed the verdict is accepted
+  pub accepted : (k : Kind) (v : Value) → Sized v → judgedIn s k nullable v ≡ Success → Accepted k nullable (datumIn s v)
+  accepted k v f h =
+      record {
+        within = sym (ap₂ (held k nullable) (judged-word k v h) (null-in s v)) ∙ accepted-held s nullable k v f h;
+        back = means-back k v f h;
+        size = bytes-judged k v h .0;
+        valid = bytes-judged k v h .1;
+      }
+
+-- ---- what an accepted value is
+
+held-text : (k : Kind) (word : ℕ) (shown : List ℕ) → isText (heldDatum k word false shown) ≡ textual k
+unfolding heldDatum
+held-text Kinds.Boolean word shown = refl
+held-text (Kinds.Unsigned l h) word shown = refl
+held-text (Kinds.Signed l h) word shown = refl
+held-text (Kinds.Float r) word shown = refl
+held-text Kinds.Text word shown = refl
+
+pub text-present : (d : Datum) → isText d ≡ true → isNull d ≡ false
+text-present Datum.null h = sym h
+text-present (Datum.boolean b) h = refl
+text-present (Datum.unsigned n) h = refl
+text-present (Datum.signed z) h = refl
+text-present (Datum.float n) h = refl
+text-present (Datum.text b) h = refl
+text-present Datum.other h = refl
+
+-- a value that is not null is a text exactly if the kind is that of texts
+pub own-kind : {k : Kind} {nullable : Bool} {d : Datum} → Accepted k nullable d → isNull d ≡ false → isText d ≡ textual k
+own-kind {k} {nullable} {d} a n = ap isText (sym (a .back)) ∙ rw n (held-text k (wordFor d) (textOf d))

@@ -1,0 +1,128 @@
+-- What the code asks of a new value (whether it is a text, whether it is null, the 64 bits that it is stored as), and the two ways of storing it.
+use mathlib.Core.Path.{_≡_, refl}
+use mathlib.Core.List.{List, []}
+use mathlib.Core.Bool.{Bool, true, false, not}
+use Prim.Native.Nat.{ℕ}
+use lib.Dec.{eqb}
+use lib.ListN.{length, getD, set}
+use types.Run.{OneOf, miss}
+use denote.Enum.Declared.{tagOf}
+use Rattle.tlv.proofs.Value.{the-type}
+use Rattle.tlv.specs.Octet.{pick}
+use Rattle.tlv.specs.declared.Value.{Value}
+use Rattle.tlv.specs.declared.Value.the-variants as Parsed
+use Rattle.tlv.specs.Value.{Datum, null, boolean, unsigned, signed, float, text, other, datumIn}
+use Rattle.kinds.specs.Limits.{isNull, nullOf}
+use Rattle.kinds.specs.Stored.{wordOf, equal, nextVersion}
+use Rattle.kinds.proofs.LimitLaws.{allBut, variants}
+use Rattle.schema.specs.Rows.{attributeRow}
+use Rattle.values.specs.declared.Values.{Values}
+use Rattle.values.specs.Change.{textOf, isText, wordFor, differsFrom, changes, setAt, editsSet, storedValues, storedEdits}
+
+-- a value of another variant than Text is no text
+pub no-text : (v : Value) → OneOf (allBut 5 variants) (tagOf the-type v) → (s : List ℕ) → false ≡ isText (datumIn s v)
+no-text Parsed.Null h s = refl
+no-text (Parsed.Boolean b) h s = refl
+no-text (Parsed.Unsigned n) h s = refl
+no-text (Parsed.Signed z) h s = refl
+no-text (Parsed.Float n) h s = refl
+no-text (Parsed.Text a n) h s = absurd (miss (allBut 5 variants) 5 tt h)
+no-text Parsed.Other h s = refl
+
+-- and has no bytes
+pub no-bytes : (d : Datum) → isText d ≡ false → textOf d ≡ []
+no-bytes null h = refl
+no-bytes (boolean b) h = refl
+no-bytes (unsigned n) h = refl
+no-bytes (signed z) h = refl
+no-bytes (float n) h = refl
+no-bytes (text b) h = cc
+no-bytes other h = refl
+
+-- a text is stored as its length
+pub text-word : (d : Datum) → isText d ≡ true → length (textOf d) ≡ wordFor d
+unfolding wordFor
+text-word null h = cc
+text-word (boolean b) h = cc
+text-word (unsigned n) h = cc
+text-word (signed z) h = cc
+text-word (float n) h = cc
+text-word (text b) h = refl
+text-word other h = cc
+
+-- any other value as the word that it is
+pub plain-word : (s : List ℕ) (v : Value) → isText (datumIn s v) ≡ false → wordOf v ≡ wordFor (datumIn s v)
+unfolding wordFor wordOf
+plain-word s Parsed.Null h = refl
+plain-word s (Parsed.Boolean b) h = refl
+plain-word s (Parsed.Unsigned n) h = refl
+plain-word s (Parsed.Signed z) h = refl
+plain-word s (Parsed.Float n) h = refl
+plain-word s (Parsed.Text a n) h = cc
+plain-word s Parsed.Other h = refl
+
+-- null is null in every message
+pub null-in : (s : List ℕ) (v : Value) → nullOf v ≡ isNull (datumIn s v)
+null-in s Parsed.Null = refl
+null-in s (Parsed.Boolean b) = refl
+null-in s (Parsed.Unsigned n) = refl
+null-in s (Parsed.Signed z) = refl
+null-in s (Parsed.Float n) = refl
+null-in s (Parsed.Text a n) = refl
+null-in s Parsed.Other = refl
+
+-- ---- a difference, test by test
+
+module _ (word : ℕ) (held : Bool) (shown : List ℕ) (d : Datum) where
+  pub from-null : held ≡ true → not (isNull d) ≡ differsFrom word held shown d
+  unfolding differsFrom
+  from-null h = rw h
+
+  pub to-null : held ≡ false → isNull d ≡ true → true ≡ differsFrom word held shown d
+  unfolding differsFrom
+  to-null h n = rw (h, n)
+
+  pub text-differs : held ≡ false → isNull d ≡ false → isText d ≡ true → not (equal shown (textOf d)) ≡ differsFrom word held shown d
+  unfolding differsFrom
+  text-differs h n t = rw (h, n, t)
+
+  pub word-differs : held ≡ false → isNull d ≡ false → isText d ≡ false → not (eqb word (wordFor d)) ≡ differsFrom word held shown d
+  unfolding differsFrom
+  word-differs h n t = rw (h, n, t)
+
+-- ---- the new values, step by step
+
+-- all but the version is set
+abbrev pub marked : Values → ℕ → Datum → Values
+marked v i d =
+    record {
+      words = set (v .words) i (wordFor d);
+      nulls = set (v .nulls) i (isNull d);
+      edited = pick (isText d) (set (v .edited) i true) (v .edited);
+      versions = v .versions;
+    }
+
+module _ (v : Values) (i : ℕ) (d : Datum) (word : ℕ) (n : Bool) (same-word : word ≡ wordFor d) (same-null : n ≡ isNull d) where
+  pub marked-text : isText d ≡ true → record { words = set (v .words) i word; nulls = set (v .nulls) i n; edited = set (v .edited) i true; versions = v .versions } ≡ marked v i d
+  marked-text t = rw (same-word, same-null, t)
+
+  pub marked-plain : isText d ≡ false → record { words = set (v .words) i word; nulls = set (v .nulls) i n; edited = v .edited; versions = v .versions } ≡ marked v i d
+  marked-plain t = rw (same-word, same-null, t)
+
+-- and with the version raised, the value is set
+pub set-whole : (w : List ℕ) (v : Values) (i : ℕ) (d : Datum) (x : Values) → x ≡ marked v i d → (k : ℕ) → k ≡ attributeRow w i .clusterIndex → (n : ℕ) → n ≡ nextVersion (getD (x .versions) k 0) → record { words = x .words; nulls = x .nulls; edited = x .edited; versions = set (x .versions) k n } ≡ setAt w v i d
+unfolding setAt
+set-whole w v i d x e k f n g = rw (g, f, e)
+
+-- ---- storing
+
+module _ (w defaults edits : List ℕ) (v : Values) (i : ℕ) (d : Datum) where
+  -- no change moves nothing
+  pub nothing-moves : changes w defaults edits v i d ≡ false → (v ≡ storedValues w defaults edits v i d) × (edits ≡ storedEdits w defaults edits v i d)
+  unfolding storedValues storedEdits
+  nothing-moves c = (rw c, rw c)
+
+  -- a change moves the value and the text
+  pub change-moves : changes w defaults edits v i d ≡ true → (x : Values) (l : List ℕ) → x ≡ setAt w v i d → l ≡ editsSet w edits i d → (x ≡ storedValues w defaults edits v i d) × (l ≡ storedEdits w defaults edits v i d)
+  unfolding storedValues storedEdits
+  change-moves c x l e f = (rw c e, rw c f)

@@ -1,0 +1,45 @@
+use mathlib.Core.Bool.{true}
+use mathlib.Core.Path.{_≡_, sym, _∙_}
+use Rattle.octets.specs.Store.{store}
+use Rattle.tlv.specs.Value.{datumIn}
+use Rattle.values.specs.Change.{isText, editsSet}
+use Rattle.values.proofs.ChangeLaws.{no-bytes}
+use borrow.Author.Needs.{needs}
+use Rattle.values.proofs.change.set_text.Statement.{statement}
+use Rattle.values.proofs.change.set_text.Tie as tie
+
+is-text-requires : tie.Need-is-text-requires
+is-text-requires c κs = search needs
+
+first-value-requires : tie.Need-first-value-requires
+first-value-requires c κs = search needs
+
+bytes-of-requires : tie.Need-bytes-of-requires
+bytes-of-requires c κs = search needs
+
+store-text-requires : tie.Need-store-text-requires
+store-text-requires c κs = let t : isText (datumIn (c .before .before .before .before .before .before .before .args .src .now) (c .before .before .before .before .before .before .before .args .new)) ≡ true = sym (c .before .before .before .before .is-text .ensures (c .before .before .before .before .before .before .before .args .src .now)) ∙ c .before .before .before .if1 .taken in
+    rw (c .before .before .first-value .ensures, c .bytes-of .ensures) (c .before .before .before .before .before .before .before .pre .1 t)
+
+same-length : tie.Need-same-length
+same-length c = search needs
+
+returns : tie.Need-returns
+unfolding editsSet
+returns c = c .before .before .store-text .ensures ∙ rw (c .before .before .before .before .before .first-value .ensures, c .before .before .before .bytes-of .ensures)
+
+returns-2 : tie.Need-returns-2
+unfolding editsSet store
+returns-2 c = rw (no-bytes (datumIn (c .before .before .before .before .args .src .now) (c .before .before .before .before .args .new)) (sym (c .before .is-text .ensures (c .before .before .before .before .args .src .now)) ∙ c .if1 .left))
+
+pub set-text-spec : {M : Type 1} → statement M
+set-text-spec =
+    tie.close
+    (tie.spec
+    is-text-requires
+    first-value-requires
+    bytes-of-requires
+    store-text-requires
+    same-length
+    returns
+    returns-2)

@@ -1,0 +1,52 @@
+use mathlib.Core.Path.{_≡_, sym, _∙_}
+use mathlib.Core.Bool.{true, false}
+use borrow.Author.Tests.{not-true, not-false}
+use Rattle.schema.specs.Rows.{attributeRow, isText}
+use Rattle.values.specs.Values.{textAt}
+use borrow.Author.Needs.{needs}
+use Rattle.values.proofs.text_at.Statement.{statement}
+use Rattle.values.proofs.text_at.Tie as tie
+
+is-text-requires : tie.Need-is-text-requires
+is-text-requires c κs = search needs
+
+sub-result : tie.Need-sub-result
+sub-result c = search needs
+
+part-result-start : tie.Need-part-result-start
+part-result-start c = search needs
+
+part-result-end : tie.Need-part-result-end
+part-result-end c = search needs
+
+returns : tie.Need-returns
+unfolding textAt
+returns c = let t : isText (attributeRow (c .before .before .before .before .before .args .w .now) (c .before .before .before .before .before .args .i)) ≡ false = sym (c .before .before .is-text .ensures) ∙ not-true _ (c .before .if1 .taken) in rw t
+
+lowest-requires : tie.Need-lowest-requires
+lowest-requires c κs = search needs
+
+first-value-requires : tie.Need-first-value-requires
+first-value-requires c κs = search needs
+
+shown-requires : tie.Need-shown-requires
+shown-requires c κs = search needs
+
+returns-2 : tie.Need-returns-2
+unfolding textAt
+returns-2 c = let t : isText (attributeRow (c .before .before .before .before .before .before .before .args .w .now) (c .before .before .before .before .before .before .before .args .i)) ≡ true = sym (c .before .before .before .before .is-text .ensures) ∙ not-false _ (c .before .before .before .if1 .left) in
+    rw t (c .shown .ensures ∙ rw (c .before .before .lowest .ensures, c .before .first-value .ensures))
+
+pub text-at-spec : {M : Type 1} → statement M
+text-at-spec =
+    tie.close
+    (tie.spec
+    is-text-requires
+    sub-result
+    part-result-start
+    part-result-end
+    returns
+    lowest-requires
+    first-value-requires
+    shown-requires
+    returns-2)

@@ -1,0 +1,80 @@
+-- A change of an attribute (document 01, A sign's plan): "A change means that the stored value differs afterwards (null differs from every value; floats by
+-- their bits). Each change adds one to the cluster's version".
+use mathlib.Core.Bool.{Bool, true, false, not}
+use mathlib.Core.List.{List, []}
+use Prim.Native.Nat.{ℕ}
+use lib.Dec.{eqb}
+use lib.ListN.{length, getD, set}
+use mir.Syntax.{w64}
+use mir.Val.{ofZ}
+use mathlib.Core.Bool.{cond}
+use Rattle.octets.specs.Store.{store}
+use Rattle.tlv.specs.Octet.{pick}
+use Rattle.tlv.specs.Value.{Datum, null, boolean, unsigned, signed, float, text, other}
+use Rattle.kinds.specs.Limits.{isNull}
+use Rattle.kinds.specs.Stored.{equal, nextVersion}
+use Rattle.schema.specs.Rows.{attributeRow}
+use Rattle.node.specs.Pages.{place}
+use Rattle.values.specs.declared.Values.{Values}
+use Rattle.values.specs.Values.{shownOf}
+
+-- a value's text; other values have none
+abbrev pub textOf : Datum → List ℕ
+textOf null = []
+textOf (boolean b) = []
+textOf (unsigned n) = []
+textOf (signed z) = []
+textOf (float n) = []
+textOf (text b) = b
+textOf other = []
+
+abbrev pub isText : Datum → Bool
+isText null = false
+isText (boolean b) = false
+isText (unsigned n) = false
+isText (signed z) = false
+isText (float n) = false
+isText (text b) = true
+isText other = false
+
+-- the 64 bits that a value is stored as; a text's are its length
+unfoldable pub wordFor : Datum → ℕ
+wordFor null = 0
+wordFor (boolean b) = cond b 1 0
+wordFor (unsigned n) = n
+wordFor (signed z) = ofZ w64 z
+wordFor (float n) = n
+wordFor (text b) = length b
+wordFor other = 0
+
+-- whether a value differs from what is held as 64 bits and a null mark, a text from what is shown
+unfoldable pub differsFrom : ℕ → Bool → List ℕ → Datum → Bool
+differsFrom word held shown d =
+    pick held (not (isNull d)) (pick (isNull d) true (not (pick (isText d) (equal shown (textOf d)) (eqb word (wordFor d)))))
+
+unfoldable pub changes : List ℕ → List ℕ → List ℕ → Values → ℕ → Datum → Bool
+unfolding differsFrom
+changes w defaults edits v i d = differsFrom (getD (v .words) i 0) (getD (v .nulls) i false) (shownOf w defaults edits v i) d
+
+-- attribute i holds another value from now on; a changed text is shown from the page of edits
+unfoldable pub setAt : List ℕ → Values → ℕ → Datum → Values
+setAt w v i d =
+    record {
+      words = set (v .words) i (wordFor d);
+      nulls = set (v .nulls) i (isNull d);
+      edited = pick (isText d) (set (v .edited) i true) (v .edited);
+      versions = set (v .versions) (attributeRow w i .clusterIndex) (nextVersion (getD (v .versions) (attributeRow w i .clusterIndex) 0));
+    }
+
+-- the page of edits then: exactly the text's bytes at its place; null writes nothing
+unfoldable pub editsSet : List ℕ → List ℕ → ℕ → Datum → List ℕ
+editsSet w edits i d = store edits (place (attributeRow w i .first)) (textOf d)
+
+-- STORING a value: nothing moves unless it is a change
+unfoldable pub storedValues : List ℕ → List ℕ → List ℕ → Values → ℕ → Datum → Values
+unfolding changes setAt
+storedValues w defaults edits v i d = pick (changes w defaults edits v i d) (setAt w v i d) v
+
+unfoldable pub storedEdits : List ℕ → List ℕ → List ℕ → Values → ℕ → Datum → List ℕ
+unfolding changes editsSet
+storedEdits w defaults edits v i d = pick (changes w defaults edits v i d) (editsSet w edits i d) edits

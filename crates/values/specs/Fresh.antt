@@ -1,0 +1,24 @@
+-- What a fresh sign holds (document 01, A sign's plan): first values, given versions, texts from the factory page.
+use mathlib.Core.Bool.{false}
+use mathlib.Core.List.{List}
+use Prim.Native.Nat.{ℕ}
+use lib.ListN.{replicate}
+use Rattle.schema.specs.Layout.{clusterLimit, attributeLimit}
+use Rattle.schema.specs.Rows.{clusterRow, attributeRow, clusterCount, attributeCount, filled}
+use Rattle.node.specs.Attributes.{firstWord}
+use Rattle.values.specs.declared.Values.{Values}
+
+abbrev pub firstWords : List ℕ → List ℕ
+firstWords w = filled 0 (λ i. firstWord (attributeRow w i)) attributeLimit (attributeCount w)
+
+abbrev pub firstVersions : List ℕ → List ℕ
+firstVersions w = filled 0 (λ i. clusterRow w i .version) clusterLimit (clusterCount w)
+
+unfoldable pub freshValues : List ℕ → Values
+freshValues w =
+    record {
+      words = firstWords w;
+      nulls = replicate attributeLimit false;
+      edited = replicate attributeLimit false;
+      versions = firstVersions w;
+    }

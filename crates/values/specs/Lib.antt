@@ -1,0 +1,4 @@
+pub mod Values
+pub mod Change
+pub mod Fresh
+pub mod Valid

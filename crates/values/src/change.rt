@@ -1,0 +1,138 @@
+// Storing a value: it moves nothing unless it differs from the one held.
+ghost use mathlib.Core.Path.{_≡_};
+ghost use mathlib.Core.Bool.{true};
+ghost use mathlib.Core.List.{List};
+ghost use Prim.Native.Nat.{ℕ, _<_, _+_, _≤_};
+ghost use lib.ListN.{length};
+ghost use Rattle.tlv.specs.Value.{datumIn};
+ghost use Rattle.schema.specs.Layout.{attributeLimit, clusterLimit};
+ghost use Rattle.schema.specs.Rows.{attributeRow};
+ghost use Rattle.node.specs.Pages.{place};
+ghost use Rattle.values.specs.Values.{textAt};
+ghost use Rattle.values.specs.Change.{textOf, isText, wordFor, differsFrom, setAt, editsSet, storedValues, storedEdits};
+use super::Values;
+use super::text_at;
+use kinds::limits::is_null;
+use kinds::stored::next_version;
+use kinds::stored::same_bytes;
+use kinds::stored::word_of;
+use node::pages::part;
+use node::pages::store_text;
+use schema::WORDS;
+use tlv::Value;
+
+// The bytes of a text in its message; none of any other value.
+pub fn bytes_of(v: Value, src: &[u8]) -> &[u8]
+    ensures { λ r. ⌜ now r ≡ textOf (datumIn (now (src .entry)) v) ⌝ }
+{
+    let Value::Text { start, len } = v else {
+        return &src[0..0];
+    };
+    part(src, start, len)
+}
+
+pub fn is_text(v: Value) -> bool
+    ensures { λ r. ⌜ ((s : List ℕ) → r ≡ isText (datumIn s v)) ⌝ }
+{
+    let Value::Text { .. } = v else {
+        return false;
+    };
+    true
+}
+
+// The 64 bits that a value is stored as; a text has the bytes given.
+pub fn stored_word(v: Value, src: &[u8]) -> u64
+    ensures { λ r. ⌜ r ≡ wordFor (datumIn (now (src .entry)) v) ⌝ }
+{
+    if is_text(v) {
+        let bytes = bytes_of(v, src);
+        return bytes.len() as u64;
+    }
+    word_of(v)
+}
+
+// Whether a value differs from what attribute i holds.
+pub fn differs_from<'a>(word: u64, null: bool, text: &'a [u8], v: Value, src: &'a [u8]) -> bool
+    ensures { λ r. ⌜ r ≡ differsFrom word null (now (text .entry)) (datumIn (now (src .entry)) v) ⌝ }
+{
+    let new_null = is_null(v);
+    if null {
+        return !new_null;
+    }
+    if new_null {
+        return true;
+    }
+    if is_text(v) {
+        return !same_bytes(text, bytes_of(v, src));
+    }
+    word != stored_word(v, src)
+}
+
+// Whether a value differs from what attribute i holds and shows.
+fn differs_at<'a>(
+    w: &'a [u64; WORDS],
+    defaults: &'a [u8],
+    edits: &'a [u8],
+    i: usize,
+    word: u64,
+    null: bool,
+    edited: bool,
+    new: Value,
+    src: &'a [u8],
+) -> bool
+    requires { ⌜ i < attributeLimit ⌝ }
+    ensures { λ r. ⌜ r ≡ differsFrom word null (textAt (now (w .entry)) (now (defaults .entry)) (now (edits .entry)) i word edited) (datumIn (now (src .entry)) new) ⌝ }
+{
+    let text = text_at(w, defaults, edits, i, word, edited);
+    differs_from(word, null, text, new, src)
+}
+
+// Attribute i holds another value from now on.
+pub fn set_value(w: &[u64; WORDS], v: Values, i: usize, new: Value, src: &[u8]) -> Values
+    requires { ⌜ (i < attributeLimit) × (attributeRow (now w) i .clusterIndex < clusterLimit) ⌝ }
+    ensures { λ r. ⌜ r ≡ setAt (now (w .entry)) v i (datumIn (now (src .entry)) new) ⌝ }
+{
+    let mut next = v;
+    let k = schema::attribute_cluster(w, i);
+    next.words[i] = stored_word(new, src);
+    next.nulls[i] = is_null(new);
+    if is_text(new) {
+        next.edited[i] = true;
+    }
+    next.versions[k] = next_version(next.versions[k]);
+    next
+}
+
+// Its text, if it is one, goes to its place in the page of edits.
+pub fn set_text(w: &[u64; WORDS], edits: &mut [u8], i: usize, new: Value, src: &[u8])
+    requires { ⌜ (i < attributeLimit) × (isText (datumIn (now src) new) ≡ true → place (attributeRow (now w) i .first) + length (textOf (datumIn (now src) new)) ≤ length (now edits)) ⌝ }
+    ensures { λ _. ⌜ now (edits .exit) ≡ editsSet (now (w .entry)) (now (edits .entry)) i (datumIn (now (src .entry)) new) ⌝ }
+{
+    if is_text(new) {
+        let rank = schema::first_value(w, i) as usize;
+        store_text(edits, rank, bytes_of(new, src));
+    }
+}
+
+// Stores a value that the limits allow: a change moves the value, the version and the text, the value held moves nothing.
+pub fn store<'a>(
+    w: &'a [u64; WORDS],
+    defaults: &'a [u8],
+    edits: &mut [u8],
+    v: Values,
+    i: usize,
+    new: Value,
+    src: &'a [u8],
+) -> Values
+    requires { ⌜ (i < attributeLimit) × (attributeRow (now w) i .clusterIndex < clusterLimit) × (isText (datumIn (now src) new) ≡ true → place (attributeRow (now w) i .first) + length (textOf (datumIn (now src) new)) ≤ length (now edits)) ⌝ }
+    ensures { λ r. ⌜ (r ≡ storedValues (now (w .entry)) (now (defaults .entry)) (now (edits .entry)) v i (datumIn (now (src .entry)) new)) × (now (edits .exit) ≡ storedEdits (now (w .entry)) (now (defaults .entry)) (now (edits .entry)) v i (datumIn (now (src .entry)) new)) ⌝ }
+{
+    let word = v.words[i];
+    let null = v.nulls[i];
+    let edited = v.edited[i];
+    if !differs_at(w, defaults, edits, i, word, null, edited, new, src) {
+        return v;
+    }
+    set_text(w, edits, i, new, src);
+    set_value(w, v, i, new, src)
+}

@@ -1,0 +1,49 @@
+// What a fresh sign holds.
+ghost use mathlib.Core.Path.{_≡_};
+ghost use mathlib.Core.Bool.{true};
+ghost use Rattle.schema.specs.Check.{wellFormed};
+ghost use Rattle.values.specs.Fresh.{firstWords, firstVersions, freshValues};
+use super::Values;
+use node::decode::first_word;
+use schema::ATTRIBUTES;
+use schema::CLUSTERS;
+use schema::WORDS;
+
+fn first_words(w: &[u64; WORDS]) -> [u64; ATTRIBUTES]
+    ensures { λ r. ⌜ r ≡ firstWords (now (w .entry)) ⌝ }
+{
+    let n = schema::attribute_count(w);
+    let mut words = [0u64; ATTRIBUTES];
+    let mut i = 0;
+    while i < n {
+        words[i] = first_word(w, i);
+        i += 1;
+    }
+    words
+}
+
+fn first_versions(w: &[u64; WORDS]) -> [u32; CLUSTERS]
+    requires { ⌜ wellFormed (now w) ≡ true ⌝ }
+    ensures { λ r. ⌜ r ≡ firstVersions (now (w .entry)) ⌝ }
+{
+    let n = schema::cluster_count(w);
+    let mut versions = [0u32; CLUSTERS];
+    let mut i = 0;
+    while i < n {
+        versions[i] = schema::cluster_version(w, i) as u32;
+        i += 1;
+    }
+    versions
+}
+
+pub fn fresh(w: &[u64; WORDS]) -> Values
+    requires { ⌜ wellFormed (now w) ≡ true ⌝ }
+    ensures { λ r. ⌜ r ≡ freshValues (now (w .entry)) ⌝ }
+{
+    Values {
+        words: first_words(w),
+        nulls: [false; ATTRIBUTES],
+        edited: [false; ATTRIBUTES],
+        versions: first_versions(w),
+    }
+}
