@@ -1,0 +1,61 @@
+-- The exchange rules (document 01, Envelope): what a message means for the exchange that is being served. With `last` the newest exchange served and k its
+-- newest reply.
+use mathlib.Core.Bool.{Bool, _&&_, _||_, not}
+use Prim.Native.Nat.{ℕ, _+_}
+use lib.Dec.{eqb, ltb, leb}
+use Rattle.tlv.specs.Octet.{pick}
+use Rattle.exchange.specs.declared.Step.{Step}
+use Rattle.exchange.specs.declared.Step.the-variants.{Silence, Begin, Repeat, Next, Close}
+use Rattle.exchange.specs.declared.Progress.{Progress}
+
+-- "Opcodes (000): 1 Status Response, 2 Read, 5 Report, 6 Write, 7 Write Response."
+abbrev pub statusOpcode : ℕ
+statusOpcode = 1
+
+abbrev pub readOpcode : ℕ
+readOpcode = 2
+
+abbrev pub reportOpcode : ℕ
+reportOpcode = 5
+
+abbrev pub writeOpcode : ℕ
+writeOpcode = 6
+
+abbrev pub writeResponseOpcode : ℕ
+writeResponseOpcode = 7
+
+-- a message that may begin an exchange
+unfoldable pub beginning : ℕ → Bool
+beginning opcode = eqb opcode readOpcode || eqb opcode writeOpcode
+
+-- refusal 4, "opcode not for this end": a sign takes 1, 2 and 6
+unfoldable pub forServer : ℕ → Bool
+unfolding beginning
+forServer opcode = eqb opcode statusOpcode || beginning opcode
+
+-- the highest turn of 16 bits
+abbrev pub maxTurn : ℕ
+maxTurn = 65535
+
+-- "opcode 2 or 6, turn 0, exchange above `last`: ends the old exchange, becomes `last`"; "exchange `last`, k = 1: the kept reply (or kept silence) again"
+unfoldable pub onRequest : Progress → ℕ → ℕ → Step
+onRequest x exchange turn =
+    pick (eqb turn 0)
+    (pick (ltb (x .last) exchange) Begin
+    (pick (eqb exchange (x .last) && (eqb (x .turn) 1 && not (x .closed))) Repeat Silence))
+    Silence
+
+-- "turn k, when more was promised, gets reply k + 1. Another status at turn k, when more was promised, closes the exchange"; there is no turn after the highest
+abbrev pub onPromised : ℕ → ℕ → Step
+onPromised k code = pick (eqb code 0) (pick (ltb k maxTurn) Next Silence) Close
+
+-- "success: turn k - 1 (at least 1) gets the kept reply again"
+abbrev pub onEarlier : ℕ → ℕ → ℕ → Step
+onEarlier k turn code = pick (eqb code 0 && (leb 1 turn && eqb (turn + 1) k)) Repeat Silence
+
+-- a status with this code; "closed means silence"
+unfoldable pub onStatus : Progress → ℕ → ℕ → ℕ → Step
+onStatus x exchange turn code =
+    pick (eqb exchange (x .last) && not (x .closed))
+    (pick (eqb turn (x .turn) && x .promised) (onPromised (x .turn) code) (onEarlier (x .turn) turn code))
+    Silence
