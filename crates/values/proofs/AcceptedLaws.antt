@@ -36,7 +36,7 @@ pub record Accepted (k : Kind) (nullable : Bool) (d : Datum) : Type 0 where
 
 module _ (s : List ℕ) (nullable : Bool) where
   -- only a text's kind allows a text
-  text-kind : (k : Kind) (a n : ℕ) → judgedIn s k nullable (Parsed.Text a n) ≡ Success → k ≡ Kinds.Text
+  pub text-kind : (k : Kind) (a n : ℕ) → judgedIn s k nullable (Parsed.Text a n) ≡ Success → k ≡ Kinds.Text
   unfolding judgedIn against
   text-kind Kinds.Boolean a n h = cc (also-wrong (inside s (Parsed.Text a n)))
   text-kind (Kinds.Unsigned l u) a n h = cc (also-wrong (inside s (Parsed.Text a n)))
@@ -58,7 +58,7 @@ module _ (s : List ℕ) (nullable : Bool) where
   judged-word k (Parsed.Text a n) h = sym (part-length s a n (judged k a n h .inside))
   judged-word k Parsed.Other h = refl
 
-  bytes-judged : (k : Kind) (v : Value) → judgedIn s k nullable v ≡ Success → (length (textOf (datumIn s v)) ≤ textSize) × (wellFormed (textOf (datumIn s v)) ≡ true)
+  pub bytes-judged : (k : Kind) (v : Value) → judgedIn s k nullable v ≡ Success → (length (textOf (datumIn s v)) ≤ textSize) × (wellFormed (textOf (datumIn s v)) ≡ true)
   unfolding wellFormed completes
   bytes-judged k Parsed.Null h = (omega arith, refl)
   bytes-judged k (Parsed.Boolean b) h = (omega arith, refl)

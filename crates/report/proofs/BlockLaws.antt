@@ -1,0 +1,105 @@
+-- The blocks of a request, place by place.
+use mathlib.Core.Path.{_≡_, refl, sym, ap, _∙_}
+use mathlib.Core.Bool.{Bool, true, false, false≢true}
+use mathlib.Core.List.{List, [], _∷_, _++_}
+use Prim.Native.Nat.{ℕ, suc, _+_, _-_, _≤_, _<_}
+use native.Mathlib.Numerals.{add-one}
+use native.Mathlib.Omega.{arith}
+use lib.ListN.{length, getD, take, drop, length-take, drop-of-length-le}
+use lib.Seq.{drop-cons, getD-take}
+use Rattle.tlv.specs.Octet.{pick}
+use Rattle.tlv.specs.Decode.{Opt}
+use Rattle.tlv.specs.Decode.Opt.{just, nothing}
+use Rattle.interaction_writer.specs.Block.{Block}
+use Rattle.schema.specs.Layout.{attributeLimit}
+use Rattle.schema.specs.Rows.{attributeCount}
+use Rattle.acl.specs.declared.Grants.{Grants}
+use Rattle.selection.specs.Asked.{concrete}
+use Rattle.selection.specs.declared.asked.Asked.{Asked}
+use Rattle.selection.specs.declared.items.Item.{Item}
+use Rattle.selection.specs.declared.items.Item.the-variants as item
+use Rattle.selection.specs.Items.{span, itemAt}
+use Rattle.selection.proofs.ItemLaws.{item-index}
+use Rattle.report.specs.Blocks.{View, Placed, isNothing, blockOf, blockAt, entry, collect, pathBlocks, pathsBlocks}
+
+-- what a place has is nothing, or a block
+pub no-block : (s : View) (p : Asked) (x : Item) → isNothing x ≡ true → blockOf (s .schema) (s .values) (s .defaults) (s .edits) p x ≡ nothing
+unfolding blockOf
+no-block s p (item.Value i) h = cc
+no-block s p (item.Status code) h = cc
+no-block s p item.Nothing h = refl
+
+pub record There (o : Opt Block) : Type 0 where
+  pub block : Block
+  pub there : o ≡ just block
+
+pub some-block : (s : View) (p : Asked) (x : Item) → isNothing x ≡ false → There (blockOf (s .schema) (s .values) (s .defaults) (s .edits) p x)
+unfolding blockOf
+some-block s p (item.Value i) h = record { block = _; there = refl }
+some-block s p (item.Status code) h = record { block = _; there = refl }
+some-block s p item.Nothing h = absurd (false≢true (sym h))
+
+-- a value that stands at a place is that of one of the schema's attributes
+pub value-index : (w : List ℕ) (g : Grants) (skips : List Bool) (p : Asked) (i : ℕ) (x : Item) → i < span w p → x ≡ itemAt w g skips p i → (j : ℕ) → x ≡ item.Value j → j < attributeCount w
+value-index w g skips p i x h e j q = item-index w g skips p i j h (sym e ∙ q)
+
+-- a path has at most as many places as a schema has attributes
+pub span-most : (w : List ℕ) (p : Asked) → span w p ≤ attributeLimit
+unfolding span
+span-most w p = by-form (concrete p)
+  where
+    by-form : (b : Bool) → pick b 1 (attributeCount w) ≤ attributeLimit
+    by-form true = omega arith
+    by-form false = omega arith
+
+pub entry-append : (k i : ℕ) (o : Opt Block) (l m : List Placed) → entry k i o l ++ m ≡ entry k i o (l ++ m)
+entry-append k i (just b) l m = refl
+entry-append k i nothing l m = refl
+
+module _ (s : View) (k : ℕ) (p : Asked) (ps : List Asked) where
+  -- a path has no block after its places
+  pub path-past : (i : ℕ) → span (s .schema) p ≤ i → pathsBlocks s k i (p ∷ ps) ≡ pathsBlocks s (k + 1) 0 ps
+  unfolding pathsBlocks pathBlocks collect
+  path-past i h = let q : span (s .schema) p - i ≡ 0 = omega arith in rw q
+
+  -- at a place there is what stands there, then what follows
+  pub path-step : (i : ℕ) (o : Opt Block) → i < span (s .schema) p → blockAt s p i ≡ o → pathsBlocks s k i (p ∷ ps) ≡ entry k i o (pathsBlocks s k (i + 1) (p ∷ ps))
+  unfolding pathsBlocks pathBlocks collect
+  path-step i o h e =
+      let q : span (s .schema) p - i ≡ suc (span (s .schema) p - (i + 1)) = omega arith in
+      rw (q, e) (entry-append k i o (collect k (blockAt s p) (span (s .schema) p - (i + 1)) (i + 1)) (pathsBlocks s (k + 1) 0 ps))
+
+-- the blocks from place i of path k on, of the first n paths
+abbrev pub ahead : View → List Asked → ℕ → ℕ → ℕ → List Placed
+ahead s ps n k i = pathsBlocks s k i (drop k (take n ps))
+
+module _ (s : View) (ps : List Asked) (n : ℕ) (whole : n ≤ length ps) where
+  len : length (take n ps) ≡ n
+  len = length-take n ps ∙ omega arith
+
+  pub ahead-done : (k i : ℕ) → n ≤ k → ahead s ps n k i ≡ []
+  unfolding pathsBlocks
+  ahead-done k i l = ap (pathsBlocks s k i) (drop-of-length-le (take n ps) {i = k} (omega (arith, len)))
+
+  module _ (k i : ℕ) (d : Asked) (l : k < n) where
+    here : drop k (take n ps) ≡ getD ps k d ∷ drop (k + 1) (take n ps)
+    here =
+        drop-cons (take n ps) k d (omega (arith, len))
+        ∙ ap (λ (p : Asked). p ∷ drop (suc k) (take n ps)) (getD-take n ps k d l)
+        ∙ ap (λ (j : ℕ). getD ps k d ∷ drop j (take n ps)) (sym (add-one k))
+
+    pub ahead-past : span (s .schema) (getD ps k d) ≤ i → ahead s ps n k i ≡ ahead s ps n (k + 1) 0
+    ahead-past h = ap (pathsBlocks s k i) here ∙ path-past s k (getD ps k d) (drop (k + 1) (take n ps)) i h
+
+    module _ (h : i < span (s .schema) (getD ps k d)) (x : Item) (e : x ≡ itemAt (s .schema) (s .grants) (s .skips) (getD ps k d) i) where
+      ahead-step : (o : Opt Block) → blockOf (s .schema) (s .values) (s .defaults) (s .edits) (getD ps k d) x ≡ o → ahead s ps n k i ≡ entry k i o (ahead s ps n k (i + 1))
+      ahead-step o q =
+          ap (pathsBlocks s k i) here
+          ∙ path-step s k (getD ps k d) (drop (k + 1) (take n ps)) i o h (ap (blockOf (s .schema) (s .values) (s .defaults) (s .edits) (getD ps k d)) (sym e) ∙ q)
+          ∙ ap (λ (qs : List Asked). entry k i o (pathsBlocks s k (i + 1) qs)) (sym here)
+
+      pub ahead-none : isNothing x ≡ true → ahead s ps n k i ≡ ahead s ps n k (i + 1)
+      ahead-none t = ahead-step nothing (no-block s (getD ps k d) x t)
+
+      pub ahead-block : (b : Block) → blockOf (s .schema) (s .values) (s .defaults) (s .edits) (getD ps k d) x ≡ just b → ahead s ps n k i ≡ record { path = k; index = i; block = b } ∷ ahead s ps n k (i + 1)
+      ahead-block b q = ahead-step (just b) q

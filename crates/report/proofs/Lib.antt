@@ -1,0 +1,7 @@
+pub mod OfferLaws
+pub mod ValueLaws
+pub mod BlockLaws
+pub mod FillLaws
+pub mod PartLaws
+pub mod ChunkLaws
+pub mod ReadLaws

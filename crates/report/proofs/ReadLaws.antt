@@ -1,0 +1,183 @@
+-- A whole read of a sign that keeps the rules: every block has room in a part, so the parts carry all of them.
+use mathlib.Core.Path.{_≡_, refl, sym, ap, subst, _∙_}
+use mathlib.Core.Bool.{Bool, true, false}
+use mathlib.Core.List.{List, [], _∷_, _++_}
+use Prim.Native.Nat.{ℕ, zero, suc, _+_, _-_, _^_, _≤_, _<_}
+use native.Mathlib.Omega.{arith}
+use borrow.Author.Tests.{leb-true, eqb-true}
+use lib.Dec.{eqb}
+use lib.ListN.{length, getD, drop}
+use Rattle.utf8.specs.WellFormed as utf8
+use Rattle.tlv.specs.Octet.{pick}
+use Rattle.tlv.specs.Decode.{Opt}
+use Rattle.tlv.specs.Decode.Opt.{just, nothing}
+use Rattle.interaction_writer.specs.Spelling.{Each}
+use Rattle.interaction_writer.specs.Block.{Block, ShortText}
+use Rattle.interaction_writer.specs.Meaning.{PathFits}
+use Rattle.kinds.specs.declared.Kind.{Kind}
+use Rattle.kinds.specs.declared.Kind.the-variants as Kinds
+use Rattle.kinds.specs.Limits.{textMax}
+use Rattle.kinds.specs.Stored.{held}
+use Rattle.schema.specs.Rows.{attributeRow, attributeCount, isText}
+use Rattle.schema.specs.Rules.{Path, pathAt}
+use Rattle.schema.specs.Check.{wellFormed}
+use Rattle.schema.specs.declared.Found.{Found}
+use Rattle.schema.specs.declared.Found.the-variants as found
+use Rattle.schema.specs.Find.{findCluster, findAttribute, hasEndpoint}
+use Rattle.schema.proofs.BoolLaws.{left, right}
+use Rattle.schema.proofs.RulesLaws.{well-formed-rules, cluster-rules, attribute-rules}
+use Rattle.acl.specs.declared.Grants.{Grants}
+use Rattle.acl.specs.Access.{isGranted}
+use Rattle.node.specs.Attributes.{kindOf}
+use Rattle.values.specs.declared.Values.{Values}
+use Rattle.values.specs.Values.{heldDatum, datumAt, shownOf}
+use Rattle.values.specs.Valid.{shownRight, valueRight, valuesRight}
+use Rattle.values.proofs.ValueLaws.{textual, text-row}
+use Rattle.values.proofs.ValidLaws.{right-at}
+use Rattle.selection.specs.declared.asked.Asked.{Asked}
+use Rattle.selection.specs.declared.items.Item.{Item}
+use Rattle.selection.specs.declared.items.Item.the-variants as item
+use Rattle.selection.specs.declared.locate.Located.the-variants.{Refused}
+use Rattle.selection.specs.Status.{unsupportedEndpoint, unsupportedCluster, unsupportedAttribute, unsupportedRead, unsupportedAccess}
+use Rattle.selection.specs.Locate.{attributeFound, clusterFound, located}
+use Rattle.selection.specs.Asked.{asksFor, concrete}
+use Rattle.selection.specs.Items.{readItem, silent, concreteFound, concreteItem, wildcardItem, span, itemAt}
+use Rattle.selection.proofs.AskedLaws.{cluster-of, path-of}
+use Rattle.report.specs.declared.Place.{Place}
+use Rattle.report.specs.Blocks.{View, Sound, Named, Placed, valueBlock, blockOf, blockAt, entry, collect, pathBlocks, pathsBlocks, blocksFrom}
+use Rattle.report.specs.Chunk.{blockRoom, size, Short}
+use Rattle.report.specs.Part.{partsFrom, together}
+use Rattle.report.proofs.BlockLaws.{value-index, entry-append}
+use Rattle.report.proofs.ChunkLaws.{block-small, all-parts, few-parts, same-parts}
+
+-- a value that its limits allow, and that is shown whole if it is a text, is short
+short-held : (k : Kind) (nullable : Bool) (word : ℕ) (isNull : Bool) (shown : List ℕ) → held k nullable word isNull ≡ true → pick isNull true (pick (textual k) (shownRight shown word) true) ≡ true → ShortText (heldDatum k word isNull shown)
+unfolding held heldDatum ShortText shownRight
+short-held k nullable word true shown h s = tt
+short-held Kinds.Boolean nullable word false shown h s = tt
+short-held (Kinds.Unsigned l u) nullable word false shown h s = tt
+short-held (Kinds.Signed l u) nullable word false shown h s = tt
+short-held (Kinds.Float r) nullable word false shown h s = tt
+short-held Kinds.Text nullable word false shown h s = omega (arith, leb-true word textMax h, eqb-true (length shown) word (left (eqb (length shown) word) (utf8.wellFormed shown) s))
+
+module _ (w defaults edits : List ℕ) (v : Values) (right-values : valuesRight w defaults edits v ≡ true) (i : ℕ) (l : i < attributeCount w) where
+  short-datum : ShortText (datumAt w defaults edits v i)
+  unfolding datumAt valueRight
+  short-datum =
+      let a = attributeRow w i in
+      let word = getD (v .words) i 0 in
+      let isNull = getD (v .nulls) i false in
+      let h = right-at w defaults edits v right-values i l in
+      let s : pick isNull true (pick (isText a) (shownRight (shownOf w defaults edits v i) word) true) ≡ true = right (held (kindOf a) (eqb (a .nullable) 1) word isNull) _ h in
+      short-held (kindOf a) (eqb (a .nullable) 1) word isNull (shownOf w defaults edits v i) (left (held (kindOf a) (eqb (a .nullable) 1) word isNull) _ h) (rw (text-row a) at s)
+
+-- the path of an attribute has its widths
+path-fits : (w : List ℕ) → wellFormed w ≡ true → (i : ℕ) → i < attributeCount w → PathFits (pathAt w i .endpoint) (pathAt w i .cluster) (pathAt w i .attribute)
+path-fits w h i l =
+    let k = cluster-of w h i l in
+    let c = cluster-rules w (well-formed-rules w .0 h) (attributeRow w i .clusterIndex) k in
+    let a = attribute-rules w (well-formed-rules w .0 h) i l in
+    subst (λ (p : Path). PathFits (p .endpoint) (p .cluster) (p .attribute)) (path-of w h i l refl refl refl refl)
+    (record { endpoint-fits = c .endpoint; cluster-fits = c .cluster; attribute-fits = a .id })
+
+-- a status that a path gets is a byte
+never : {A : Type 0} → _≡_ {A = ℕ} 0 1 → A
+never e = absurd (omega arith)
+
+module _ (w : List ℕ) (g : Grants) (skips : List Bool) (code : ℕ) where
+  read-code : (i : ℕ) → readItem w g skips i ≡ item.Status code → code < 2 ^ 8
+  unfolding readItem
+  read-code i h = go (eqb (attributeRow w i .read) 0) (isGranted g (attributeRow w i .clusterIndex) (attributeRow w i .read)) (getD skips (attributeRow w i .clusterIndex) false) h
+    where
+      go : (a b c : Bool) → pick a (item.Status unsupportedRead) (pick b (pick c item.Nothing (item.Value i)) (item.Status unsupportedAccess)) ≡ item.Status code → code < 2 ^ 8
+      go true b c q = let e : unsupportedRead ≡ code = cc in omega arith
+      go false true true q = never (cc)
+      go false true false q = never (cc)
+      go false false c q = let e : unsupportedAccess ≡ code = cc in omega arith
+
+  item-code : (p : Asked) (i : ℕ) → itemAt w g skips p i ≡ item.Status code → code < 2 ^ 8
+  unfolding itemAt concreteItem wildcardItem located
+  item-code p i h = by-form (concrete p) h
+    where
+      by-attribute : (f : Found) → concreteFound w g skips (attributeFound f) ≡ item.Status code → code < 2 ^ 8
+      by-attribute (found.At j) q = read-code j q
+      by-attribute found.Nothing q = let e : unsupportedAttribute ≡ code = cc in omega arith
+
+      by-cluster : (f : Found) → concreteFound w g skips (clusterFound w (p .attribute) f) ≡ item.Status code → code < 2 ^ 8
+      by-cluster (found.At k) q = by-attribute (findAttribute w k (p .attribute)) q
+      by-cluster found.Nothing q = let e : unsupportedCluster ≡ code = cc in omega arith
+
+      by-endpoint : (b : Bool) → concreteFound w g skips (pick b (clusterFound w (p .attribute) (findCluster w (p .endpoint) (p .cluster))) (Refused unsupportedEndpoint)) ≡ item.Status code → code < 2 ^ 8
+      by-endpoint true q = by-cluster (findCluster w (p .endpoint) (p .cluster)) q
+      by-endpoint false q = let e : unsupportedEndpoint ≡ code = cc in omega arith
+
+      quiet : (b : Bool) (x : Item) → pick b (silent x) item.Nothing ≡ item.Status code → code < 2 ^ 8
+      quiet true (item.Value j) q = never (cc)
+      quiet true (item.Status c) q = never (cc)
+      quiet true item.Nothing q = never (cc)
+      quiet false x q = never (cc)
+
+      by-form : (b : Bool) → pick b (concreteFound w g skips (located w (p .endpoint) (p .cluster) (p .attribute))) (wildcardItem w g skips p i) ≡ item.Status code → code < 2 ^ 8
+      by-form true q = by-endpoint (hasEndpoint w (p .endpoint)) q
+      by-form false q = quiet (asksFor p (pathAt w i)) (readItem w g skips i) q
+
+each-drop : {A : Type 0} (P : A → Type 0) (n : ℕ) (l : List A) → Each P l → Each P (drop n l)
+unfolding Each
+each-drop P zero l h = h
+each-drop P (suc n) [] h = h
+each-drop P (suc n) (x ∷ l) h = each-drop P n l (h .1)
+
+each-small : (l : List Placed) → Each (λ (x : Placed). Short (x .block)) l → Each (λ (x : Placed). size x ≤ blockRoom) l
+unfolding Each
+each-small [] h = tt
+each-small (x ∷ l) h = (omega (arith, block-small (x .block) (h .0)), each-small l (h .1))
+
+module _ (s : View) (sound : Sound s) where
+  -- every block is short
+  short-item : (p : Asked) (i : ℕ) → i < span (s .schema) p → Named p → (x : Item) → x ≡ itemAt (s .schema) (s .grants) (s .skips) p i → (b : Block) → blockOf (s .schema) (s .values) (s .defaults) (s .edits) p x ≡ just b → Short b
+  unfolding blockOf valueBlock Short
+  short-item p i l f (item.Value j) e b q =
+      let h = value-index (s .schema) (s .grants) (s .skips) p i (item.Value j) l e j refl in
+      let y : valueBlock (s .schema) (s .values) (s .defaults) (s .edits) j ≡ b = cc in
+      subst Short y (sound .version-fits _, (path-fits (s .schema) (sound .schema-right) j h, short-datum (s .schema) (s .defaults) (s .edits) (s .values) (sound .values-right) j h))
+  short-item p i l f (item.Status code) e b q =
+      let y : Block.status (p .endpoint) (p .cluster) (p .attribute) code ≡ b = cc in
+      subst Short y (f, item-code (s .schema) (s .grants) (s .skips) code p i (sym e))
+  short-item p i l f item.Nothing e b q = never (cc)
+
+  short-entry : (k i : ℕ) (o : Opt Block) (l : List Placed) → ((b : Block) → o ≡ just b → Short b) → Each (λ (x : Placed). Short (x .block)) l → Each (λ (x : Placed). Short (x .block)) (entry k i o l)
+  unfolding Each
+  short-entry k i nothing l f h = h
+  short-entry k i (just b) l f h = (f b refl, h)
+
+  -- those of a path from place i on, with short ones after them
+  short-path : (k : ℕ) (p : Asked) → Named p → (rest : List Placed) → Each (λ (x : Placed). Short (x .block)) rest → (n i : ℕ) → n ≤ span (s .schema) p - i → Each (λ (x : Placed). Short (x .block)) (collect k (blockAt s p) n i ++ rest)
+  unfolding collect
+  short-path k p f rest h zero i l = h
+  short-path k p f rest h (suc n) i l =
+      subst (Each (λ (x : Placed). Short (x .block))) (sym (entry-append k i (blockAt s p i) (collect k (blockAt s p) n (i + 1)) rest))
+      (short-entry k i (blockAt s p i) _ (short-item p i (omega arith) f _ refl) (short-path k p f rest h n (i + 1) (omega arith)))
+
+  short-paths : (ps : List Asked) → Each Named ps → (k i : ℕ) → Each (λ (x : Placed). Short (x .block)) (pathsBlocks s k i ps)
+  unfolding pathsBlocks pathBlocks Each
+  short-paths [] h k i = tt
+  short-paths (p ∷ ps) h k i = short-path k p (h .0) (pathsBlocks s (k + 1) 0 ps) (short-paths ps (h .1) (k + 1) 0) (span (s .schema) p - i) i (omega arith)
+
+  module _ (ps : List Asked) (named : Each Named ps) (at : Place) where
+    pub blocks-short : Each (λ (x : Placed). Short (x .block)) (blocksFrom s ps at)
+    unfolding blocksFrom
+    blocks-short = short-paths (drop (at .path) ps) (each-drop Named (at .path) ps named) (at .path) (at .index)
+
+    -- so a part has room for it
+    pub blocks-small : Each (λ (x : Placed). size x ≤ blockRoom) (blocksFrom s ps at)
+    blocks-small = each-small (blocksFrom s ps at) blocks-short
+
+    -- THE PARTS OF A READ TOGETHER CARRY EXACTLY ITS BLOCKS, if the sign does not change meanwhile
+    pub whole-read : together (partsFrom s ps (length (blocksFrom s ps at) + 1) at) ≡ blocksFrom s ps at
+    whole-read =
+        ap together (same-parts s ps (length (blocksFrom s ps at) + 1) at)
+        ∙ all-parts (length (blocksFrom s ps at) + 1) (blocksFrom s ps at) (omega arith) blocks-small
+
+    -- with at most one part more than there are blocks
+    pub few-of-read : (n : ℕ) → length (partsFrom s ps n at) ≤ length (blocksFrom s ps at) + 1
+    few-of-read n = rw (same-parts s ps n at) (few-parts n (blocksFrom s ps at) blocks-small)

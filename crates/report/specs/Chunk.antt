@@ -1,0 +1,54 @@
+-- Chunking (document 01, What the sign answers): "A part takes the next block exactly if the payload stays within 1,024; it promises more exactly if a
+-- further block would follow". Over a list of blocks, whatever they mean and however they were found.
+use mathlib.Core.Bool.{Bool, true, false}
+use mathlib.Core.List.{List, [], _∷_, map}
+use Prim.Native.Nat.{ℕ, _+_, _-_, _^_, _<_}
+use lib.Dec.{leb}
+use lib.ListN.{length}
+use Rattle.tlv.specs.Octet.{pick}
+use Rattle.tlv.specs.Tree.{Tree}
+use Rattle.interaction_writer.specs.Spelling.{spelling}
+use Rattle.interaction_writer.specs.Block.{Block, blockTree, ShortText}
+use Rattle.interaction_writer.specs.Meaning.{PathFits}
+use Rattle.report.specs.declared.Place.{Place}
+use Rattle.report.specs.Blocks.{Placed}
+
+-- "Then a payload of at most 1,024 bytes"; a report's frame has 10 of them
+abbrev pub maxPayload : ℕ
+maxPayload = 1024
+
+abbrev pub frameLength : ℕ
+frameLength = 10
+
+-- what is left for blocks
+abbrev pub blockRoom : ℕ
+blockRoom = maxPayload - frameLength
+
+abbrev pub size : Placed → ℕ
+size x = length (spelling (blockTree (x .block)))
+
+-- the blocks that a part with this room takes, and those that it leaves
+unfoldable pub taken : ℕ → List Placed → List Placed
+taken room [] = []
+taken room (x ∷ l) = pick (leb (size x) room) (x ∷ taken (room - size x) l) []
+
+unfoldable pub left : ℕ → List Placed → List Placed
+left room [] = []
+left room (x ∷ l) = pick (leb (size x) room) (left (room - size x) l) (x ∷ l)
+
+-- "going on just after the last block"
+unfoldable pub after : Place → List Placed → Place
+after at [] = at
+after at (x ∷ l) = after (record { path = x .path; index = x .index + 1 }) l
+
+abbrev pub any : List Placed → Bool
+any [] = false
+any (x ∷ l) = true
+
+abbrev pub trees : List Placed → List Tree
+trees l = map (λ (x : Placed). blockTree (x .block)) l
+
+-- a block with numbers in their widths (document 01, A sign's plan), and with a text of at most 200 bytes if it has one
+unfoldable pub Short : Block → Type 0
+Short (Block.value version e c a d) = (version < 2 ^ 32) × (PathFits e c a × ShortText d)
+Short (Block.status e c a code) = PathFits e c a × (code < 2 ^ 8)

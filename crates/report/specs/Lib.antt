@@ -1,0 +1,4 @@
+pub mod Blocks
+pub mod Chunk
+pub mod Offer
+pub mod Part

@@ -1,0 +1,133 @@
+// One block offered to the buffer: stored if there is room for it, else nothing is.
+ghost use mathlib.Core.Path.{_≡_};
+ghost use mathlib.Core.Bool.{true};
+ghost use Prim.Native.Nat.{ℕ, _<_, _+_, _≤_};
+ghost use lib.ListN.{length};
+ghost use Rattle.tlv.specs.Value.{datumIn};
+ghost use Rattle.tlv_writer.specs.Element.{InPage};
+ghost use Rattle.interaction_writer.specs.Block.{Block};
+ghost use Rattle.schema.specs.Rows.{attributeCount};
+ghost use Rattle.schema.specs.Check.{wellFormed};
+ghost use Rattle.selection.specs.declared.items.Item.the-variants as variants;
+ghost use Rattle.report.specs.Offer.{Offered, OfferedIf};
+ghost use Rattle.report.specs.Blocks.{valuesOf, valueBlock, blockOf};
+use interaction_writer::block::put_data_block;
+use interaction_writer::block::put_status_block;
+use interaction_writer::lengths::data_block_len;
+use interaction_writer::lengths::status_block_len;
+use schema::ATTRIBUTES;
+use schema::CLUSTERS;
+use schema::WORDS;
+use selection::asked::Asked;
+use selection::items::Item;
+use tlv::Value;
+use values::text_at;
+use values::value_at;
+
+fn offer_data(
+    version: u32,
+    endpoint: u16,
+    cluster: u32,
+    attribute: u32,
+    v: Value,
+    page: &[u8],
+    out: &mut [u8],
+    at: usize,
+    room: usize,
+) -> usize
+    requires { ⌜ (InPage (now page) v) × (at + room ≤ length (now out)) ⌝ }
+    ensures { λ r. ⌜ Offered (now (out .entry)) at room (Block.value version endpoint cluster attribute (datumIn (now (page .entry)) v)) (now (out .exit)) r ⌝ }
+{
+    if room < data_block_len(version, endpoint, cluster, attribute, v, page) {
+        return at;
+    }
+    put_data_block(out, at, version, endpoint, cluster, attribute, v, page)
+}
+
+fn offer_status(
+    endpoint: u16,
+    cluster: u32,
+    attribute: u32,
+    code: u8,
+    out: &mut [u8],
+    at: usize,
+    room: usize,
+) -> usize
+    requires { ⌜ at + room ≤ length (now out) ⌝ }
+    ensures { λ r. ⌜ Offered (now (out .entry)) at room (Block.status endpoint cluster attribute code) (now (out .exit)) r ⌝ }
+{
+    if room < status_block_len(endpoint, cluster, attribute, code) {
+        return at;
+    }
+    put_status_block(out, at, endpoint, cluster, attribute, code)
+}
+
+// The value of attribute i.
+fn offer_value<'a>(
+    w: &'a [u64; WORDS],
+    words: &'a [u64; ATTRIBUTES],
+    nulls: &'a [bool; ATTRIBUTES],
+    edited: &'a [bool; ATTRIBUTES],
+    versions: &'a [u32; CLUSTERS],
+    defaults: &'a [u8],
+    edits: &'a [u8],
+    i: usize,
+    out: &mut [u8],
+    at: usize,
+    room: usize,
+) -> usize
+    requires { ⌜ (wellFormed (now w) ≡ true) × ((i < attributeCount (now w)) × (at + room ≤ length (now out))) ⌝ }
+    ensures { λ r. ⌜ Offered (now (out .entry)) at room (valueBlock (now (w .entry)) (valuesOf (now (words .entry)) (now (nulls .entry)) (now (edited .entry)) (now (versions .entry))) (now (defaults .entry)) (now (edits .entry)) i) (now (out .exit)) r ⌝ }
+{
+    let k = schema::attribute_cluster(w, i);
+    let text = text_at(w, defaults, edits, i, words[i], edited[i]);
+    let v = value_at(w, i, words[i], nulls[i], text.len());
+    offer_data(
+        versions[k],
+        schema::cluster_endpoint(w, k) as u16,
+        schema::cluster_id(w, k) as u32,
+        schema::attribute_id(w, i) as u32,
+        v,
+        text,
+        out,
+        at,
+        room,
+    )
+}
+
+// What a path finds at one of its places.
+pub fn offer_item<'a>(
+    w: &'a [u64; WORDS],
+    words: &'a [u64; ATTRIBUTES],
+    nulls: &'a [bool; ATTRIBUTES],
+    edited: &'a [bool; ATTRIBUTES],
+    versions: &'a [u32; CLUSTERS],
+    defaults: &'a [u8],
+    edits: &'a [u8],
+    p: Asked,
+    x: Item,
+    out: &mut [u8],
+    at: usize,
+    room: usize,
+) -> usize
+    requires { ⌜ (wellFormed (now w) ≡ true) × (((i : ℕ) → x ≡ variants.Value i → i < attributeCount (now w)) × (at + room ≤ length (now out))) ⌝ }
+    ensures { λ r. ⌜ OfferedIf (now (out .entry)) at room (blockOf (now (w .entry)) (valuesOf (now (words .entry)) (now (nulls .entry)) (now (edited .entry)) (now (versions .entry))) (now (defaults .entry)) (now (edits .entry)) p x) (now (out .exit)) r ⌝ }
+{
+    match x {
+        Item::Value(i) => offer_value(
+            w,
+            words,
+            nulls,
+            edited,
+            versions,
+            defaults,
+            edits,
+            i,
+            out,
+            at,
+            room,
+        ),
+        Item::Status(code) => offer_status(p.endpoint, p.cluster, p.attribute, code, out, at, room),
+        Item::Nothing => at,
+    }
+}

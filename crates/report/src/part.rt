@@ -1,0 +1,170 @@
+// Blocks filled in from a place of a read on, and the frame around them.
+ghost use mathlib.Core.Path.{_≡_};
+ghost use mathlib.Core.Bool.{true};
+ghost use Prim.Native.Nat.{ℕ, _+_, _≤_};
+ghost use lib.ListN.{length, take};
+ghost use Rattle.schema.specs.Check.{wellFormed};
+ghost use Rattle.interaction.specs.Read.{maxPaths, maxFilters};
+ghost use Rattle.report.specs.Blocks.{isNothing, valuesOf, viewOf, blocksFrom, View};
+ghost use Rattle.report.specs.Chunk.{blockRoom, maxPayload};
+ghost use Rattle.report.specs.Part.{Filling, Made};
+use super::BLOCK_ROOM;
+use super::Filled;
+use super::Place;
+use super::block::offer_item;
+use acl::Grants;
+use interaction::MAX_FILTERS;
+use interaction::MAX_PATHS;
+use interaction::Wanted;
+use interaction_writer::report::put_report_close;
+use interaction_writer::report::put_report_empty;
+use interaction_writer::report::put_report_open;
+use schema::ATTRIBUTES;
+use schema::CLUSTERS;
+use schema::WORDS;
+use selection::asked::Asked;
+use selection::filters::skipped;
+use selection::items::Item;
+use selection::items::item_at;
+use selection::items::span_of;
+use values::Values;
+
+// The paths and filters of a read.
+pub struct Request {
+    pub paths: [Asked; MAX_PATHS],
+    pub asked: usize,
+    pub filters: [Wanted; MAX_FILTERS],
+    pub filtered: usize,
+}
+
+fn is_nothing(x: Item) -> bool
+    ensures { λ r. ⌜ r ≡ isNothing x ⌝ }
+{
+    match x {
+        Item::Value(_i) => false,
+        Item::Status(_code) => false,
+        Item::Nothing => true,
+    }
+}
+
+// Blocks from a place of the request on, one after the other, as many as there is room for.
+fn fill<'a>(
+    w: &'a [u64; WORDS],
+    words: &'a [u64; ATTRIBUTES],
+    nulls: &'a [bool; ATTRIBUTES],
+    edited: &'a [bool; ATTRIBUTES],
+    versions: &'a [u32; CLUSTERS],
+    defaults: &'a [u8],
+    edits: &'a [u8],
+    g: Grants,
+    skips: [bool; CLUSTERS],
+    paths: [Asked; MAX_PATHS],
+    asked: usize,
+    from: Place,
+    out: &mut [u8],
+    start: usize,
+) -> Filled
+    requires { ⌜ (wellFormed (now w) ≡ true) × ((asked ≤ maxPaths) × (start + blockRoom ≤ length (now out))) ⌝ }
+    ensures { λ r. ⌜ Filling (now (out .entry)) start blockRoom from (blocksFrom (record { schema = now (w .entry); values = valuesOf (now (words .entry)) (now (nulls .entry)) (now (edited .entry)) (now (versions .entry)); defaults = now (defaults .entry); edits = now (edits .entry); grants = g; skips = skips }) (take asked paths) from) (now (out .exit)) r ⌝ }
+{
+    let mut place = from;
+    let mut path = from.path;
+    let mut i = from.index;
+    let mut end = start;
+    let mut room = BLOCK_ROOM;
+    while path < asked {
+        let p = paths[path];
+        if span_of(w, p) <= i {
+            path += 1;
+            i = 0;
+        } else {
+            let x = item_at(w, g, skips, p, i);
+            if is_nothing(x) {
+                i += 1;
+            } else {
+                let next = offer_item(
+                    w,
+                    words,
+                    nulls,
+                    edited,
+                    versions,
+                    defaults,
+                    edits,
+                    p,
+                    x,
+                    out,
+                    end,
+                    room,
+                );
+                if next == end {
+                    return Filled {
+                        end,
+                        place,
+                        more: true,
+                    };
+                }
+                room -= next - end;
+                end = next;
+                i += 1;
+                place = Place { path, index: i };
+            }
+        }
+    }
+    Filled {
+        end,
+        place,
+        more: false,
+    }
+}
+
+// One part from `start` of the buffer on: where it ends, where the read goes on, and whether more is promised.
+pub fn make_part<'a>(
+    w: &'a [u64; WORDS],
+    v: Values,
+    defaults: &'a [u8],
+    edits: &'a [u8],
+    g: Grants,
+    request: Request,
+    from: Place,
+    out: &mut [u8],
+    start: usize,
+) -> Filled
+    requires { ⌜ (wellFormed (now w) ≡ true) × ((request .asked ≤ maxPaths) × ((request .filtered ≤ maxFilters) × (start + maxPayload ≤ length (now out)))) ⌝ }
+    ensures { λ r. ⌜ Made (now (out .entry)) start from (blocksFrom (viewOf (now (w .entry)) v (now (defaults .entry)) (now (edits .entry)) g (take (request .filtered) (request .filters))) (take (request .asked) (request .paths)) from) (now (out .exit)) r ⌝ }
+{
+    let held = v;
+    let filters = request.filters;
+    let paths = request.paths;
+    let versions = held.versions;
+    let skips = skipped(w, filters, request.filtered, versions);
+    let p = put_report_open(out, start);
+    let f = fill(
+        w,
+        &held.words,
+        &held.nulls,
+        &held.edited,
+        &held.versions,
+        defaults,
+        edits,
+        g,
+        skips,
+        paths,
+        request.asked,
+        from,
+        out,
+        p,
+    );
+    let place = f.place;
+    if f.end == p {
+        return Filled {
+            end: put_report_empty(out, start, f.more),
+            place,
+            more: f.more,
+        };
+    }
+    Filled {
+        end: put_report_close(out, f.end, f.more),
+        place,
+        more: f.more,
+    }
+}
