@@ -1,0 +1,3 @@
+pub mod SharedLaws
+pub mod CoherentLaws
+pub mod SetLaws

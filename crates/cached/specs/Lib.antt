@@ -1,0 +1,4 @@
+pub mod Limits
+pub mod Entries
+pub mod Set
+pub mod Coherent
