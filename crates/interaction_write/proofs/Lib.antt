@@ -1,2 +1,3 @@
 pub mod EntryLaws
 pub mod WriteLaws
+pub mod WidthLaws

@@ -1,0 +1,7 @@
+pub mod OfferLaws
+pub mod EntryLaws
+pub mod SizedLaws
+pub mod HeldLaws
+pub mod LoopLaws
+pub mod ResponseLaws
+pub mod StatusLaws

@@ -1,0 +1,58 @@
+-- A value offered to an attribute: the cases of its verdict, and the room for what is stored.
+use mathlib.Core.Path.{_≡_, sym, ap, ap₂, _∙_}
+use mathlib.Core.Bool.{Bool, true, true≢false}
+use mathlib.Core.List.{List}
+use Prim.Native.Nat.{ℕ, _+_, _*_, _≤_, _<_}
+use native.Mathlib.Omega.{arith}
+use lib.Dec.{eqb}
+use lib.ListN.{length}
+use Rattle.tlv.specs.declared.Value.{Value}
+use Rattle.tlv.specs.declared.Value.the-variants as value
+use Rattle.tlv.specs.Value.{datumIn}
+use Rattle.kinds.specs.declared.Kind.{Kind}
+use Rattle.kinds.specs.declared.Verdict.{Verdict}
+use Rattle.kinds.specs.declared.Verdict.the-variants.{Success}
+use Rattle.kinds.specs.Limits.{judgedIn}
+use Rattle.schema.specs.Layout.{textSize, clusterLimit}
+use Rattle.schema.specs.Rows.{attributeRow, attributeCount}
+use Rattle.schema.specs.Check.{textCount}
+use Rattle.schema.specs.Rules.{Rules}
+use Rattle.schema.proofs.PathLaws.{cluster-there}
+use Rattle.node.specs.Attributes.{kindOf}
+use Rattle.node.specs.Pages.{place}
+use Rattle.node.proofs.TextLaws.{place-fits}
+use Rattle.values.specs.Change.{textOf, isText}
+use Rattle.values.proofs.ValueLaws.{textual, text-row}
+use Rattle.values.proofs.AcceptedLaws.{text-kind, bytes-judged}
+use Rattle.writes.specs.Offer.{Held, byVerdict, storedIn, verdictOn, offered}
+
+-- the verdict as the code asks for it
+pub verdict-asked : (w : List ℕ) (i : ℕ) (src : List ℕ) (new : Value) {k : Kind} {nullable : Bool} {x : Verdict} → k ≡ kindOf (attributeRow w i) → nullable ≡ eqb (attributeRow w i .nullable) 1 → x ≡ judgedIn src k nullable new → verdictOn w i src new ≡ x
+verdict-asked w i src new e f h = sym (h ∙ ap₂ (λ (k : Kind) (n : Bool). judgedIn src k n new) e f)
+
+-- and what it leads to
+pub offered-by : (w defaults : List ℕ) (h : Held) (i : ℕ) (src : List ℕ) (new : Value) {x : Verdict} → verdictOn w i src new ≡ x → offered w defaults h i src new ≡ byVerdict h (storedIn w defaults h i src new) x
+unfolding offered
+offered-by w defaults h i src new e = ap (byVerdict h (storedIn w defaults h i src new)) e
+
+-- what `store` requires: a version to raise, and room for a text that passed
+module _ (w : List ℕ) (rules : Rules w) (i : ℕ) (there : i < attributeCount w) where
+  pub cluster-room : attributeRow w i .clusterIndex < clusterLimit
+  cluster-room = omega (arith, cluster-there w rules i there)
+
+  module _ (src edits : List ℕ) (size : length edits ≡ textSize * textCount w) where
+    room : (a n : ℕ) → verdictOn w i src (value.Text a n) ≡ Success → place (attributeRow w i .first) + length (textOf (datumIn src (value.Text a n))) ≤ length edits
+    room a n h =
+        let k = kindOf (attributeRow w i) in
+        let nullable = eqb (attributeRow w i .nullable) 1 in
+        let t = text-row (attributeRow w i) ∙ ap textual (text-kind src nullable k a n h) in
+        omega (arith, size, place-fits w rules i (length (textOf (datumIn src (value.Text a n)))) (there, t) (bytes-judged src nullable k (value.Text a n) h .0))
+
+    pub text-room : (new : Value) → verdictOn w i src new ≡ Success → isText (datumIn src new) ≡ true → place (attributeRow w i .first) + length (textOf (datumIn src new)) ≤ length edits
+    text-room value.Null h t = absurd (true≢false (sym t))
+    text-room (value.Boolean b) h t = absurd (true≢false (sym t))
+    text-room (value.Unsigned n) h t = absurd (true≢false (sym t))
+    text-room (value.Signed z) h t = absurd (true≢false (sym t))
+    text-room (value.Float n) h t = absurd (true≢false (sym t))
+    text-room (value.Text a n) h t = room a n h
+    text-room value.Other h t = absurd (true≢false (sym t))

@@ -1,0 +1,64 @@
+-- The statuses of a response one by one, and how long it is.
+use mathlib.Core.Path.{_≡_, refl, ap}
+use mathlib.Core.List.{List, [], _∷_, _++_}
+use Prim.Native.Nat.{ℕ, zero, suc, _+_, _*_, _^_, _≤_, _<_}
+use native.Mathlib.Numerals.{add-one}
+use native.Mathlib.Omega.{arith}
+use lib.ListN.{length, getD, take, length-take, length-append}
+use lib.Seq.{getD-take}
+use Rattle.octets.specs.Store.{Stored}
+use Rattle.octets.proofs.StoreLaws.{then}
+use Rattle.tlv.specs.Tree.{Tree}
+use Rattle.interaction_write.specs.declared.Entry.{Entry}
+use Rattle.interaction_write.specs.Write.{maxWrites, noEntry}
+use Rattle.interaction_writer.specs.Spelling.{spelling, joined}
+use Rattle.interaction_writer.specs.Block.{answerTree}
+use Rattle.interaction_writer.proofs.LengthLaws.{write-status-bound}
+use Rattle.interaction_writer.proofs.MessageLaws.{joined-more, length-response}
+use Rattle.writes.specs.Entry.{InWidth}
+use Rattle.writes.specs.Response.{answerTrees, responsePayload}
+
+-- the status of an entry
+abbrev pub answerFor : Entry → ℕ → Tree
+answerFor x code = answerTree (x .endpoint) (x .cluster) (x .attribute) code
+
+-- one entry more
+pub answers-more : (xs : List Entry) (codes : List ℕ) (i : ℕ) (d : Entry) → i < length xs → i < length codes → answerTrees (take (suc i) xs) (take (suc i) codes) ≡ answerTrees (take i xs) (take i codes) ++ (answerFor (getD xs i d) (getD codes i 0) ∷ [])
+unfolding answerTrees
+answers-more [] codes i d l m = absurd (omega arith)
+answers-more (x ∷ xs) [] i d l m = absurd (omega arith)
+answers-more (x ∷ xs) (code ∷ codes) zero d l m = refl
+answers-more (x ∷ xs) (code ∷ codes) (suc i) d l m = ap (λ (r : List Tree). answerFor x code ∷ r) (answers-more xs codes i d (omega arith) (omega arith))
+
+-- and written
+module _ (xs : List Entry) (codes : List ℕ) {o : List ℕ} {start : ℕ} {o₁ : List ℕ} {p : ℕ} {o₂ : List ℕ} {q : ℕ} where
+  pub status-more : (i : ℕ) (d : Entry) → i < length xs → i < length codes → Stored o start (joined (answerTrees (take i xs) (take i codes))) o₁ p → Stored o₁ p (spelling (answerFor (getD xs i d) (getD codes i 0))) o₂ q → Stored o start (joined (answerTrees (take (i + 1) xs) (take (i + 1) codes))) o₂ q
+  status-more i d l m u v =
+      rw (add-one i, answers-more xs codes i d l m, joined-more (answerTrees (take i xs) (take i codes)) (answerFor (getD xs i d) (getD codes i 0)))
+      (then u v)
+
+-- how long the status of an entry is
+pub answer-bound : (x : Entry) (code : ℕ) → InWidth x → code < 2 ^ 8 → length (spelling (answerFor x code)) ≤ 27
+answer-bound x code w c = write-status-bound (x .endpoint) (x .cluster) (x .attribute) (w .endpoint) (w .cluster) (w .attribute) code c
+
+-- and those of all entries
+pub answers-bound : (xs : List Entry) (codes : List ℕ) → ((i : ℕ) → i < length xs → InWidth (getD xs i noEntry)) → ((i : ℕ) → i < length codes → getD codes i 0 < 2 ^ 8) → length (joined (answerTrees xs codes)) ≤ length xs * 27
+unfolding joined answerTrees
+answers-bound [] codes f g = omega arith
+answers-bound (x ∷ xs) [] f g = omega arith
+answers-bound (x ∷ xs) (code ∷ codes) f g =
+    omega (
+      arith,
+      length-append (spelling (answerFor x code)) (joined (answerTrees xs codes)),
+      answer-bound x code (f 0 (omega arith)) (g 0 (omega arith)),
+      answers-bound xs codes (λ i l. f (suc i) (omega arith)) (λ i l. g (suc i) (omega arith)),
+    )
+
+-- A RESPONSE fits one payload
+pub response-length : (xs : List Entry) (codes : List ℕ) → length xs ≤ maxWrites → ((i : ℕ) → i < length xs → InWidth (getD xs i noEntry)) → ((i : ℕ) → i < length codes → getD codes i 0 < 2 ^ 8) → length (responsePayload xs codes) ≤ 1024
+unfolding responsePayload
+response-length xs codes l f g = omega (arith, l, length-response (answerTrees xs codes), answers-bound xs codes f g)
+
+-- what holds of the first n by index, holds of them as a list
+pub of-taken : {A : Type 0} (P : A → Type 0) (l : List A) (n : ℕ) (d : A) → ((i : ℕ) → i < n → P (getD l i d)) → (i : ℕ) → i < length (take n l) → P (getD (take n l) i d)
+of-taken P l n d f i h = let below : i < n = omega (arith, length-take n l) in rw (getD-take n l i d below) (f i below)

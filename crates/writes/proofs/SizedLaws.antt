@@ -1,0 +1,55 @@
+-- A value that is read from a message is within the range of its type.
+use mathlib.Core.List.{List}
+use Prim.Native.Nat.{ℕ, _/_, _%_, _^_, _-_, _≤_, _<_}
+use native.Mathlib.Omega.{arith}
+use borrow.Author.Tests.{leb-true, leb-false, ltb-true}
+use lib.Dec.{leb, ltb, eqb}
+use lib.Signed.{mag}
+use Rattle.tlv.specs.declared.Element.{Element}
+use Rattle.tlv.specs.declared.Head.{Head}
+use Rattle.tlv.specs.declared.Head.the-variants.{Malformed, Found}
+use Rattle.tlv.specs.declared.Value.the-variants as value
+use Rattle.tlv.specs.Octet.{numberWidth}
+use Rattle.tlv.specs.Tree.{complement}
+use Rattle.tlv.specs.Head.{headAt}
+use Rattle.tlv.specs.Walk.{headed}
+use Rattle.tlv.specs.Value.{signedOf, valueOf}
+use Rattle.tlv.proofs.Picks.{pick-elim}
+use Rattle.tlv.proofs.ValueLaws.{each}
+use Rattle.kinds.proofs.StoredLaws.{Sized}
+use Rattle.schema.proofs.BoolLaws.{by-test}
+use Rattle.writes.specs.Entry.{valueIn}
+
+-- two's complement of at most 64 bits
+complement-small : (top v : ℕ) → top ≤ 18446744073709551615 → mag (complement top v) < 9223372036854775808
+unfolding complement
+complement-small top v h =
+    by-test (leb v (top / 2)) (λ t. rw t (omega (arith, leb-true v (top / 2) t))) (λ t. rw t (omega (arith, leb-false v (top / 2) t)))
+
+top-small : (kind : ℕ) → kind < 4 → 256 ^ numberWidth kind - 1 ≤ 18446744073709551615
+unfolding numberWidth
+top-small = each (λ (k : ℕ). 256 ^ numberWidth k - 1 ≤ 18446744073709551615) 4 ((((tt, omega arith), omega arith), omega arith), omega arith)
+
+signed-small : (kind n : ℕ) → kind < 4 → mag (signedOf kind n) < 9223372036854775808
+unfolding signedOf
+signed-small kind n l = complement-small (256 ^ numberWidth kind - 1) (n % 256 ^ numberWidth kind) (top-small kind l)
+
+pub value-sized : (e : Element) → Sized (valueOf e)
+unfolding valueOf
+value-sized e =
+    pick-elim Sized (ltb (e .kind) 4) _ _ (λ t. record { sfits = signed-small (e .kind) (e .number) (ltb-true (e .kind) 4 t) })
+    (λ _. pick-elim Sized (ltb (e .kind) 8) _ _ (λ _. tt)
+    (λ _. pick-elim Sized (eqb (e .kind) 8) _ _ (λ _. tt)
+    (λ _. pick-elim Sized (eqb (e .kind) 9) _ _ (λ _. tt)
+    (λ _. pick-elim Sized (eqb (e .kind) 10) _ _ (λ _. omega arith)
+    (λ _. pick-elim Sized (ltb (e .kind) 12) _ _ (λ _. tt)
+    (λ _. pick-elim Sized (ltb (e .kind) 16) _ _ (λ _. tt)
+    (λ _. pick-elim Sized (eqb (e .kind) 20) _ _ (λ _. tt) (λ _. tt))))))))
+
+pub value-in-sized : (s : List ℕ) (at : ℕ) → Sized (valueIn s at)
+unfolding valueIn
+value-in-sized s at = go (headAt s at)
+  where
+    go : (h : Head) → Sized (headed value.Other valueOf h)
+    go Malformed = tt
+    go (Found e) = value-sized e

@@ -1,0 +1,121 @@
+-- The statuses of a write: one for each entry, an octet each, and kept whole in the code's array.
+use mathlib.Core.Path.{_≡_, refl, ap}
+use mathlib.Core.Bool.{Bool, true, false}
+use mathlib.Core.List.{List, [], _∷_}
+use Prim.Native.Nat.{ℕ, zero, suc, _^_, _≤_, _<_}
+use native.Mathlib.Omega.{arith}
+use lib.Dec.{eqb}
+use lib.ListN.{length, getD, take, length-take}
+use Rattle.tlv.specs.Octet.{pick}
+use Rattle.tlv.specs.declared.Value.{Value}
+use Rattle.tlv.proofs.Picks.{pick-elim}
+use Rattle.interaction.specs.Message.{firstOf}
+use Rattle.interaction_write.specs.declared.Entry.{Entry}
+use Rattle.interaction_write.specs.Write.{maxWrites, noEntry}
+use Rattle.kinds.specs.declared.Verdict.{Verdict}
+use Rattle.kinds.specs.declared.Verdict.the-variants.{Success, ConstraintError, InvalidDataType}
+use Rattle.kinds.specs.Limits.{statusCode}
+use Rattle.schema.specs.declared.Found.{Found}
+use Rattle.schema.specs.declared.Found.the-variants as found
+use Rattle.schema.specs.Rows.{attributeRow}
+use Rattle.schema.specs.Find.{findCluster, findAttribute, hasEndpoint}
+use Rattle.acl.specs.declared.Grants.{Grants}
+use Rattle.acl.specs.Access.{isGranted}
+use Rattle.selection.specs.declared.locate.Located.{Located}
+use Rattle.selection.specs.declared.locate.Located.the-variants.{Here, Refused}
+use Rattle.selection.specs.Status.{unsupportedEndpoint, unsupportedWrite, unsupportedAccess, dataVersionMismatch}
+use Rattle.selection.specs.Locate.{attributeFound, clusterFound, located}
+use Rattle.writes.specs.Offer.{Held, byVerdict, storedIn, verdictOn, offered, byPlace}
+use Rattle.writes.specs.Entry.{valueIn, versionFits, allowedAt, allowedThere, mayWrite, entryWritten, codesOf, codesIn, InWidth}
+use Rattle.writes.specs.Response.{responsePayload}
+use Rattle.writes.proofs.ResponseLaws.{response-length}
+
+-- ---- a status is an octet
+
+abbrev Octet : Located → Type 0
+Octet (Here i) = Unit {0}
+Octet (Refused code) = code < 2 ^ 8
+
+attribute-octet : (f : Found) → Octet (attributeFound f)
+attribute-octet (found.At i) = tt
+attribute-octet found.Nothing = omega arith
+
+cluster-octet : (w : List ℕ) (a : ℕ) (f : Found) → Octet (clusterFound w a f)
+cluster-octet w a (found.At k) = attribute-octet (findAttribute w k a)
+cluster-octet w a found.Nothing = omega arith
+
+located-octet : (w : List ℕ) (e c a : ℕ) → Octet (located w e c a)
+unfolding located
+located-octet w e c a =
+    pick-elim Octet (hasEndpoint w e) (clusterFound w a (findCluster w e c)) (Refused unsupportedEndpoint) (λ _. cluster-octet w a (findCluster w e c)) (λ _. omega arith)
+
+module _ (w : List ℕ) (g : Grants) (versions : List ℕ) where
+  allowed-octet : (given i : ℕ) → Octet (allowedAt w g versions given i)
+  unfolding allowedAt
+  allowed-octet given i =
+      go (eqb (attributeRow w i .write) 0) (isGranted g (attributeRow w i .clusterIndex) (attributeRow w i .write))
+      (versionFits given (getD versions (attributeRow w i .clusterIndex) 0))
+    where
+      go : (a b c : Bool) → Octet (pick a (Refused unsupportedWrite) (pick b (pick c (Here i) (Refused dataVersionMismatch)) (Refused unsupportedAccess)))
+      go true b c = omega arith
+      go false true true = tt
+      go false true false = omega arith
+      go false false c = omega arith
+
+  may-octet : (x : Entry) → Octet (mayWrite w g versions x)
+  unfolding mayWrite
+  may-octet x = go (located w (x .endpoint) (x .cluster) (x .attribute)) (located-octet w (x .endpoint) (x .cluster) (x .attribute))
+    where
+      go : (l : Located) → Octet l → Octet (allowedThere w g versions (x .version) l)
+      go (Here i) o = allowed-octet (x .version) i
+      go (Refused code) o = o
+
+module _ (w defaults : List ℕ) (h : Held) (src : List ℕ) (new : Value) where
+  pub offered-octet : (i : ℕ) → offered w defaults h i src new .code < 2 ^ 8
+  unfolding offered statusCode
+  offered-octet i = go (verdictOn w i src new)
+    where
+      go : (x : Verdict) → byVerdict h (storedIn w defaults h i src new) x .code < 2 ^ 8
+      go Success = omega arith
+      go ConstraintError = omega arith
+      go InvalidDataType = omega arith
+
+  placed-octet : (l : Located) → Octet l → byPlace w defaults h src new l .code < 2 ^ 8
+  placed-octet (Here i) o = offered-octet i
+  placed-octet (Refused code) o = o
+
+module _ (w : List ℕ) (g : Grants) (defaults s : List ℕ) where
+  entry-octet : (h : Held) (x : Entry) → entryWritten w g defaults s h x .code < 2 ^ 8
+  unfolding entryWritten
+  entry-octet h x = placed-octet w defaults h s (valueIn s (x .place)) (mayWrite w g (h .values .versions) x) (may-octet w g (h .values .versions) x)
+
+  pub codes-octets : (h : Held) (xs : List Entry) (i : ℕ) → i < length (codesOf w g defaults s h xs) → getD (codesOf w g defaults s h xs) i 0 < 2 ^ 8
+  unfolding codesOf
+  codes-octets h [] i l = absurd (omega arith)
+  codes-octets h (x ∷ xs) zero l = entry-octet h x
+  codes-octets h (x ∷ xs) (suc i) l = codes-octets (entryWritten w g defaults s h x .held) xs i (omega arith)
+
+  -- ---- each entry gets one
+
+  pub one-status-each : (h : Held) (xs : List Entry) → length (codesOf w g defaults s h xs) ≡ length xs
+  unfolding codesOf
+  one-status-each h [] = refl
+  one-status-each h (x ∷ xs) = ap suc (one-status-each (entryWritten w g defaults s h x .held) xs)
+
+  -- the answer to a write of at most 16 entries fits one payload
+  pub answer-length : (h : Held) (xs : List Entry) → length xs ≤ maxWrites → ((i : ℕ) → i < length xs → InWidth (getD xs i noEntry)) → length (responsePayload xs (codesOf w g defaults s h xs)) ≤ 1024
+  answer-length h xs l f = response-length xs (codesOf w g defaults s h xs) l f (codes-octets h xs)
+
+-- ---- as the code keeps them
+
+pub take-first : {A : Type 0} (n : ℕ) (z : A) (l : List A) (k : ℕ) → k ≡ length l → k ≤ n → take k (firstOf n z l) ≡ l
+unfolding firstOf
+take-first n z [] zero e h = refl
+take-first n z [] (suc k) e h = absurd (omega arith)
+take-first n z (x ∷ l) zero e h = absurd (omega arith)
+take-first zero z (x ∷ l) (suc k) e h = absurd (omega arith)
+take-first (suc n) z (x ∷ l) (suc k) e h = ap (λ r. x ∷ r) (take-first n z l k (omega arith) (omega arith))
+
+pub codes-kept : (w : List ℕ) (g : Grants) (defaults s : List ℕ) (h : Held) (xs : List Entry) (n : ℕ) → n ≤ length xs → n ≤ maxWrites → take n (codesIn (codesOf w g defaults s h (take n xs))) ≡ codesOf w g defaults s h (take n xs)
+codes-kept w g defaults s h xs n l m =
+    take-first maxWrites 0 (codesOf w g defaults s h (take n xs)) n (omega (arith, one-status-each w g defaults s h (take n xs), length-take n xs)) m

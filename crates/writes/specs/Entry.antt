@@ -1,0 +1,71 @@
+-- The entries of a write action (document 01, What the sign answers): "for each entry, in order, the first of: 7F, C3, 86, 88 not writable, 7E, 92 a given
+-- version differs from the present one, 8D wrong TLV type, 87 limit, UTF-8 or null not allowed, 00 stored."
+use mathlib.Core.Bool.{Bool, true}
+use mathlib.Core.List.{List, [], _∷_}
+use Prim.Native.Nat.{ℕ, _<_, _^_}
+use lib.Dec.{eqb}
+use lib.ListN.{getD}
+use Rattle.tlv.specs.declared.Value.{Value}
+use Rattle.tlv.specs.declared.Value.the-variants as value
+use Rattle.tlv.specs.Octet.{pick}
+use Rattle.tlv.specs.Head.{headAt}
+use Rattle.tlv.specs.Walk.{headed}
+use Rattle.tlv.specs.Value.{valueOf}
+use Rattle.members.specs.Scalar.{ABSENT}
+use Rattle.interaction.specs.Message.{firstOf}
+use Rattle.interaction_write.specs.declared.Entry.{Entry}
+use Rattle.interaction_write.specs.Write.{maxWrites}
+use Rattle.schema.specs.Rows.{attributeRow}
+use Rattle.acl.specs.declared.Grants.{Grants}
+use Rattle.acl.specs.Access.{isGranted}
+use Rattle.selection.specs.declared.locate.Located.{Located}
+use Rattle.selection.specs.declared.locate.Located.the-variants.{Here, Refused}
+use Rattle.selection.specs.Status.{unsupportedWrite, unsupportedAccess, dataVersionMismatch}
+use Rattle.selection.specs.Locate.{located}
+use Rattle.writes.specs.Offer.{Held, Outcome, byPlace}
+
+-- the value that stands at a place of the message
+unfoldable pub valueIn : List ℕ → ℕ → Value
+valueIn s at = headed value.Other valueOf (headAt s at)
+
+-- a version that was not given fits; one that was must be the present one
+abbrev pub versionFits : ℕ → ℕ → Bool
+versionFits given present = pick (eqb given ABSENT) true (eqb given present)
+
+-- an attribute that is there: 88, 7E, 92
+unfoldable pub allowedAt : List ℕ → Grants → List ℕ → ℕ → ℕ → Located
+allowedAt w g versions given i =
+    pick (eqb (attributeRow w i .write) 0) (Refused unsupportedWrite)
+    (pick (isGranted g (attributeRow w i .clusterIndex) (attributeRow w i .write))
+    (pick (versionFits given (getD versions (attributeRow w i .clusterIndex) 0)) (Here i) (Refused dataVersionMismatch))
+    (Refused unsupportedAccess))
+
+abbrev pub allowedThere : List ℕ → Grants → List ℕ → ℕ → Located → Located
+allowedThere w g versions given (Here i) = allowedAt w g versions given i
+allowedThere w g versions given (Refused code) = Refused code
+
+-- which attribute an entry may write
+unfoldable pub mayWrite : List ℕ → Grants → List ℕ → Entry → Located
+mayWrite w g versions x = allowedThere w g versions (x .version) (located w (x .endpoint) (x .cluster) (x .attribute))
+
+unfoldable pub entryWritten : List ℕ → Grants → List ℕ → List ℕ → Held → Entry → Outcome
+entryWritten w g defaults s h x = byPlace w defaults h s (valueIn s (x .place)) (mayWrite w g (h .values .versions) x)
+
+-- THE WRITE ACTION: what is held after all entries, and the status that each gets
+unfoldable pub heldAfter : List ℕ → Grants → List ℕ → List ℕ → Held → List Entry → Held
+heldAfter w g defaults s h [] = h
+heldAfter w g defaults s h (x ∷ xs) = heldAfter w g defaults s (entryWritten w g defaults s h x .held) xs
+
+unfoldable pub codesOf : List ℕ → Grants → List ℕ → List ℕ → Held → List Entry → List ℕ
+codesOf w g defaults s h [] = []
+codesOf w g defaults s h (x ∷ xs) = entryWritten w g defaults s h x .code ∷ codesOf w g defaults s (entryWritten w g defaults s h x .held) xs
+
+-- the statuses as the code keeps them, in an array of 16
+abbrev pub codesIn : List ℕ → List ℕ
+codesIn l = firstOf maxWrites 0 l
+
+-- a path whose parts have their widths
+pub record InWidth (x : Entry) : Type 0 where
+  pub endpoint : x .endpoint < 2 ^ 16
+  pub cluster : x .cluster < 2 ^ 32
+  pub attribute : x .attribute < 2 ^ 32
