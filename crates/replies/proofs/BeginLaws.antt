@@ -1,0 +1,117 @@
+-- What begins an exchange, case by case for the code.
+use mathlib.Core.Path.{_≡_, sym, ap, subst, _∙_}
+use mathlib.Core.List.{List, [], map}
+use Prim.Native.Nat.{ℕ, _^_, _≤_, _<_}
+use native.Mathlib.Omega.{arith}
+use borrow.Author.Tests.{eq-eqb, ne-eqb}
+use lib.ListN.{length, getD, take, length-take}
+use Rattle.octets.specs.Store.{store, Stored}
+use Rattle.tlv.specs.Decode.{Opt}
+use Rattle.tlv.specs.Decode.Opt.{just, nothing}
+use Rattle.interaction.specs.declared.ReadRequest.{ReadRequest}
+use Rattle.interaction.specs.Read.{maxPaths, maxFilters, readIn, readRead}
+use Rattle.interaction.proofs.KeepLaws.{length-first, first-none}
+use Rattle.interaction_write.specs.declared.WriteRequest.{WriteRequest}
+use Rattle.interaction_write.specs.Write.{maxWrites, noEntry, entryStruct, WriteOf, writeIn, writeRead}
+use Rattle.interaction_write.proofs.WidthLaws.{kept-wide, kept-few}
+use Rattle.acl.specs.declared.Grants.{Grants}
+use Rattle.values.specs.declared.Values.{Values}
+use Rattle.report.specs.declared.part.Request.{Request}
+use Rattle.writes.specs.Offer.{Held}
+use Rattle.writes.specs.Entry.{InWidth, heldAfter, codesOf, codesIn}
+use Rattle.writes.proofs.ResponseLaws.{of-taken}
+use Rattle.writes.proofs.StatusLaws.{codes-octets, codes-kept}
+use Rattle.replies.specs.declared.Row.{Row}
+use Rattle.replies.specs.Messages.{maxMessage, statusMessage, responseMessage}
+use Rattle.replies.specs.Row.{keptReply, reported, blocksOf}
+use Rattle.replies.specs.Begin.{once, beginningPlace, requestOf, readBy, readBegun, Left, entriesOf, responseTo, writeBy, writeBegun, Wrote}
+use Rattle.replies.proofs.MessageLaws.{answer-length}
+use Rattle.replies.proofs.RequestLaws.{read-octet, read-few, write-octet}
+
+-- ---- a read
+
+module _ (s : List ℕ) {r : ReadRequest} (e : r ≡ readRead (readIn s)) where
+  pub read-fits : r .verdict < 2 ^ 8
+  read-fits = rw e (read-octet (readIn s))
+
+  pub request-few : r .verdict ≡ 0 → {q : Request} → q ≡ requestOf r → (q .asked ≤ maxPaths) × (q .filtered ≤ maxFilters)
+  unfolding requestOf
+  request-few z h = rw (h, e) (read-few (readIn s) (sym (ap (λ (y : ReadRequest). y .verdict) e) ∙ z))
+
+  module _ (w : List ℕ) (v : Values) (defaults edits : List ℕ) (g : Grants) (x : Row) (exchange : ℕ) where
+    by-read : readBegun w v defaults edits g x exchange s ≡ readBy w v defaults edits g x exchange r
+    unfolding readBegun
+    by-read = ap (readBy w v defaults edits g x exchange) (sym e)
+
+    pub read-refused : (r .verdict ≡ 0 → ⊥) → readBegun w v defaults edits g x exchange s ≡ once x exchange (statusMessage exchange (r .verdict))
+    read-refused n = by-read ∙ rw (ne-eqb (r .verdict) 0 n)
+
+    pub read-answered : r .verdict ≡ 0 → {q : Request} → q ≡ requestOf r → readBegun w v defaults edits g x exchange s ≡ reported x exchange 1 q beginningPlace (blocksOf w v defaults edits g q beginningPlace)
+    read-answered z h = by-read ∙ rw (eq-eqb (r .verdict) 0 z, h)
+
+-- ---- a write
+
+kept-length : (o : Opt (WriteOf ℕ)) → length (writeRead o .entries .kept) ≡ maxWrites
+kept-length nothing = ap length (sym (first-none maxWrites noEntry)) ∙ length-first maxWrites noEntry []
+kept-length (just x) = length-first maxWrites noEntry (map entryStruct (x .entries))
+
+-- what the code leaves, and what is meant
+wrote-as : {l : Left} {k : Held} {y : Row} {old new : List ℕ} → record { held = k; row = y } ≡ l → new ≡ store old 0 (keptReply y) → Wrote l (record { values = k .values; row = y }) (k .edits) old new
+wrote-as {old = old} p q =
+    record {
+      values = ap (λ (m : Left). m .held .values) p;
+      row = ap (λ (m : Left). m .row) p;
+      page = ap (λ (m : Left). m .held .edits) p;
+      buffer = q ∙ ap (λ (m : Left). store old 0 (keptReply (m .row))) p;
+    }
+
+module _ (s : List ℕ) {r : WriteRequest} (e : r ≡ writeRead (writeIn s)) where
+  pub write-fits : r .verdict < 2 ^ 8
+  write-fits = rw e (write-octet (writeIn s))
+
+  pub writes-few : r .verdict ≡ 0 → r .entries .count ≤ maxWrites
+  writes-few z = rw e (kept-few s (sym (ap (λ (y : WriteRequest). y .verdict) e) ∙ z))
+
+  pub writes-wide : (i : ℕ) → InWidth (getD (r .entries .kept) i noEntry)
+  writes-wide i = rw e (let h = kept-wide s i in record { endpoint = h .endpoint; cluster = h .cluster; attribute = h .attribute })
+
+  writes-whole : length (r .entries .kept) ≡ maxWrites
+  writes-whole = rw e (kept-length (writeIn s))
+
+  module _ (w : List ℕ) (g : Grants) (defaults : List ℕ) (h : Held) (x : Row) (exchange : ℕ) where
+    by-write : writeBegun w g defaults h x exchange s ≡ writeBy w g defaults h x exchange s r
+    unfolding writeBegun
+    by-write = ap (writeBy w g defaults h x exchange s) (sym e)
+
+    -- refused whole
+    pub wrote-refused : (r .verdict ≡ 0 → ⊥) → {y : Row} {old new : List ℕ} → (y ≡ once x exchange (statusMessage exchange (r .verdict))) × (new ≡ store old 0 (keptReply y)) → Wrote (writeBegun w g defaults h x exchange s) (record { values = h .values; row = y }) (h .edits) old new
+    wrote-refused n {y} (p, q) =
+        let l : writeBegun w g defaults h x exchange s ≡ record { held = h; row = once x exchange (statusMessage exchange (r .verdict)) } = by-write ∙ rw (ne-eqb (r .verdict) 0 n) in
+        wrote-as {k = h} {y = y} ((λ j. record { held = h; row = p j }) ∙ sym l) q
+
+    module _ (z : r .verdict ≡ 0) where
+      -- stored
+      pub wrote-done : {values : Values} {edits : List ℕ} → values ≡ heldAfter w g defaults s h (entriesOf r) .values → edits ≡ heldAfter w g defaults s h (entriesOf r) .edits → {reply : List ℕ} → responseTo w g defaults s h exchange r ≡ reply → {y : Row} {old new : List ℕ} → (y ≡ once x exchange reply) × (new ≡ store old 0 (keptReply y)) → Wrote (writeBegun w g defaults h x exchange s) (record { values = values; row = y }) edits old new
+      wrote-done {values} {edits} a b {reply} c {y} (p, q) =
+          let l : writeBegun w g defaults h x exchange s ≡ record { held = heldAfter w g defaults s h (entriesOf r); row = once x exchange (responseTo w g defaults s h exchange r) } = by-write ∙ rw (eq-eqb (r .verdict) 0 z) in
+          wrote-as {k = record { values = values; edits = edits }} {y = y}
+          ((λ j. record { held = record { values = a j; edits = b j }; row = (p ∙ ap (once x exchange) (sym c)) j }) ∙ sym l) q
+
+      -- its statuses
+      pub response-sent : {codes old new : List ℕ} {end : ℕ} → codes ≡ codesIn (codesOf w g defaults s h (entriesOf r)) → Stored old 0 (responseMessage exchange (entriesOf r) (take (r .entries .count) codes)) new end → Stored old 0 (responseMessage exchange (entriesOf r) (codesOf w g defaults s h (entriesOf r))) new end
+      response-sent {codes} {old} {new} {end} c u =
+          let n = r .entries .count in
+          let q : take n codes ≡ codesOf w g defaults s h (entriesOf r) =
+          ap (take n) c ∙ codes-kept w g defaults s h (r .entries .kept) n (omega (arith, writes-few z, writes-whole)) (writes-few z) in
+          subst (λ (l : List ℕ). Stored old 0 (responseMessage exchange (entriesOf r) l) new end) q u
+
+      pub response-short : length (responseMessage exchange (entriesOf r) (codesOf w g defaults s h (entriesOf r))) ≤ maxMessage
+      response-short =
+          answer-length exchange (entriesOf r) (codesOf w g defaults s h (entriesOf r)) (omega (arith, writes-few z, length-take (r .entries .count) (r .entries .kept)))
+          (of-taken InWidth (r .entries .kept) (r .entries .count) noEntry (λ i l. writes-wide i)) (codes-octets w g defaults s h (entriesOf r))
+
+    pub silent : r .suppress ≡ 1 → responseTo w g defaults s h exchange r ≡ []
+    silent q = rw (eq-eqb (r .suppress) 1 q)
+
+    pub spoken : (r .suppress ≡ 1 → ⊥) → responseTo w g defaults s h exchange r ≡ responseMessage exchange (entriesOf r) (codesOf w g defaults s h (entriesOf r))
+    spoken n = rw (ne-eqb (r .suppress) 1 n)

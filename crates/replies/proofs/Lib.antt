@@ -1,0 +1,6 @@
+pub mod MessageLaws
+pub mod RowLaws
+pub mod RequestLaws
+pub mod BeginLaws
+pub mod PlaceLaws
+pub mod KeptLaws

@@ -1,0 +1,118 @@
+-- A reply kept in a row is the reply again; what a right row keeps to.
+use mathlib.Core.Path.{_≡_, sym, ap, _∙_}
+use mathlib.Core.Bool.{true, false, _&&_}
+use mathlib.Core.List.{List, []}
+use Prim.Native.Nat.{ℕ, _-_, _^_, _≤_, _<_}
+use native.Mathlib.Omega.{arith}
+use borrow.Author.Tests.{ltb-true, leb-true, lt-ltb, le-leb}
+use lib.Dec.{leb, ltb}
+use lib.ListN.{length, take}
+use Rattle.octets.specs.Store.{store, Stored}
+use Rattle.octets.proofs.StoreLaws.{store-back, same-length}
+use Rattle.interaction.specs.Read.{maxPaths, maxFilters}
+use Rattle.schema.specs.Layout.{attributeLimit}
+use Rattle.schema.proofs.BoolLaws.{left, right}
+use Rattle.exchange.specs.declared.Progress.{Progress}
+use Rattle.report.specs.declared.Place.{Place}
+use Rattle.report.specs.declared.Filled.{Filled}
+use Rattle.report.specs.declared.part.Request.{Request}
+use Rattle.report.specs.Blocks.{Placed}
+use Rattle.replies.specs.declared.Row.{Row}
+use Rattle.replies.specs.Messages.{maxMessage, reportMessage}
+use Rattle.replies.specs.Row.{keeping, keptReply, reported, rowRight}
+use Rattle.replies.specs.Sent.{Sent}
+use Rattle.replies.proofs.MessageLaws.{report-length}
+
+-- ---- a message in the buffer: where it ends, and the part that it is
+
+module _ {old reply new : List ℕ} {end : ℕ} (u : Stored old 0 reply new end) (room : length reply ≤ length old) where
+  pub ends-within : end ≤ length new
+  ends-within = omega (arith, u .place, same-length u)
+
+  pub part-back : take (end - 0) new ≡ reply
+  part-back = let e : end - 0 ≡ length reply = omega (arith, u .place) in rw (e, u .content) (store-back old 0 reply (omega arith))
+
+  pub part-short : length (take (end - 0) new) ≤ length reply
+  part-short = omega (arith, ap length part-back)
+
+-- ---- and in a row
+
+module _ (x : Row) (whole : length (x .kept) ≡ maxMessage) where
+  module _ (p : Progress) (r : Request) (a : Place) where
+    -- THE KEPT REPLY is the reply
+    pub kept-back : (reply : List ℕ) → length reply ≤ maxMessage → keptReply (keeping x p r a reply) ≡ reply
+    unfolding keeping
+    kept-back reply h = store-back (x .kept) 0 reply (omega (arith, whole))
+
+    -- a message that was written is kept from the buffer
+    module _ {old reply new : List ℕ} {end : ℕ} (u : Stored old 0 reply new end) (h : length reply ≤ maxMessage) (room : maxMessage ≤ length old) where
+      pub both-given : {y : Row} → y ≡ keeping x p r a (take (end - 0) new) → (y ≡ keeping x p r a reply) × (new ≡ store old 0 (keptReply y))
+      both-given {y} e =
+          let q : y ≡ keeping x p r a reply = e ∙ ap (keeping x p r a) (part-back u (omega arith)) in
+          (q, u .content ∙ ap (store old 0) (sym (ap (λ (z : Row). keptReply z) q ∙ kept-back reply h)))
+
+    -- silence leaves the buffer as it was
+    pub nothing-given : (old : List ℕ) {y : Row} → y ≡ keeping x p r a [] → old ≡ store old 0 (keptReply y)
+    unfolding store
+    nothing-given old e = sym (ap (λ (z : Row). store old 0 (keptReply z)) e ∙ ap (store old 0) (kept-back [] (omega arith)))
+
+  -- a part
+  module _ {old : List ℕ} {exchange turn : ℕ} {at : Place} {l : List Placed} {new : List ℕ} {f : Filled} (s : Sent old exchange turn at l new f) (room : maxMessage ≤ length old) where
+    pub part-given : (r : Request) {y : Row} → y ≡ keeping x (record { last = exchange; turn = turn; promised = f .more; closed = false }) r (f .place) (take (f .end - 0) new) → (y ≡ reported x exchange turn r at l) × (new ≡ store old 0 (keptReply y))
+    part-given r e =
+        both-given (record { last = exchange; turn = turn; promised = s .more 1; closed = false }) r (s .place 1) (s .stored) (report-length exchange turn l) room
+        (e ∙ (λ j. keeping x (record { last = exchange; turn = turn; promised = s .more j; closed = false }) r (s .place j) (take (f .end - 0) new)))
+
+module _ {old : List ℕ} {exchange turn : ℕ} {at : Place} {l : List Placed} {new : List ℕ} {f : Filled} (s : Sent old exchange turn at l new f) (room : maxMessage ≤ length old) where
+  report-room : length (reportMessage exchange turn l) ≤ length old
+  report-room = omega (arith, report-length exchange turn l)
+
+  pub report-within : f .end ≤ length new
+  report-within = ends-within (s .stored) report-room
+
+  pub report-short : length (take (f .end - 0) new) ≤ maxMessage
+  report-short = omega (arith, part-short (s .stored) report-room, report-length exchange turn l)
+
+-- ---- a right row
+
+pub record RightRow (x : Row) : Type 0 where
+  pub exchange : x .progress .last < 2 ^ 40
+  pub asked : x .request .asked ≤ maxPaths
+  pub filtered : x .request .filtered ≤ maxFilters
+  pub path : x .place .path ≤ maxPaths
+  pub index : x .place .index ≤ attributeLimit
+  pub len : x .len ≤ maxMessage
+
+pub row-right : (x : Row) → rowRight x ≡ true → RightRow x
+unfolding rowRight
+row-right x h =
+    let t₅ = leb (x .len) maxMessage in
+    let t₄ = leb (x .place .index) attributeLimit in
+    let t₃ = leb (x .place .path) maxPaths in
+    let t₂ = leb (x .request .filtered) maxFilters in
+    let t₁ = leb (x .request .asked) maxPaths in
+    let t₀ = ltb (x .progress .last) (2 ^ 40) in
+    let h₁ = right t₀ (t₁ && (t₂ && (t₃ && (t₄ && t₅)))) h in
+    let h₂ = right t₁ (t₂ && (t₃ && (t₄ && t₅))) h₁ in
+    let h₃ = right t₂ (t₃ && (t₄ && t₅)) h₂ in
+    let h₄ = right t₃ (t₄ && t₅) h₃ in
+    record {
+      exchange = ltb-true (x .progress .last) (2 ^ 40) (left t₀ (t₁ && (t₂ && (t₃ && (t₄ && t₅)))) h);
+      asked = leb-true (x .request .asked) maxPaths (left t₁ (t₂ && (t₃ && (t₄ && t₅))) h₁);
+      filtered = leb-true (x .request .filtered) maxFilters (left t₂ (t₃ && (t₄ && t₅)) h₂);
+      path = leb-true (x .place .path) maxPaths (left t₃ (t₄ && t₅) h₃);
+      index = leb-true (x .place .index) attributeLimit (left t₄ t₅ h₄);
+      len = leb-true (x .len) maxMessage (right t₄ t₅ h₄);
+    }
+
+pub right-row : (x : Row) → RightRow x → rowRight x ≡ true
+unfolding rowRight
+right-row x r =
+    rw (
+      lt-ltb (x .progress .last) (2 ^ 40) (r .exchange),
+      le-leb (x .request .asked) maxPaths (r .asked),
+      le-leb (x .request .filtered) maxFilters (r .filtered),
+      le-leb (x .place .path) maxPaths (r .path),
+      le-leb (x .place .index) attributeLimit (r .index),
+      le-leb (x .len) maxMessage (r .len),
+    )

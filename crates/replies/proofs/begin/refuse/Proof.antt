@@ -1,0 +1,50 @@
+use mathlib.Core.Path.{_≡_}
+use native.Mathlib.Omega.{arith}
+use borrow.Author.Needs.{needs}
+use lib.ListN.{length}
+use Rattle.replies.specs.Messages.{maxMessage, statusMessage}
+use Rattle.replies.specs.Begin.{answered}
+use Rattle.replies.proofs.MessageLaws.{status-length}
+use Rattle.replies.proofs.RowLaws.{ends-within, part-short, both-given}
+use Rattle.replies.proofs.begin.refuse.Statement.{statement}
+use Rattle.replies.proofs.begin.refuse.Tie as tie
+
+-- what owning the row tells: its array has all its elements
+whole : (c : tie.Start) → length (c .args .x .kept) ≡ maxMessage
+whole c = search needs
+
+size : (c : tie.Start) → length (statusMessage (c .args .exchange) (c .args .code)) ≡ 16
+size c = status-length (c .args .exchange) (c .args .code) (c .fits .code .fits)
+
+put-status-requires : tie.Need-put-status-requires
+put-status-requires c κs = search needs
+
+sub-once-kept : tie.Need-sub-once-kept
+sub-once-kept c = search needs
+
+part-once-kept-start : tie.Need-part-once-kept-start
+part-once-kept-start c = search needs
+
+part-once-kept-end : tie.Need-part-once-kept-end
+part-once-kept-end c = ends-within (c .before .before .before .put-status .ensures) (omega (arith, c .before .before .before .before .before .before .pre .1, size (c .before .before .before .before .before .before)))
+
+once-kept-requires : tie.Need-once-kept-requires
+once-kept-requires c κs = omega (arith, part-short (c .before .before .before .before .put-status .ensures) (omega (arith, c .before .before .before .before .before .before .before .pre .1, size (c .before .before .before .before .before .before .before))), size (c .before .before .before .before .before .before .before))
+
+same-length : tie.Need-same-length
+same-length c = search needs
+
+returns : tie.Need-returns
+returns c = let a = c .before .before .before .before .before .before .before .before .args in both-given (a .x) (whole (c .before .before .before .before .before .before .before .before)) (answered (a .exchange)) (a .x .request) (a .x .place) (c .before .before .before .before .before .put-status .ensures) (omega (arith, size (c .before .before .before .before .before .before .before .before))) (c .before .before .before .before .before .before .before .before .pre .1) (c .once-kept .ensures)
+
+pub refuse-spec : {M : Type 1} → statement M
+refuse-spec =
+    tie.close
+    (tie.spec
+    put-status-requires
+    sub-once-kept
+    part-once-kept-start
+    part-once-kept-end
+    once-kept-requires
+    same-length
+    returns)

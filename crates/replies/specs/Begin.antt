@@ -1,0 +1,86 @@
+-- A request that begins an exchange (document 01, What the sign answers; On the wire).
+use mathlib.Core.Bool.{Bool, true, false}
+use mathlib.Core.List.{List, [], map}
+use Prim.Native.Nat.{ℕ}
+use lib.Dec.{eqb}
+use lib.ListN.{take}
+use mathlib.Core.Path.{_≡_}
+use Rattle.octets.specs.Store.{store}
+use Rattle.tlv.specs.Octet.{pick}
+use Rattle.interaction.specs.declared.ReadRequest.{ReadRequest}
+use Rattle.interaction.specs.Read.{readIn, readRead}
+use Rattle.interaction_write.specs.declared.Entry.{Entry}
+use Rattle.interaction_write.specs.declared.WriteRequest.{WriteRequest}
+use Rattle.interaction_write.specs.Write.{writeIn, writeRead}
+use Rattle.acl.specs.declared.Grants.{Grants}
+use Rattle.values.specs.declared.Values.{Values}
+use Rattle.selection.specs.Asked.{askedFor}
+use Rattle.exchange.specs.declared.Progress.{Progress}
+use Rattle.report.specs.declared.Place.{Place}
+use Rattle.report.specs.declared.part.Request.{Request}
+use Rattle.writes.specs.Offer.{Held}
+use Rattle.writes.specs.Entry.{heldAfter, codesOf}
+use Rattle.replies.specs.declared.Row.{Row}
+use Rattle.replies.specs.declared.begin.Begun.{Begun}
+use Rattle.replies.specs.Messages.{statusMessage, responseMessage}
+use Rattle.replies.specs.Row.{keeping, keptReply, reported, blocksOf}
+
+-- an exchange whose one reply was given, and that promised nothing
+abbrev pub answered : ℕ → Progress
+answered exchange = record { last = exchange; turn = 1; promised = false; closed = false }
+
+-- one reply, of which nothing goes on: a status, a write response, or silence
+abbrev pub once : Row → ℕ → List ℕ → Row
+once x exchange reply = keeping x (answered exchange) (x .request) (x .place) reply
+
+abbrev pub beginningPlace : Place
+beginningPlace = record { path = 0; index = 0 }
+
+unfoldable pub requestOf : ReadRequest → Request
+requestOf r =
+    record {
+      paths = map askedFor (r .paths .kept);
+      asked = r .paths .count;
+      filters = r .filters .kept;
+      filtered = r .filters .count;
+    }
+
+-- a read: a status if it is refused whole, else reply 1
+abbrev pub readBy : List ℕ → Values → List ℕ → List ℕ → Grants → Row → ℕ → ReadRequest → Row
+readBy w v defaults edits g x exchange r =
+    pick (eqb (r .verdict) 0)
+    (reported x exchange 1 (requestOf r) beginningPlace (blocksOf w v defaults edits g (requestOf r) beginningPlace))
+    (once x exchange (statusMessage exchange (r .verdict)))
+
+unfoldable pub readBegun : List ℕ → Values → List ℕ → List ℕ → Grants → Row → ℕ → List ℕ → Row
+readBegun w v defaults edits g x exchange payload = readBy w v defaults edits g x exchange (readRead (readIn payload))
+
+-- what a write leaves: what is held, and the row
+pub record Left : Type 0 where
+  pub held : Held
+  pub row : Row
+
+abbrev pub entriesOf : WriteRequest → List Entry
+entriesOf r = take (r .entries .count) (r .entries .kept)
+
+-- "SuppressResponse true: stored, silence .. a refusal of the whole request is still sent"
+abbrev pub responseTo : List ℕ → Grants → List ℕ → List ℕ → Held → ℕ → WriteRequest → List ℕ
+responseTo w g defaults payload h exchange r =
+    pick (eqb (r .suppress) 1) [] (responseMessage exchange (entriesOf r) (codesOf w g defaults payload h (entriesOf r)))
+
+abbrev pub writeBy : List ℕ → Grants → List ℕ → Held → Row → ℕ → List ℕ → WriteRequest → Left
+writeBy w g defaults h x exchange payload r =
+    pick (eqb (r .verdict) 0)
+    (record { held = heldAfter w g defaults payload h (entriesOf r); row = once x exchange (responseTo w g defaults payload h exchange r) })
+    (record { held = h; row = once x exchange (statusMessage exchange (r .verdict)) })
+
+-- a write: nothing stored if it is refused whole
+unfoldable pub writeBegun : List ℕ → Grants → List ℕ → Held → Row → ℕ → List ℕ → Left
+writeBegun w g defaults h x exchange payload = writeBy w g defaults h x exchange payload (writeRead (writeIn payload))
+
+-- what the code answers and lends back: the values, the row, the page of edits, and the reply in the buffer
+pub record Wrote (l : Left) (r : Begun) (edits old new : List ℕ) : Type 0 where
+  pub values : r .values ≡ l .held .values
+  pub row : r .row ≡ l .row
+  pub page : edits ≡ l .held .edits
+  pub buffer : new ≡ store old 0 (keptReply (l .row))

@@ -1,0 +1,4 @@
+pub mod Messages
+pub mod Sent
+pub mod Row
+pub mod Begin

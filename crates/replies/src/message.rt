@@ -1,0 +1,73 @@
+// Whole messages written from the start of the buffer on.
+ghost use mathlib.Core.Path.{_≡_};
+ghost use mathlib.Core.Bool.{true};
+ghost use Prim.Native.Nat.{ℕ, _<_, _≤_, _^_};
+ghost use lib.ListN.{length, take, getD};
+ghost use Rattle.octets.specs.Store.{Stored};
+ghost use Rattle.schema.specs.Check.{wellFormed};
+ghost use Rattle.interaction.specs.Read.{maxPaths, maxFilters};
+ghost use Rattle.interaction_write.specs.Write.{maxWrites, noEntry};
+ghost use Rattle.writes.specs.Entry.{InWidth};
+ghost use Rattle.replies.specs.Messages.{maxMessage, statusMessage, responseMessage};
+ghost use Rattle.replies.specs.Row.{blocksOf};
+ghost use Rattle.replies.specs.Sent.{Sent};
+use super::ENVELOPE;
+use acl::Grants;
+use exchange::REPORT;
+use exchange::STATUS;
+use exchange::WRITE_RESPONSE;
+use interaction_write::Entry;
+use interaction_write::MAX_WRITES;
+use interaction_writer::envelope::put_envelope;
+use interaction_writer::response::put_status_response;
+use report::Filled;
+use report::Place;
+use report::part::Request;
+use report::part::make_part;
+use schema::WORDS;
+use values::Values;
+use writes::response::put_response;
+
+// A refusal of a whole request.
+pub fn put_status(out: &mut [u8], exchange: u64, code: u8) -> usize
+    requires { ⌜ (exchange < 2 ^ 40) × (maxMessage ≤ length (now out)) ⌝ }
+    ensures { λ r. ⌜ Stored (now (out .entry)) 0 (statusMessage exchange code) (now (out .exit)) r ⌝ }
+{
+    let p = put_envelope(out, 0, STATUS as u8, exchange, 1);
+    put_status_response(out, p, code)
+}
+
+// The statuses of a write.
+pub fn put_statuses(
+    entries: [Entry; MAX_WRITES],
+    codes: [u8; MAX_WRITES],
+    n: usize,
+    out: &mut [u8],
+    exchange: u64,
+) -> usize
+    requires { ⌜ (n ≤ maxWrites) × (((i : ℕ) → i < n → InWidth (getD entries i noEntry)) × ((exchange < 2 ^ 40) × (maxMessage ≤ length (now out)))) ⌝ }
+    ensures { λ r. ⌜ Stored (now (out .entry)) 0 (responseMessage exchange (take n entries) (take n codes)) (now (out .exit)) r ⌝ }
+{
+    let p = put_envelope(out, 0, WRITE_RESPONSE as u8, exchange, 1);
+    put_response(entries, codes, n, out, p)
+}
+
+// The part of a report from a place on.
+pub fn put_part<'a>(
+    w: &'a [u64; WORDS],
+    v: Values,
+    defaults: &'a [u8],
+    edits: &'a [u8],
+    g: Grants,
+    request: Request,
+    from: Place,
+    out: &mut [u8],
+    exchange: u64,
+    turn: u16,
+) -> Filled
+    requires { ⌜ (wellFormed (now w) ≡ true) × ((request .asked ≤ maxPaths) × ((request .filtered ≤ maxFilters) × ((exchange < 2 ^ 40) × (maxMessage ≤ length (now out))))) ⌝ }
+    ensures { λ r. ⌜ Sent (now (out .entry)) exchange turn from (blocksOf (now (w .entry)) v (now (defaults .entry)) (now (edits .entry)) g request from) (now (out .exit)) r ⌝ }
+{
+    let p = put_envelope(out, 0, REPORT as u8, exchange, turn);
+    make_part(w, v, defaults, edits, g, request, from, out, p)
+}
