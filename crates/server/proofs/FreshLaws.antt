@@ -1,0 +1,54 @@
+-- A FRESH SIGN is valid: it keeps every rule of refusal 2, whatever its page of edits has.
+use mathlib.Core.Path.{_≡_, ap}
+use mathlib.Core.Bool.{Bool, true, _&&_}
+use mathlib.Core.List.{List}
+use Prim.Native.Nat.{ℕ, _*_}
+use native.Mathlib.Omega.{arith}
+use lib.ListN.{length}
+use Rattle.tlv.specs.Octet.{pick}
+use Rattle.schema.specs.Layout.{textSize}
+use Rattle.schema.specs.Check.{textCount}
+use Rattle.schema.specs.Check as Schema
+use Rattle.schema.proofs.BoolLaws.{left, right}
+use Rattle.node.specs.Check.{numbersRight, textsRight, accepted, done, schemaRefused, checked}
+use Rattle.node.specs.Rules.{SchemaRules}
+use Rattle.node.proofs.RulesLaws.{check-done}
+use Rattle.values.specs.Fresh.{freshValues}
+use Rattle.values.proofs.FreshLaws.{fresh-right, fresh-whole}
+use Rattle.replies.specs.Row.{rowRight}
+use Rattle.replies.proofs.RowLaws.{right-row}
+use Rattle.server.specs.declared.State.{State}
+use Rattle.server.specs.Start.{freshRow, started}
+use Rattle.server.proofs.SignLaws.{RightSign, right-sign}
+use Rattle.server.proofs.StartLaws.{accepted-schema}
+use Rattle.server.proofs.KeptLaws.{ValidSign}
+
+pub fresh-row-right : rowRight freshRow ≡ true
+unfolding freshRow
+fresh-row-right =
+    right-row freshRow
+    (record { exchange = omega arith; asked = omega arith; filtered = omega arith; path = omega arith; index = omega arith; len = omega arith })
+
+module _ (w defaults : List ℕ) (h : accepted w defaults ≡ true) where
+  fresh-state : started w defaults .state ≡ record { values = freshValues w; row = freshRow }
+  unfolding started
+  fresh-state = rw h
+
+  fresh-numbers : numbersRight w ≡ true
+  unfolding accepted
+  fresh-numbers = left (numbersRight w) (textsRight w defaults) (right (Schema.wellFormed w) (numbersRight w && textsRight w defaults) h)
+
+  fresh-rules : SchemaRules w defaults
+  unfolding checked
+  fresh-rules = check-done w defaults .0 (ap (λ (b : Bool). pick b done schemaRefused) h)
+
+  pub fresh-valid : (edits : List ℕ) → length edits ≡ textSize * textCount w → ValidSign w defaults edits (started w defaults .state)
+  fresh-valid edits size =
+      let s : State = record { values = freshValues w; row = freshRow } in
+      let r : RightSign w defaults edits s = record {
+        schema = accepted-schema w defaults h;
+        numbers = fresh-numbers;
+        values = fresh-right w defaults fresh-rules edits size;
+        row = fresh-row-right;
+      } in
+      rw fresh-state (record { whole = fresh-whole w; right = right-sign w defaults edits s r })

@@ -1,0 +1,114 @@
+-- What receiving answers, over all its cases: no 2 from a valid sign, refusals touch nothing, silence has no reply.
+use mathlib.Core.Path.{_≡_, refl, sym, _∙_}
+use mathlib.Core.Bool.{Bool, true, false, _&&_, true≢false}
+use mathlib.Core.List.{List, [], _∷_}
+use Prim.Native.Nat.{ℕ, _^_, _<_}
+use native.Mathlib.Omega.{arith}
+use lib.Dec.{eqb, ltb, leb}
+use lib.ListN.{length, getD, take, drop}
+use Rattle.tlv.specs.Octet.{pick}
+use Rattle.tlv.proofs.Picks.{pick-elim}
+use Rattle.envelope.specs.declared.Fields.{Fields}
+use Rattle.envelope.specs.declared.Envelope.{Envelope}
+use Rattle.envelope.specs.declared.Envelope.the-variants as envelope
+use Rattle.envelope.specs.Envelope.{fieldsOf, envelopeIn}
+use Rattle.interaction_writer.specs.Envelope.{bigNumber}
+use Rattle.schema.specs.Layout.{subjectWord}
+use Rattle.schema.proofs.BoolLaws.{both}
+use Rattle.acl.specs.declared.Grants.{Grants}
+use Rattle.exchange.specs.declared.Step.{Step}
+use Rattle.exchange.specs.declared.Step.the-variants.{Silence, Begin, Repeat, Next, Close}
+use Rattle.exchange.specs.Rules.{readOpcode, forServer}
+use Rattle.replies.specs.Messages.{envelopeLength, maxMessage}
+use Rattle.replies.specs.Row.{keptReply, nextPart}
+use Rattle.replies.specs.Begin.{readBegun, writeBegun}
+use Rattle.server.specs.declared.State.{State}
+use Rattle.server.specs.State.{signRight}
+use Rattle.server.specs.Receive.{Reaction, refusal, numberFor, answering, silence, replied, wrote, stepOf, reacted, inEnvelope, received}
+
+-- ---- an envelope's exchange has 40 bits
+
+abbrev Below : Envelope → Type 0
+Below envelope.Short = Unit
+Below (envelope.Whole e) = e .exchange < 2 ^ 40
+
+fields-below : (n : ℕ) → fieldsOf n .exchange < 2 ^ 40
+unfolding fieldsOf
+fields-below n = omega arith
+
+envelope-below : (m : List ℕ) → Below (envelopeIn m)
+unfolding envelopeIn
+envelope-below m = pick-elim Below (ltb (length m) 8) envelope.Short (envelope.Whole (fieldsOf (bigNumber (take 8 m)))) (λ _. tt) (λ _. fields-below (bigNumber (take 8 m)))
+
+-- ---- a property of what is answered: of the refusals, of silence, and of every reaction
+
+module _ (P : Reaction → Type 0) (w defaults edits : List ℕ) (s : State) (g : Grants) where
+  module _ (no-message : P (refusal 4 s edits)) (silent : P (silence s edits)) (each : (e : Fields) → e .exchange < 2 ^ 40 → (payload : List ℕ) (step : Step) → P (reacted w defaults g s edits e payload step)) where
+    enveloped : (subject : ℕ) (m : List ℕ) (x : Envelope) → Below x → P (inEnvelope w defaults g s edits subject m x)
+    enveloped subject m envelope.Short b = no-message
+    enveloped subject m (envelope.Whole e) b =
+        let payload = drop envelopeLength m in
+        let r = reacted w defaults g s edits e payload (stepOf (s .row .progress) e payload) in
+        pick-elim P (leb (length m) maxMessage && (eqb (e .edition) 0 && forServer (e .opcode))) (pick (eqb subject (getD w subjectWord 0)) r (silence s edits)) (refusal 4 s edits)
+        (λ _. pick-elim P (eqb subject (getD w subjectWord 0)) r (silence s edits) (λ _. each e b payload (stepOf (s .row .progress) e payload)) (λ _. silent))
+        (λ _. no-message)
+
+    pub received-holds : (table : Bool) (subject : ℕ) (m : List ℕ) (room : ℕ) → ((signRight w defaults edits s && table) ≡ false → P (refusal 2 s edits)) → P (refusal 3 s edits) → P (received w defaults edits s table g subject m room)
+    unfolding received
+    received-holds table subject m room broken small =
+        let x = inEnvelope w defaults g s edits subject m (envelopeIn m) in
+        pick-elim P (signRight w defaults edits s && table) (pick (ltb room maxMessage) (refusal 3 s edits) x) (refusal 2 s edits)
+        (λ _. pick-elim P (ltb room maxMessage) (refusal 3 s edits) x (λ _. small) (λ _. enveloped subject m (envelopeIn m) (envelope-below m)))
+        broken
+
+  -- every reaction answers with a reply or with silence
+  reacted-holds : ((t : State) (page reply : List ℕ) → P (answering t page reply)) → (e : Fields) (payload : List ℕ) (step : Step) → P (reacted w defaults g s edits e payload step)
+  unfolding reacted
+  reacted-holds f e payload Silence = f s edits []
+  reacted-holds f e payload Begin =
+      let x = readBegun w (s .values) defaults edits g (s .row) (e .exchange) payload in
+      let l = writeBegun w g defaults (record { values = s .values; edits = edits }) (s .row) (e .exchange) payload in
+      pick-elim P (eqb (e .opcode) readOpcode) (replied s edits x) (wrote l) (λ _. f _ edits (keptReply x)) (λ _. f _ (l .held .edits) (keptReply (l .row)))
+  reacted-holds f e payload Repeat = f s edits (keptReply (s .row))
+  reacted-holds f e payload Next = f _ edits (keptReply (nextPart w (s .values) defaults edits g (s .row)))
+  reacted-holds f e payload Close = f _ edits []
+
+  answers-hold : ((t : State) (page reply : List ℕ) → P (answering t page reply)) → P (refusal 4 s edits) → (table : Bool) (subject : ℕ) (m : List ℕ) (room : ℕ) → ((signRight w defaults edits s && table) ≡ false → P (refusal 2 s edits)) → P (refusal 3 s edits) → P (received w defaults edits s table g subject m room)
+  answers-hold f no-message = received-holds no-message (f s edits []) (λ e b. reacted-holds f e)
+
+-- ---- the laws
+
+-- nothing moved, and no reply was written
+pub record Untouched (s : State) (edits : List ℕ) (x : Reaction) : Type 0 where
+  pub state : x .state ≡ s
+  pub page : x .edits ≡ edits
+  pub reply : x .reply ≡ []
+
+reply-number : (reply : List ℕ) → numberFor reply < 2
+reply-number [] = omega arith
+reply-number (x ∷ l) = omega arith
+
+no-reply : (reply : List ℕ) → numberFor reply ≡ 1 → reply ≡ []
+no-reply [] h = refl
+no-reply (x ∷ l) h = absurd (omega arith)
+
+module _ (w defaults edits : List ℕ) (s : State) (table : Bool) (g : Grants) (subject : ℕ) (m : List ℕ) (room : ℕ) where
+  -- NEVER 2 from a right sign whose access table is right
+  pub never-2 : signRight w defaults edits s ≡ true → table ≡ true → received w defaults edits s table g subject m room .number ≡ 2 → ⊥
+  never-2 h t =
+      answers-hold (λ (x : Reaction). x .number ≡ 2 → ⊥) w defaults edits s g
+      (λ _ _ reply q. let l : numberFor reply < 2 = reply-number reply in omega (arith, l, q)) (λ q. omega (arith, q)) table subject m room
+      (λ f _. absurd (true≢false (sym (both _ _ h t) ∙ f))) (λ q. omega (arith, q))
+
+  -- REFUSALS 2, 3 and 4 touch nothing
+  pub refused-untouched : 1 < received w defaults edits s table g subject m room .number → Untouched s edits (received w defaults edits s table g subject m room)
+  refused-untouched =
+      let still : (n : ℕ) → 1 < n → Untouched s edits (refusal n s edits) = λ n _. record { state = refl; page = refl; reply = refl } in
+      answers-hold (λ (x : Reaction). 1 < x .number → Untouched s edits x) w defaults edits s g
+      (λ _ _ reply q. let l : numberFor reply < 2 = reply-number reply in absurd (omega (arith, l, q))) (still 4) table subject m room (λ _. still 2) (still 3)
+
+  -- SILENCE has no reply: the buffer is as it was
+  pub silence-untouched : received w defaults edits s table g subject m room .number ≡ 1 → received w defaults edits s table g subject m room .reply ≡ []
+  silence-untouched =
+      answers-hold (λ (x : Reaction). x .number ≡ 1 → x .reply ≡ []) w defaults edits s g (λ _ _. no-reply) (λ _. refl) table subject m room
+      (λ _ _. refl) (λ _. refl)

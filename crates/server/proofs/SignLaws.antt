@@ -1,0 +1,34 @@
+-- What a right sign keeps to, rule by rule.
+use mathlib.Core.Path.{_≡_}
+use mathlib.Core.Bool.{true, _&&_}
+use mathlib.Core.List.{List}
+use Prim.Native.Nat.{ℕ}
+use Rattle.schema.specs.Check as Schema
+use Rattle.schema.proofs.BoolLaws.{both, left, right}
+use Rattle.node.specs.Check.{numbersRight}
+use Rattle.values.specs.Valid.{valuesRight}
+use Rattle.replies.specs.Row.{rowRight}
+use Rattle.server.specs.declared.State.{State}
+use Rattle.server.specs.State.{signRight}
+
+pub record RightSign (w defaults edits : List ℕ) (s : State) : Type 0 where
+  pub schema : Schema.wellFormed w ≡ true
+  pub numbers : numbersRight w ≡ true
+  pub values : valuesRight w defaults edits (s .values) ≡ true
+  pub row : rowRight (s .row) ≡ true
+
+module _ (w defaults edits : List ℕ) (s : State) where
+  pub sign-right : signRight w defaults edits s ≡ true → RightSign w defaults edits s
+  unfolding signRight
+  sign-right h =
+      let t₀ = Schema.wellFormed w in
+      let t₁ = numbersRight w in
+      let t₂ = valuesRight w defaults edits (s .values) in
+      let t₃ = rowRight (s .row) in
+      let h₁ = right t₀ (t₁ && (t₂ && t₃)) h in
+      let h₂ = right t₁ (t₂ && t₃) h₁ in
+      record { schema = left t₀ (t₁ && (t₂ && t₃)) h; numbers = left t₁ (t₂ && t₃) h₁; values = left t₂ t₃ h₂; row = right t₂ t₃ h₂ }
+
+  pub right-sign : RightSign w defaults edits s → signRight w defaults edits s ≡ true
+  unfolding signRight
+  right-sign r = both _ _ (r .schema) (both _ _ (r .numbers) (both _ _ (r .values) (r .row)))

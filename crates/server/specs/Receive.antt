@@ -1,0 +1,123 @@
+-- WHEN WHAT IS ANSWERED (document 01, Envelope, and When either end says no): from a state and a message to a state and a reply.
+use mathlib.Core.Path.{_≡_}
+use mathlib.Core.Bool.{Bool, true, false, _&&_}
+use mathlib.Core.List.{List, [], _∷_}
+use Prim.Native.Nat.{ℕ}
+use lib.Dec.{eqb, ltb, leb}
+use lib.ListN.{length, getD, drop}
+use Rattle.octets.specs.Store.{store}
+use Rattle.tlv.specs.Octet.{pick}
+use Rattle.tlv.specs.Decode.{Opt}
+use Rattle.tlv.specs.Decode.Opt.{just, nothing}
+use Rattle.envelope.specs.declared.Fields.{Fields}
+use Rattle.envelope.specs.declared.Envelope.{Envelope}
+use Rattle.envelope.specs.declared.Envelope.the-variants.{Whole, Short}
+use Rattle.envelope.specs.Envelope.{envelopeIn}
+use Rattle.interaction.specs.Status.{responseIn}
+use Rattle.schema.specs.Layout.{subjectWord}
+use Rattle.acl.specs.declared.Grants.{Grants}
+use Rattle.exchange.specs.declared.Progress.{Progress}
+use Rattle.exchange.specs.declared.Step.{Step}
+use Rattle.exchange.specs.declared.Step.the-variants.{Silence, Begin, Repeat, Next, Close}
+use Rattle.exchange.specs.Rules.{readOpcode, beginning, forServer, onRequest, onStatus}
+use Rattle.writes.specs.Offer.{Held}
+use Rattle.replies.specs.declared.Row.{Row}
+use Rattle.replies.specs.Messages.{envelopeLength, maxMessage}
+use Rattle.replies.specs.Row.{keptReply, nextPart}
+use Rattle.replies.specs.Begin.{Left, readBegun, writeBegun}
+use Rattle.server.specs.declared.State.{State}
+use Rattle.server.specs.declared.Outcome.{Outcome}
+use Rattle.server.specs.State.{signRight}
+
+-- what a call answers and leaves: document 01's number, the state, the page of edits, and the reply, which may be none
+pub record Reaction : Type 0 where
+  pub number : ℕ
+  pub state : State
+  pub edits : List ℕ
+  pub reply : List ℕ
+
+-- a refusal leaves everything as it was
+abbrev pub refusal : ℕ → State → List ℕ → Reaction
+refusal n s edits = record { number = n; state = s; edits = edits; reply = [] }
+
+-- 0 and a reply, or 1 and silence
+abbrev pub numberFor : List ℕ → ℕ
+numberFor [] = 1
+numberFor (x ∷ l) = 0
+
+abbrev pub answering : State → List ℕ → List ℕ → Reaction
+answering s edits reply = record { number = numberFor reply; state = s; edits = edits; reply = reply }
+
+abbrev pub silence : State → List ℕ → Reaction
+silence s edits = answering s edits []
+
+-- with another row
+abbrev pub withRow : State → Row → State
+withRow s x = record { values = s .values; row = x }
+
+abbrev pub replied : State → List ℕ → Row → Reaction
+replied s edits x = answering (withRow s x) edits (keptReply x)
+
+abbrev pub closing : Row → Row
+closing x =
+    record {
+      progress = record { last = x .progress .last; turn = x .progress .turn; promised = x .progress .promised; closed = true };
+      request = x .request;
+      place = x .place;
+      kept = x .kept;
+      len = x .len;
+    }
+
+abbrev pub wrote : Left → Reaction
+wrote l = answering (record { values = l .held .values; row = l .row }) (l .held .edits) (keptReply (l .row))
+
+-- what a message means for the exchange; "a malformed status included: silence"
+abbrev pub byStatus : Progress → Fields → Opt ℕ → Step
+byStatus x e nothing = Silence
+byStatus x e (just code) = onStatus x (e .exchange) (e .turn) code
+
+unfoldable pub stepOf : Progress → Fields → List ℕ → Step
+stepOf x e payload = pick (beginning (e .opcode)) (onRequest x (e .exchange) (e .turn)) (byStatus x e (responseIn payload))
+
+module _ (w defaults : List ℕ) (g : Grants) (s : State) (edits : List ℕ) (e : Fields) (payload : List ℕ) where
+  -- a request that begins an exchange
+  abbrev pub begun : Reaction
+  begun =
+      pick (eqb (e .opcode) readOpcode) (replied s edits (readBegun w (s .values) defaults edits g (s .row) (e .exchange) payload))
+      (wrote (writeBegun w g defaults (record { values = s .values; edits = edits }) (s .row) (e .exchange) payload))
+
+  unfoldable pub reacted : Step → Reaction
+  reacted Silence = silence s edits
+  reacted Begin = begun
+  reacted Repeat = answering s edits (keptReply (s .row))
+  reacted Next = replied s edits (nextPart w (s .values) defaults edits g (s .row))
+  reacted Close = silence (withRow s (closing (s .row))) edits
+
+-- 4: "message under 8 or over 1,032 bytes, edition not 0, opcode not for this end"; then another subject's silence
+abbrev pub inEnvelope : List ℕ → List ℕ → Grants → State → List ℕ → ℕ → List ℕ → Envelope → Reaction
+inEnvelope w defaults g s edits subject m Short = refusal 4 s edits
+inEnvelope w defaults g s edits subject m (Whole e) =
+    pick (leb (length m) maxMessage && (eqb (e .edition) 0 && forServer (e .opcode)))
+    (pick (eqb subject (getD w subjectWord 0))
+    (reacted w defaults g s edits e (drop envelopeLength m) (stepOf (s .row .progress) e (drop envelopeLength m)))
+    (silence s edits))
+    (refusal 4 s edits)
+
+-- RECEIVING a message: 2, 3, 4, then the rules; `table` says whether the access table keeps the rules, `room` is the buffer's length
+unfoldable pub received : List ℕ → List ℕ → List ℕ → State → Bool → Grants → ℕ → List ℕ → ℕ → Reaction
+received w defaults edits s table g subject m room =
+    pick (signRight w defaults edits s && table)
+    (pick (ltb room maxMessage) (refusal 3 s edits) (inEnvelope w defaults g s edits subject m (envelopeIn m)))
+    (refusal 2 s edits)
+
+-- a reply of so many bytes, or silence
+abbrev pub outcomeWith : State → ℕ → Outcome
+outcomeWith s len = record { state = s; number = pick (eqb len 0) 1 0; len = len }
+
+-- as the code has it: what it answers, and what it leaves in the buffer and in the page of edits
+pub record Reacted (x : Reaction) (r : Outcome) (edits old new : List ℕ) : Type 0 where
+  pub number : r .number ≡ x .number
+  pub state : r .state ≡ x .state
+  pub len : r .len ≡ length (x .reply)
+  pub page : edits ≡ x .edits
+  pub buffer : new ≡ store old 0 (x .reply)

@@ -1,0 +1,56 @@
+// The sign: a server of the Interaction Model. Every call takes any bytes, any buffer, any state, and answers one of document 01's numbers.
+ghost use mathlib.Core.Path.{_≡_};
+ghost use Prim.Native.Nat.{ℕ};
+ghost use Rattle.server.specs.State.{signRight};
+use node::first::numbers_ok;
+use replies::Row;
+use replies::kept::row_ok;
+use schema::WORDS;
+use schema::check::well_formed;
+use values::Values;
+use values::valid::values_ok;
+
+pub mod receive; // receive.rt: a message answered
+pub mod start; // start.rt: a fresh sign, and a change made at the sign itself
+
+// What a sign holds, and the exchange that it serves.
+pub struct State {
+    pub values: Values,
+    pub row: Row,
+}
+
+// Document 01's number, the state afterwards, and the reply's length in the buffer.
+pub struct Outcome {
+    pub state: State,
+    pub number: u8,
+    pub len: usize,
+}
+
+// The numbers of document 01, When either end says no.
+pub const DONE: u8 = 0;
+
+pub const SILENT: u8 = 1;
+
+pub const BROKEN: u8 = 2;
+
+pub const SMALL_BUFFER: u8 = 3;
+
+pub const NO_MESSAGE: u8 = 4;
+
+pub const SCHEMA_REFUSED: u8 = 11;
+
+// Whether schema, pages and state keep the rules of document 01.
+pub fn sign_ok<'a>(w: &'a [u64; WORDS], defaults: &'a [u8], edits: &'a [u8], s: State) -> bool
+    ensures { λ r. ⌜ r ≡ signRight (now (w .entry)) (now (defaults .entry)) (now (edits .entry)) s ⌝ }
+{
+    if !well_formed(w) {
+        return false;
+    }
+    if !numbers_ok(w) {
+        return false;
+    }
+    if !values_ok(w, defaults, edits, s.values) {
+        return false;
+    }
+    row_ok(s.row)
+}
