@@ -1,0 +1,144 @@
+//! Times the test of refusal 2 beside one part of a report, both proved functions of `crates/measured`. It asserts nothing about time: it prints medians and
+//! their ratios within one run.
+
+mod sign;
+
+use sign::{Kind, Sign, ATTRIBUTES, PAYLOAD, TEXT_SIZE};
+use std::hint::black_box;
+use std::time::Instant;
+
+/// Samples of each function; a sample is the mean of enough calls to last some 20 µs.
+const SAMPLES: usize = 2001;
+const SAMPLE_NANOS: f64 = 20_000.0;
+
+fn nanos(calls: usize, f: &mut dyn FnMut()) -> f64 {
+    let start = Instant::now();
+    for _ in 0..calls {
+        f();
+    }
+    start.elapsed().as_nanos() as f64 / calls as f64
+}
+
+fn median(mut samples: Vec<f64>) -> f64 {
+    samples.sort_by(f64::total_cmp);
+    samples[samples.len() / 2]
+}
+
+/// The medians of several functions, sampled in turn, so that other work on the machine falls on all alike.
+fn medians<const N: usize>(mut fs: [&mut dyn FnMut(); N]) -> [f64; N] {
+    let calls: Vec<usize> = fs
+        .iter_mut()
+        .map(|f| {
+            let once = (0..50).map(|_| nanos(1, f)).fold(f64::MAX, f64::min);
+            (SAMPLE_NANOS / once.max(1.0)).ceil() as usize
+        })
+        .collect();
+    let mut samples = vec![Vec::with_capacity(SAMPLES); N];
+    for _ in 0..SAMPLES {
+        for (k, f) in fs.iter_mut().enumerate() {
+            samples[k].push(nanos(calls[k], f));
+        }
+    }
+    let mut results = [0.0; N];
+    for (k, s) in samples.into_iter().enumerate() {
+        results[k] = median(s);
+    }
+    results
+}
+
+/// Booleans, unsigned and signed numbers, floats and short texts in turn.
+fn mixed() -> Vec<Kind> {
+    (0..ATTRIBUTES)
+        .map(|i| match i % 5 {
+            0 => Kind::Boolean(i % 2 == 0),
+            1 => Kind::Unsigned { low: 0, high: 100_000, first: i as u64 * 300 },
+            2 => Kind::Signed { low: -40_000, high: 40_000, first: i as i64 * 200 - 25_000 },
+            3 => Kind::Float { low: -10.0, high: 10.0, first: i as f32 / 32.0 },
+            _ => Kind::Text(b"RETURN - RENDRE".to_vec()),
+        })
+        .collect()
+}
+
+/// Texts of 200 bytes, each with this at a place of its own; a byte that is left over is ASCII.
+fn texts(inner: &str) -> Vec<Kind> {
+    let texts = (0..ATTRIBUTES).map(|i| {
+        let mut text = vec![b'x'; i * 37 % (TEXT_SIZE - inner.len() + 1)];
+        text.extend_from_slice(inner.as_bytes());
+        text.resize(TEXT_SIZE, b'x');
+        Kind::Text(text)
+    });
+    texts.collect()
+}
+
+/// Characters of one to four bytes in no order, until 200 bytes are full.
+fn scripts() -> Vec<Kind> {
+    let mut seed: u32 = 1;
+    let texts = (0..ATTRIBUTES).map(|_| {
+        let mut text = String::new();
+        loop {
+            seed = seed.wrapping_mul(1_664_525).wrapping_add(1_013_904_223);
+            let next = ["a", "é", "借", "𝄞"][(seed >> 30) as usize];
+            if TEXT_SIZE < text.len() + next.len() {
+                break;
+            }
+            text.push_str(next);
+        }
+        let mut text = text.into_bytes();
+        text.resize(TEXT_SIZE, b'x');
+        Kind::Text(text)
+    });
+    texts.collect()
+}
+
+fn edited(kinds: &[Kind]) -> Sign {
+    let mut sign = Sign::new(kinds);
+    sign.edit_all();
+    sign
+}
+
+/// The answers are held to what they must be; the times are not.
+fn answers_are_right(sign: &Sign) -> usize {
+    assert!(sign.valid(), "a fresh sign keeps the rules");
+    let mut out = [0; PAYLOAD];
+    let first = sign.part(0, 0, &mut out);
+    assert!(first.more && first.end <= PAYLOAD, "a part is within its limit, and promises more");
+    assert_eq!(out[..4], [0x15, 0x36, 0x01, 0x15], "a report begins with its blocks");
+    sign.read(&mut out)
+}
+
+fn main() {
+    let signs = [
+        ("256 of mixed kinds", Sign::new(&mixed())),
+        ("256 texts, ASCII", Sign::new(&texts("BORROW"))),
+        ("256 texts, ASCII, edited", edited(&texts("BORROW"))),
+        ("256 texts, one é each", Sign::new(&texts("PRÉT"))),
+        ("256 texts, any script", Sign::new(&scripts())),
+    ];
+    let mut broken = Sign::new(&mixed());
+    broken.break_last();
+    assert!(!broken.valid(), "a value past its limits breaks the rules");
+    println!(
+        "{:26} {:>9} {:>9} {:>7} {:>6} {:>9} {:>7}",
+        "", "test ns", "part ns", "ratio", "parts", "read ns", "ratio"
+    );
+    for (name, sign) in &signs {
+        let parts = answers_are_right(sign);
+        let (mut one, mut all) = ([0; PAYLOAD], [0; PAYLOAD]);
+        let [test, part, read] = medians([
+            &mut || {
+                black_box(black_box(sign).valid());
+            },
+            &mut || {
+                black_box(black_box(sign).part(0, 0, &mut one));
+            },
+            &mut || {
+                black_box(black_box(sign).read(&mut all));
+            },
+        ]);
+        println!(
+            "{name:26} {test:9.0} {part:9.0} {:7.2} {parts:6} {read:9.0} {:7.2}",
+            test / part,
+            test / read,
+        );
+    }
+}
