@@ -6,3 +6,4 @@ pub mod ReactLaws
 pub mod ReceiveLaws
 pub mod ReceivedLaws
 pub mod KeptLaws
+pub mod PromiseLaws

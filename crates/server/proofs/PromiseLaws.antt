@@ -1,0 +1,69 @@
+-- After a promise a success gets a part: the next one, made of what is held then, which may have no block.
+use mathlib.Core.Path.{_≡_, refl, ap, _∙_}
+use mathlib.Core.Bool.{true, false, not}
+use mathlib.Core.List.{List, [], _∷_}
+use Prim.Native.Nat.{ℕ, _≤_, _<_}
+use native.Mathlib.Omega.{arith}
+use borrow.Author.Tests.{eq-eqb, lt-ltb}
+use lib.ListN.{length, getD, drop}
+use Rattle.tlv.specs.Decode.Opt.{just}
+use Rattle.envelope.specs.declared.Fields.{Fields}
+use Rattle.envelope.specs.declared.Envelope.the-variants.{Whole}
+use Rattle.envelope.specs.Envelope.{envelopeIn}
+use Rattle.interaction.specs.Status.{responseIn}
+use Rattle.schema.specs.Layout.{subjectWord}
+use Rattle.acl.specs.declared.Grants.{Grants}
+use Rattle.exchange.specs.declared.Progress.{Progress}
+use Rattle.exchange.specs.declared.Step.the-variants.{Next}
+use Rattle.exchange.specs.Rules.{statusOpcode, maxTurn, beginning, forServer, onStatus}
+use Rattle.replies.specs.Messages.{envelopeLength, maxMessage}
+use Rattle.replies.specs.Row.{keptReply, nextPart}
+use Rattle.replies.proofs.KeptLaws.{next-right, next-some}
+use Rattle.server.specs.declared.State.{State}
+use Rattle.server.specs.State.{signRight}
+use Rattle.server.specs.Receive.{numberFor, replied, stepOf, reacted, received}
+use Rattle.server.proofs.ReactLaws.{kept-length, next-whole, len-of}
+use Rattle.server.proofs.ReceiveLaws.{served, right-row-of}
+
+-- a success for the newest reply of an exchange that promised more and was not closed
+pub record Success (w : List ℕ) (s : State) (subject : ℕ) (m : List ℕ) (e : Fields) : Type 0 where
+  pub found : envelopeIn m ≡ Whole e
+  pub fits : length m ≤ maxMessage
+  pub edition : e .edition ≡ 0
+  pub opcode : e .opcode ≡ statusOpcode
+  pub ours : subject ≡ getD w subjectWord 0
+  pub exchange : e .exchange ≡ s .row .progress .last
+  pub turn : e .turn ≡ s .row .progress .turn
+  pub status : responseIn (drop envelopeLength m) ≡ just 0
+
+pub record Promised (x : Progress) : Type 0 where
+  pub promised : x .promised ≡ true
+  pub unclosed : x .closed ≡ false
+  pub left : x .turn < maxTurn
+
+step-next : (x : Progress) (e : Fields) (payload : List ℕ) → e .opcode ≡ statusOpcode → e .exchange ≡ x .last → e .turn ≡ x .turn → responseIn payload ≡ just 0 → Promised x → stepOf x e payload ≡ Next
+unfolding stepOf beginning onStatus
+step-next x e payload o a b c p =
+    rw (o, c, eq-eqb (e .exchange) (x .last) a, p .unclosed, eq-eqb (e .turn) (x .turn) b, p .promised, lt-ltb (x .turn) maxTurn (p .left)) refl
+
+for-status : (opcode : ℕ) → opcode ≡ statusOpcode → forServer opcode ≡ true
+unfolding forServer
+for-status opcode o = rw o refl
+
+some-number : (l : List ℕ) → envelopeLength ≤ length l → numberFor l ≡ 0
+some-number [] h = absurd (omega arith)
+some-number (x ∷ l) h = refl
+
+module _ (w defaults edits : List ℕ) (s : State) (g : Grants) (subject : ℕ) (m : List ℕ) (room : ℕ) (h : signRight w defaults edits s ≡ true) (enough : maxMessage ≤ room) {e : Fields} (y : Success w s subject m e) (p : Promised (s .row .progress)) where
+  pub promised-part : received w defaults edits s true g subject m room ≡ replied s edits (nextPart w (s .values) defaults edits g (s .row))
+  unfolding reacted
+  promised-part =
+      served w defaults edits s true g subject m room h refl enough (y .found) (y .fits) (y .edition) (for-status (e .opcode) (y .opcode)) (y .ours)
+      ∙ ap (reacted w defaults g s edits e (drop envelopeLength m)) (step-next (s .row .progress) e (drop envelopeLength m) (y .opcode) (y .exchange) (y .turn) (y .status) p)
+
+  -- so it is never silence
+  pub promised-answered : length (s .row .kept) ≡ maxMessage → received w defaults edits s true g subject m room .number ≡ 0
+  promised-answered whole =
+      let x = nextPart w (s .values) defaults edits g (s .row) in
+      ap (λ r. r .number) promised-part
+      ∙ some-number (keptReply x) (omega (arith, next-some w (s .values) defaults edits g (s .row), kept-length x (next-whole w (s .values) defaults edits g (s .row) ∙ whole) (len-of x (next-right w (s .values) defaults edits g (s .row) (right-row-of w defaults edits s h)))))
