@@ -89,3 +89,13 @@ module _ (l : List ℕ) (n limit x i : ℕ) (room : limit ≤ length l) (at : pl
           let last : eqb (getD (set l i x) (n + 0) 0) x ≡ true = eq-eqb _ _ (ap (λ (k : ℕ). getD (set l i x) k 0) (sym here) ∙ getD-set-same l i x 0 (omega (arith, e, r .2))) in
           rw count (first-last (λ j. eqb (getD (set l i x) j 0) x) n 0
           (first-agree (λ j. eqb (getD (set l i x) j 0) x) was n 0 (λ j a b. ap (λ (w : ℕ). eqb w x) (getD-set-other l i j x 0 (λ z. omega (arith, e, z)))) ∙ r .0) last ∙ ap found.At (sym here))
+
+-- a place that is given is within the limit
+pub placed-below : (l : List ℕ) (n limit x i : ℕ) → n ≤ limit → placeFor n limit (wordAt l n x) ≡ Here i → i < limit
+unfolding wordAt
+placed-below l n limit x i room at = go (wordAt l n x) refl at
+  where
+    go : (f : Found) → wordAt l n x ≡ f → placeFor n limit f ≡ Here i → i < limit
+    go (found.At j) e q = let s : j ≡ i = cc in omega (arith, s, found (λ k. eqb (getD l k 0) x) n 0 j e .below)
+    go found.Nothing e q = by-test (ltb n limit) (λ t. let z : Here n ≡ Here i = rw t at q in let s : n ≡ i = cc in omega (arith, s, ltb-true n limit t))
+        (λ f. never (let z : Full ≡ Here i = rw f at q in cc))

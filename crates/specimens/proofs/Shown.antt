@@ -8,7 +8,7 @@ use Rattle.utf8.specs.WellFormed.{completes, table, trailing, within}
 use Rattle.utf8.specs.WellFormed as Utf8
 use Rattle.tlv.specs.Head.{closedAt, headAt}
 use Rattle.tlv.specs.Octet.{headOctets, numberWidth, tagWidth}
-use Rattle.tlv.specs.Value.{valueOf}
+use Rattle.tlv.specs.Value.{valueIn, valueOf}
 use Rattle.tlv.specs.Walk.{allowedIn, elementBy, elementEnd, foldAt, foldBy}
 use Rattle.tlv_writer.specs.Element.{booleanOctets, datumOctets, floatOctets, formOf, headFor, labelOf, openOctets, signedOctets, textOctets, unsignedOctets}
 use Rattle.tlv_writer.specs.Width.{leastOf, leastSignedWidth, leastWidth, twos, widthCode}
@@ -51,7 +51,7 @@ use Rattle.exchange.specs.Rules.{forServer, onRequest}
 use Rattle.report.specs.Blocks.{blockOf, blocksFrom, collect, pathBlocks, pathsBlocks, valueBlock}
 use Rattle.report.specs.Chunk.{left, taken}
 use Rattle.report.specs.Part.{partPayload}
-use Rattle.writes.specs.Entry.{allowedAt, codesOf, entryWritten, heldAfter, mayWrite, valueIn}
+use Rattle.writes.specs.Entry.{allowedAt, codesOf, entryWritten, heldAfter, mayWrite}
 use Rattle.writes.specs.Offer.{changed, offered}
 use Rattle.writes.specs.Response.{answerTrees, responsePayload}
 use Rattle.replies.specs.Begin.{readBegun, requestOf, writeBegun}

@@ -9,6 +9,8 @@ use Rattle.tlv.specs.declared.Element.{Element}
 use Rattle.tlv.specs.declared.Value.{Value}
 use Rattle.tlv.specs.declared.Value.the-variants.{Null, Boolean, Unsigned, Signed, Float, Text, Other}
 use Rattle.tlv.specs.Octet.{pick, numberWidth}
+use Rattle.tlv.specs.Head.{headAt}
+use Rattle.tlv.specs.Walk.{headed}
 use Rattle.tlv.specs.Tree.{Primitive, Tree, complement}
 use Rattle.tlv.specs.Tree.Tree.{primitive, container}
 
@@ -27,6 +29,10 @@ valueOf e =
     (pick (ltb (e .kind) 12) Other
     (pick (ltb (e .kind) 16) (Text (e .body) (e .number))
     (pick (eqb (e .kind) 20) Null Other)))))))
+
+-- the value that stands at a place of a message
+unfoldable pub valueIn : List ℕ → ℕ → Value
+valueIn s at = headed Other valueOf (headAt s at)
 
 -- what a data element means here: null, a value of one of five types, or something else
 pub data Datum : Type 0 where

@@ -5,7 +5,7 @@ ghost use Rattle.tlv.specs.Octet.{tagWidth, numberWidth, isString};
 ghost use Rattle.tlv.specs.Head.{headAt, closedAt};
 ghost use Rattle.tlv.specs.Walk.{allowedIn, elementEnd, membersEnd, elementAt, isMessage, ended};
 ghost use Rattle.tlv.specs.Tree.{complement};
-ghost use Rattle.tlv.specs.Value.{signedOf, valueOf};
+ghost use Rattle.tlv.specs.Value.{signedOf, valueOf, valueIn};
 
 // How deep containers may nest: the message's own structure is depth 1.
 pub const MAX_DEPTH: usize = 10;
@@ -333,4 +333,15 @@ impl Element {
         }
         Value::Other
     }
+}
+
+// The value that stands at a place; a place where no element stands has none of ours.
+pub fn value_in(s: &[u8], at: usize) -> Value
+    ensures { λ r. ⌜ r ≡ valueIn (now (s .entry)) at ⌝ }
+{
+    let here = Cursor { at };
+    let Head::Found(e) = here.head(s) else {
+        return Value::Other;
+    };
+    e.value()
 }

@@ -29,9 +29,10 @@ use Rattle.selection.specs.declared.locate.Located.the-variants.{Here, Refused}
 use Rattle.selection.specs.Locate.{located}
 use Rattle.selection.proofs.LocateLaws.{located-here}
 use Rattle.writes.specs.Offer.{Held, byVerdict, storedIn, verdictOn, offered, byPlace, changed}
-use Rattle.writes.specs.Entry.{valueIn, mayWrite, entryWritten, heldAfter}
+use Rattle.tlv.specs.Value.{valueIn}
+use Rattle.writes.specs.Entry.{mayWrite, entryWritten, heldAfter}
 use Rattle.writes.proofs.EntryLaws.{may-index}
-use Rattle.writes.proofs.SizedLaws.{value-in-sized}
+use Rattle.kinds.proofs.SizedLaws.{value-in-sized}
 
 module _ (P : Held → Type 0) (w defaults : List ℕ) where
   module _ (h : Held) (src : List ℕ) (new : Value) (now : P h) where

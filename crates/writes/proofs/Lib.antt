@@ -1,6 +1,5 @@
 pub mod OfferLaws
 pub mod EntryLaws
-pub mod SizedLaws
 pub mod HeldLaws
 pub mod LoopLaws
 pub mod ResponseLaws

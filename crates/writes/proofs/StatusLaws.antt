@@ -26,7 +26,8 @@ use Rattle.selection.specs.declared.locate.Located.the-variants.{Here, Refused}
 use Rattle.selection.specs.Status.{unsupportedEndpoint, unsupportedWrite, unsupportedAccess, dataVersionMismatch}
 use Rattle.selection.specs.Locate.{attributeFound, clusterFound, located}
 use Rattle.writes.specs.Offer.{Held, byVerdict, storedIn, verdictOn, offered, byPlace}
-use Rattle.writes.specs.Entry.{valueIn, versionFits, allowedAt, allowedThere, mayWrite, entryWritten, codesOf, codesIn, InWidth}
+use Rattle.tlv.specs.Value.{valueIn}
+use Rattle.writes.specs.Entry.{versionFits, allowedAt, allowedThere, mayWrite, entryWritten, codesOf, codesIn, InWidth}
 use Rattle.writes.specs.Response.{responsePayload}
 use Rattle.writes.proofs.ResponseLaws.{response-length}
 

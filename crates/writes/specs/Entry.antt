@@ -5,12 +5,8 @@ use mathlib.Core.List.{List, [], _∷_}
 use Prim.Native.Nat.{ℕ, _<_, _^_}
 use lib.Dec.{eqb}
 use lib.ListN.{getD}
-use Rattle.tlv.specs.declared.Value.{Value}
-use Rattle.tlv.specs.declared.Value.the-variants as value
 use Rattle.tlv.specs.Octet.{pick}
-use Rattle.tlv.specs.Head.{headAt}
-use Rattle.tlv.specs.Walk.{headed}
-use Rattle.tlv.specs.Value.{valueOf}
+use Rattle.tlv.specs.Value.{valueIn}
 use Rattle.members.specs.Scalar.{ABSENT}
 use Rattle.interaction.specs.Message.{firstOf}
 use Rattle.interaction_write.specs.declared.Entry.{Entry}
@@ -23,10 +19,6 @@ use Rattle.selection.specs.declared.locate.Located.the-variants.{Here, Refused}
 use Rattle.selection.specs.Status.{unsupportedWrite, unsupportedAccess, dataVersionMismatch}
 use Rattle.selection.specs.Locate.{located}
 use Rattle.writes.specs.Offer.{Held, Outcome, byPlace}
-
--- the value that stands at a place of the message
-unfoldable pub valueIn : List ℕ → ℕ → Value
-valueIn s at = headed value.Other valueOf (headAt s at)
 
 -- a version that was not given fits; one that was must be the present one
 abbrev pub versionFits : ℕ → ℕ → Bool

@@ -7,7 +7,7 @@ ghost use Rattle.schema.specs.Layout.{textSize, attributeLimit};
 ghost use Rattle.schema.specs.Check.{wellFormed, textCount};
 ghost use Rattle.interaction_write.specs.Write.{maxWrites, noEntry};
 ghost use Rattle.writes.specs.Offer.{writtenOf};
-ghost use Rattle.writes.specs.Entry.{valueIn, allowedAt, mayWrite, entryWritten, InWidth, heldAfter, codesOf, codesIn};
+ghost use Rattle.writes.specs.Entry.{allowedAt, mayWrite, entryWritten, InWidth, heldAfter, codesOf, codesIn};
 use super::Written;
 use super::offer;
 use acl::Grants;
@@ -22,26 +22,13 @@ use selection::UNSUPPORTED_ACCESS;
 use selection::UNSUPPORTED_WRITE;
 use selection::locate::Located;
 use selection::locate::locate;
-use tlv::Cursor;
-use tlv::Head;
-use tlv::Value;
+use tlv::value_in;
 use values::Values;
 
 // The statuses of a write's entries, and the values afterwards.
 pub struct AllWritten {
     pub codes: [u8; MAX_WRITES],
     pub values: Values,
-}
-
-// The value that stands at a place of the message.
-fn value_in(s: &[u8], at: usize) -> Value
-    ensures { λ r. ⌜ r ≡ valueIn (now (s .entry)) at ⌝ }
-{
-    let here = Cursor { at };
-    let Head::Found(e) = here.head(s) else {
-        return Value::Other;
-    };
-    e.value()
 }
 
 // An attribute that is there: not writable, then privilege, then the version that was given.

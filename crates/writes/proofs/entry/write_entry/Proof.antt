@@ -1,13 +1,14 @@
 use mathlib.Core.Path.{_≡_, refl, sym, _∙_}
 use borrow.Author.Needs.{needs}
-use Rattle.writes.specs.Entry.{valueIn, mayWrite, entryWritten}
+use Rattle.tlv.specs.Value.{valueIn}
+use Rattle.writes.specs.Entry.{mayWrite, entryWritten}
 use Rattle.writes.proofs.EntryLaws.{may-index}
 use Rattle.writes.proofs.entry.write_entry.Statement.{statement}
 use Rattle.writes.proofs.entry.write_entry.Tie as tie
 use Rattle.writes.proofs.entry.write_entry.Reads as reads
 use Rattle.writes.proofs.entry.write_entry.Lts as lts
 use Rattle.writes.proofs.entry.may_write.Reads as may-write-reads
-use Rattle.writes.proofs.entry.value_in.Reads as value-in-reads
+use Rattle.tlv.proofs.value_in.Reads as value-in-reads
 use Rattle.writes.proofs.offer.Reads as offer-reads
 
 may-write-requires : tie.Need-may-write-requires

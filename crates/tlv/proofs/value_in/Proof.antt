@@ -1,15 +1,14 @@
 use mathlib.Core.Path.{sym, ap, _∙_}
 use borrow.Author.Needs.{needs}
 use Rattle.tlv.specs.declared.Value.the-variants as value
 use Rattle.tlv.specs.Walk.{headed}
-use Rattle.tlv.specs.Value.{valueOf}
-use Rattle.writes.specs.Entry.{valueIn}
-use Rattle.writes.proofs.entry.value_in.Statement.{statement}
-use Rattle.writes.proofs.entry.value_in.Tie as tie
-use Rattle.writes.proofs.entry.value_in.Reads as reads
-use Rattle.writes.proofs.entry.value_in.Lts as lts
+use Rattle.tlv.specs.Value.{valueOf, valueIn}
+use Rattle.tlv.proofs.value_in.Statement.{statement}
+use Rattle.tlv.proofs.value_in.Tie as tie
+use Rattle.tlv.proofs.value_in.Reads as reads
+use Rattle.tlv.proofs.value_in.Lts as lts
 use Rattle.tlv.proofs.Cursor.head.Reads as head-reads
 use Rattle.tlv.proofs.Element.value.Reads as value-reads
 
 head-requires : tie.Need-head-requires
 head-requires c κs = search needs

@@ -1,4 +1,6 @@
 -- A value that is read from a message is within the range of its type.
+use mathlib.Core.Path.{_≡_, refl}
+use mathlib.Core.Bool.{Bool, true, false}
 use mathlib.Core.List.{List}
 use Prim.Native.Nat.{ℕ, _/_, _%_, _^_, _-_, _≤_, _<_}
 use native.Mathlib.Omega.{arith}
@@ -13,18 +15,20 @@ use Rattle.tlv.specs.Octet.{numberWidth}
 use Rattle.tlv.specs.Tree.{complement}
 use Rattle.tlv.specs.Head.{headAt}
 use Rattle.tlv.specs.Walk.{headed}
-use Rattle.tlv.specs.Value.{signedOf, valueOf}
+use Rattle.tlv.specs.Value.{signedOf, valueOf, valueIn}
 use Rattle.tlv.proofs.Picks.{pick-elim}
 use Rattle.tlv.proofs.ValueLaws.{each}
 use Rattle.kinds.proofs.StoredLaws.{Sized}
-use Rattle.schema.proofs.BoolLaws.{by-test}
-use Rattle.writes.specs.Entry.{valueIn}
 
 -- two's complement of at most 64 bits
 complement-small : (top v : ℕ) → top ≤ 18446744073709551615 → mag (complement top v) < 9223372036854775808
 unfolding complement
 complement-small top v h =
-    by-test (leb v (top / 2)) (λ t. rw t (omega (arith, leb-true v (top / 2) t))) (λ t. rw t (omega (arith, leb-false v (top / 2) t)))
+    go (leb v (top / 2)) refl
+  where
+    go : (b : Bool) → leb v (top / 2) ≡ b → mag (complement top v) < 9223372036854775808
+    go true t = rw t (omega (arith, leb-true v (top / 2) t))
+    go false t = rw t (omega (arith, leb-false v (top / 2) t))
 
 top-small : (kind : ℕ) → kind < 4 → 256 ^ numberWidth kind - 1 ≤ 18446744073709551615
 unfolding numberWidth
