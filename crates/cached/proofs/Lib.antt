@@ -1,3 +1,4 @@
 pub mod SharedLaws
 pub mod CoherentLaws
 pub mod SetLaws
+pub mod ValidLaws

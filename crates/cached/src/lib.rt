@@ -7,6 +7,7 @@ use schema::Found;
 
 pub mod shared; // shared.rt: whether the entries of a cluster share one version
 pub mod set; // set.rt: an entry set
+pub mod valid; // valid.rt: whether entries and page keep the rules
 
 // What is held at most.
 pub const ENTRIES: usize = 256;

@@ -15,3 +15,10 @@ fieldsOf w = record { edition = w / 2 ^ 60; opcode = w / 2 ^ 56 % 2 ^ 4; exchang
 
 unfoldable pub envelopeIn : List ℕ → Envelope
 envelopeIn s = pick (ltb (length s) 8) Short (Whole (fieldsOf (bigNumber (take 8 s))))
+
+-- "Eight bytes .. Then a payload of at most 1,024 bytes"
+abbrev pub envelopeLength : ℕ
+envelopeLength = 8
+
+abbrev pub maxMessage : ℕ
+maxMessage = 1032

@@ -5,6 +5,11 @@ ghost use lib.ListN.{length, take};
 ghost use Rattle.interaction_writer.specs.Envelope.{bigNumber};
 ghost use Rattle.envelope.specs.Envelope.{fieldsOf, envelopeIn};
 
+// How long an envelope is, and what a message may have.
+pub const LENGTH: usize = 8;
+
+pub const MAX_MESSAGE: usize = 1032;
+
 // Edition 4 bits, opcode 4, exchange 40, turn 16.
 pub struct Fields {
     pub edition: u64,

@@ -1,0 +1,3 @@
+pub mod StateLaws
+pub mod ReactLaws
+pub mod BeginLaws

@@ -1,0 +1,17 @@
+use Rattle.cache.specs.State.{isOpen}
+use borrow.Author.Tests.{eq-eqb, ne-eqb}
+use Rattle.cache.proofs.is_open.Statement.{statement}
+use Rattle.cache.proofs.is_open.Tie as tie
+use Rattle.cache.proofs.is_open.Reads as reads
+use Rattle.cache.proofs.is_open.Lts as lts
+
+returns : tie.Need-returns
+unfolding isOpen
+returns c = rw (eq-eqb _ _ (c .if1 .taken))
+
+returns-2 : tie.Need-returns-2
+unfolding isOpen
+returns-2 c = rw (ne-eqb _ _ (c .if1 .left))
+
+pub is-open-spec : {M : Type 1} → statement M
+is-open-spec = tie.close (tie.spec returns returns-2)

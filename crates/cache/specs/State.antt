@@ -1,0 +1,40 @@
+-- A panel's whole state, and the rules that it keeps (document 01, refusal 2: "state, page or access table breaks these rules").
+use mathlib.Core.Bool.{Bool, true, _&&_, _||_, not}
+use mathlib.Core.List.{List}
+use Prim.Native.Nat.{ℕ, _^_}
+use lib.Dec.{eqb, ltb, leb}
+use Rattle.tlv.specs.Octet.{pick}
+use Rattle.cached.specs.Valid.{heldRight}
+use Rattle.envelope.specs.Envelope.{maxMessage}
+use Rattle.cache.specs.declared.Request.{Request}
+use Rattle.cache.specs.declared.State.{State}
+
+-- how the newest request stands: none yet, an open read, an open write, ended on its last part, ended with a status
+abbrev pub noneYet : ℕ
+noneYet = 0
+
+abbrev pub reading : ℕ
+reading = 1
+
+abbrev pub writing : ℕ
+writing = 2
+
+abbrev pub lastPart : ℕ
+lastPart = 3
+
+abbrev pub withStatus : ℕ
+withStatus = 4
+
+unfoldable pub isOpen : ℕ → Bool
+isOpen stage = eqb stage reading || eqb stage writing
+
+-- numbers of 40 bits that were used; an open request has sent a message and awaits a turn from 1 on
+unfoldable pub askedRight : Request → Bool
+askedRight x =
+    ltb (x .used) (2 ^ 40)
+    && (leb (x .exchange) (x .used)
+    && (leb (x .unknown) (x .used)
+    && (leb (x .stage) withStatus && (leb (x .len) maxMessage && pick (isOpen (x .stage)) (not (eqb (x .turn) 0) && ltb 0 (x .len)) true))))
+
+unfoldable pub panelRight : List ℕ → State → Bool
+panelRight page s = heldRight page (s .held) && askedRight (s .asked)

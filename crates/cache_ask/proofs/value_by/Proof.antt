@@ -1,0 +1,59 @@
+use mir.ValLaws.{ofZ-toZ}
+use mir.Syntax.{w64}
+use Rattle.cache_ask.specs.Ask.{valueBy}
+use Rattle.tlv.specs.declared.Value.the-variants as value
+use borrow.Author.Tests.{eq-eqb, ne-eqb}
+use mathlib.Core.Path.{refl, sym, ap, _∙_}
+use borrow.Author.Needs.{needs}
+use Rattle.cache_ask.proofs.value_by.Statement.{statement}
+use Rattle.cache_ask.proofs.value_by.Tie as tie
+use Rattle.cache_ask.proofs.value_by.Reads as reads
+use Rattle.cache_ask.proofs.value_by.Lts as lts
+use Rattle.kinds.proofs.stored.signed_of.Reads as signed-of-reads
+
+returns : tie.Need-returns
+unfolding valueBy
+returns c = rw (eq-eqb _ _ (c .if1 .taken)) refl
+
+returns-2 : tie.Need-returns-2
+unfolding valueBy
+returns-2 c = rw (ne-eqb _ _ (c .before .if1 .left), eq-eqb _ _ (c .if2 .taken)) refl
+
+returns-3 : tie.Need-returns-3
+unfolding valueBy
+returns-3 c = rw (ne-eqb _ _ (c .before .before .if1 .left), ne-eqb _ _ (c .before .if2 .left), eq-eqb _ _ (c .if3 .taken)) refl
+
+signed-of-requires : tie.Need-signed-of-requires
+signed-of-requires c κs = search needs
+
+returns-4 : tie.Need-returns-4
+unfolding valueBy
+returns-4 c = rw (c .signed-of .ensures, ofZ-toZ w64 (c .before .before .before .before .before .args .word) (c .before .before .before .before .before .fits .word), ne-eqb _ _ (c .before .before .before .before .if1 .left), ne-eqb _ _ (c .before .before .before .if2 .left), ne-eqb _ _ (c .before .before .if3 .left), eq-eqb _ _ (c .before .if4 .taken)) refl
+
+cast-t8 : tie.Need-cast-t8
+cast-t8 c = search needs
+
+returns-5 : tie.Need-returns-5
+unfolding valueBy
+returns-5 c = rw (ne-eqb _ _ (c .before .before .before .before .if1 .left), ne-eqb _ _ (c .before .before .before .if2 .left), ne-eqb _ _ (c .before .before .if3 .left), ne-eqb _ _ (c .before .if4 .left), eq-eqb _ _ (c .if5 .taken)) refl
+
+mul-t9 : tie.Need-mul-t9
+mul-t9 c = search needs
+
+returns-6 : tie.Need-returns-6
+unfolding valueBy
+returns-6 c = rw (ne-eqb _ _ (c .before .before .before .before .if1 .left), ne-eqb _ _ (c .before .before .before .if2 .left), ne-eqb _ _ (c .before .before .if3 .left), ne-eqb _ _ (c .before .if4 .left), ne-eqb _ _ (c .if5 .left)) refl
+
+pub value-by-spec : {M : Type 1} → statement M
+value-by-spec =
+    tie.close
+    (tie.spec
+    returns
+    returns-2
+    returns-3
+    signed-of-requires
+    returns-4
+    cast-t8
+    returns-5
+    mul-t9
+    returns-6)

@@ -1,0 +1,3 @@
+pub mod BlockLaws
+pub mod EntryLaws
+pub mod WalkLaws
