@@ -9,7 +9,7 @@ use lib.Dec.{ltb}
 use lib.ListN.{length, take, drop, set, length-drop}
 use lib.Seq.{take-all, take-nil, drop-nil, drop-length, drop-drop, take-set-le, drop-set-lt, drop-set-add}
 use Rattle.octets.specs.Store.{store}
-use Rattle.octets.proofs.StoreLaws.{store-back}
+use Rattle.octets.proofs.StoreLaws.{store-back, part-after, part-before}
 use Rattle.schema.specs.Layout.{textSize}
 use Rattle.schema.proofs.BoolLaws.{by-test}
 use Rattle.node.specs.Pages.{place, shownText}
@@ -28,24 +28,6 @@ pub to-the-end : (n start : ℕ) (l : List ℕ) → length l - start ≤ n → t
 to-the-end n start l h =
     take-all n (drop start l) (omega (arith, length-drop start l))
     ∙ sym (take-all (length l - start) (drop start l) (omega (arith, length-drop start l)))
-
--- ---- a part of a page before or after what is stored
-
-part-after : (l : List ℕ) (at : ℕ) (bs : List ℕ) (p n : ℕ) → at + length bs ≤ p → take n (drop p (store l at bs)) ≡ take n (drop p l)
-unfolding store
-part-after l at [] p n h = refl
-part-after l at (b ∷ bs) p n h =
-    part-after (set l at b) (suc at) bs p n (omega arith) ∙ ap (take n) (drop-set-lt p l at b (omega arith))
-
-part-before : (l : List ℕ) (at : ℕ) (bs : List ℕ) (p n : ℕ) → p + n ≤ at → take n (drop p (store l at bs)) ≡ take n (drop p l)
-unfolding store
-part-before l at [] p n h = refl
-part-before l at (b ∷ bs) p n h =
-    let e : at ≡ p + (at - p) = omega arith in
-    part-before (set l at b) (suc at) bs p n (omega arith)
-    ∙ ap (λ (k : ℕ). take n (drop p (set l k b))) e
-    ∙ ap (take n) (drop-set-add p l (at - p) b)
-    ∙ take-set-le n (drop p l) (at - p) b (omega arith)
 
 module _ (defaults edits : List ℕ) (rank : ℕ) (text : List ℕ) where
   pub stored-shown : place rank + length text ≤ length edits → (start : ℕ) → shownText defaults (store edits (place rank) text) start rank (length text) true ≡ text

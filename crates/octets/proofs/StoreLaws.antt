@@ -6,7 +6,7 @@ use native.Mathlib.Nat.{add-zero}
 use native.Mathlib.Numerals.{add-one}
 use native.Mathlib.Omega.{arith}
 use lib.ListN.{length, getD, take, drop, set, length-append, length-set}
-use lib.Seq.{drop-cons, set-set, set-comm, getD-set-same, getD-set-other}
+use lib.Seq.{drop-cons, set-set, set-comm, getD-set-same, getD-set-other, take-set-le, drop-set-lt, drop-set-add}
 use Rattle.octets.specs.Number.{bytesOf}
 use Rattle.octets.specs.Store.{store, Stored}
 
@@ -19,6 +19,24 @@ pub store-before : (l : List ℕ) (at : ℕ) (bs : List ℕ) (k : ℕ) → k < a
 unfolding store
 store-before l at [] k h = refl
 store-before l at (b ∷ bs) k h = store-before (set l at b) (suc at) bs k (omega arith) ∙ getD-set-other l at k b 0 (λ e. omega arith)
+
+-- a part before or after what is stored stays as it was
+
+pub part-after : (l : List ℕ) (at : ℕ) (bs : List ℕ) (p n : ℕ) → at + length bs ≤ p → take n (drop p (store l at bs)) ≡ take n (drop p l)
+unfolding store
+part-after l at [] p n h = refl
+part-after l at (b ∷ bs) p n h =
+    part-after (set l at b) (suc at) bs p n (omega arith) ∙ ap (take n) (drop-set-lt p l at b (omega arith))
+
+pub part-before : (l : List ℕ) (at : ℕ) (bs : List ℕ) (p n : ℕ) → p + n ≤ at → take n (drop p (store l at bs)) ≡ take n (drop p l)
+unfolding store
+part-before l at [] p n h = refl
+part-before l at (b ∷ bs) p n h =
+    let e : at ≡ p + (at - p) = omega arith in
+    part-before (set l at b) (suc at) bs p n (omega arith)
+    ∙ ap (λ (k : ℕ). take n (drop p (set l k b))) e
+    ∙ ap (take n) (drop-set-add p l (at - p) b)
+    ∙ take-set-le n (drop p l) (at - p) b (omega arith)
 
 -- what was stored stands there
 pub store-back : (l : List ℕ) (at : ℕ) (bs : List ℕ) → at + length bs ≤ length l → take (length bs) (drop at (store l at bs)) ≡ bs
