@@ -1,3 +1,4 @@
 pub mod StateLaws
 pub mod ReactLaws
 pub mod BeginLaws
+pub mod KeptLaws

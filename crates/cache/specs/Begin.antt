@@ -71,10 +71,9 @@ abbrev pub keptMessage : Request → List ℕ
 keptMessage x = take (x .len) (x .kept)
 
 -- the next exchange, of which reply 1 is awaited
-unfoldable pub askedAs : Request → ℕ → ℕ → ℕ → ℕ → List ℕ → Request
-askedAs x stage endpoint cluster attribute message =
-    keeping
-    (record {
+abbrev pub nextRequest : Request → ℕ → ℕ → ℕ → ℕ → Request
+nextRequest x stage endpoint cluster attribute =
+    record {
       used = x .used + 1;
       exchange = x .used + 1;
       stage = stage;
@@ -86,8 +85,10 @@ askedAs x stage endpoint cluster attribute message =
       unknown = unknownAfter x;
       kept = x .kept;
       len = x .len;
-    })
-    message
+    }
+
+unfoldable pub askedAs : Request → ℕ → ℕ → ℕ → ℕ → List ℕ → Request
+askedAs x stage endpoint cluster attribute message = keeping (nextRequest x stage endpoint cluster attribute) message
 
 abbrev pub sent : List ℕ → State → ℕ → ℕ → ℕ → ℕ → List ℕ → Reaction
 sent page s stage endpoint cluster attribute message =

@@ -1,6 +1,6 @@
--- What a panel answers when it is asked. Each answer as document 01's number and values: `..Printed`.
+-- What a panel answers when it is asked. `..Said` gives document 01's number and the values of each case of an answer, `says..` what is to be said.
 use mathlib.Core.Bool.{Bool, not}
-use mathlib.Core.List.{List, []}
+use mathlib.Core.List.{List, [], _∷_}
 use Prim.Native.Nat.{ℕ, _%_}
 use lib.Dec.{eqb}
 use lib.ListN.{getD, take, drop}
@@ -9,13 +9,14 @@ use mir.Val.{toZ}
 use Rattle.tlv.specs.declared.Value.{Value}
 use Rattle.tlv.specs.declared.Value.the-variants as value
 use Rattle.tlv.specs.Octet.{pick}
+use Rattle.tlv.specs.Value.{datumIn}
 use Rattle.tlv.specs.Decode.{Opt}
 use Rattle.tlv.specs.Decode.Opt.{just, nothing}
 use Rattle.schema.specs.declared.Found.{Found}
 use Rattle.schema.specs.declared.Found.the-variants as found
 use Rattle.cached.specs.declared.Cached.{Cached}
 use Rattle.cached.specs.Limits.{half, nullKind, booleanKind, unsignedKind, signedKind, floatKind}
-use Rattle.cached.specs.Entries.{clusterWord, clusterAt, place, pathAt}
+use Rattle.cached.specs.Entries.{Entry, clusterWord, clusterAt, place, pathAt, lookup}
 use Rattle.cached.specs.Coherent.{coherentAt}
 use Rattle.cache.specs.declared.Request.{Request}
 use Rattle.cache.specs.declared.State.{State}
@@ -28,6 +29,18 @@ use Rattle.cache_ask.specs.declared.Ended.the-variants as ended
 use Rattle.cache_ask.specs.declared.Abandoned.{Abandoned}
 use Rattle.cache_ask.specs.declared.Abandoned.the-variants as abandoned
 use Rattle.cache.specs.State.{noneYet, lastPart, withStatus, panelRight}
+
+-- document 01's number, and what goes with it
+pub record Said : Type 0 where
+  pub number : ℕ
+  pub values : List ℕ
+
+abbrev pub said : ℕ → List ℕ → Said
+said n l = record { number = n; values = l }
+
+-- 2: "state, page or access table breaks these rules"
+abbrev pub unlessBroken : List ℕ → State → Said → Said
+unlessBroken page s x = pick (panelRight page s) x (said 2 [])
 
 -- IS A CLUSTER COHERENT, and at which version
 abbrev pub coherentThere : Cached → Found → Opt ℕ
@@ -45,6 +58,19 @@ unfoldable pub wholeOf : List ℕ → State → ℕ → ℕ → Whole
 wholeOf page s endpoint cluster =
     pick (panelRight page s) (wholeRead (coherentOf (s .held) (clusterWord endpoint cluster))) whole.Broken
 
+abbrev pub wholeSaid : Whole → Said
+wholeSaid whole.Broken = said 2 []
+wholeSaid whole.No = said 1 []
+wholeSaid (whole.At v) = said 0 (v ∷ [])
+
+abbrev pub versionSaid : Opt ℕ → Said
+versionSaid nothing = said 1 []
+versionSaid (just v) = said 0 (v ∷ [])
+
+-- 0 and the version, or 1
+abbrev pub saysWhole : List ℕ → State → ℕ → ℕ → Said
+saysWhole page s endpoint cluster = unlessBroken page s (versionSaid (coherentOf (s .held) (clusterWord endpoint cluster)))
+
 -- AN ENTRY: a text stands at its place of the page
 unfoldable pub valueBy : ℕ → ℕ → ℕ → Value
 valueBy kind word i =
@@ -60,6 +86,23 @@ entryRead c found.Nothing = held.Nothing
 
 unfoldable pub entryOf : List ℕ → State → ℕ → ℕ → ℕ → Held
 entryOf page s e c a = pick (panelRight page s) (entryRead (s .held) (pathAt (s .held) e c a)) held.Broken
+
+-- 0 with version and value, or 1; of the map that the panel holds
+pub record EntrySaid : Type 0 where
+  pub number : ℕ
+  pub entry : Opt Entry
+
+abbrev pub heldSaid : List ℕ → Held → EntrySaid
+heldSaid page held.Broken = record { number = 2; entry = nothing }
+heldSaid page held.Nothing = record { number = 1; entry = nothing }
+heldSaid page (held.Here v x) = record { number = 0; entry = just (record { version = v; value = datumIn page x }) }
+
+abbrev pub entrySaid : Opt Entry → EntrySaid
+entrySaid nothing = record { number = 1; entry = nothing }
+entrySaid (just x) = record { number = 0; entry = just x }
+
+abbrev pub saysEntry : List ℕ → State → ℕ → ℕ → ℕ → EntrySaid
+saysEntry page s e c a = pick (panelRight page s) (entrySaid (lookup (s .held) page e c a)) (record { number = 2; entry = nothing })
 
 -- its text, as the part of the page
 abbrev pub textOfValue : List ℕ → Value → List ℕ
@@ -85,6 +128,20 @@ endedBy x =
     pick (eqb (x .stage) noneYet) ended.NoneYet
     (pick (eqb (x .stage) lastPart) ended.LastPart (pick (eqb (x .stage) withStatus) (ended.Status (x .status)) ended.Open))
 
+abbrev pub endedSaid : Ended → Said
+endedSaid ended.Broken = said 2 []
+endedSaid ended.NoneYet = said 1 []
+endedSaid ended.Open = said 1 (0 ∷ [])
+endedSaid ended.LastPart = said 0 []
+endedSaid (ended.Status code) = said 0 (code ∷ [])
+
+-- 1 and nothing before the first request, 1 and 00 while it is open, 0 after the last part, 0 and the status otherwise
+abbrev pub saysOutcome : List ℕ → State → Said
+saysOutcome page s =
+    unlessBroken page s
+    (pick (eqb (s .asked .stage) noneYet) (said 1 [])
+    (pick (eqb (s .asked .stage) lastPart) (said 0 []) (pick (eqb (s .asked .stage) withStatus) (said 0 (s .asked .status ∷ [])) (said 1 (0 ∷ [])))))
+
 unfoldable pub outcomeOf : List ℕ → State → Ended
 outcomeOf page s = pick (panelRight page s) (endedBy (s .asked)) ended.Broken
 
@@ -92,3 +149,12 @@ outcomeOf page s = pick (panelRight page s) (endedBy (s .asked)) ended.Broken
 unfoldable pub unknownOf : List ℕ → State → Abandoned
 unknownOf page s =
     pick (panelRight page s) (pick (eqb (s .asked .unknown) 0) abandoned.Nothing (abandoned.Exchange (s .asked .unknown))) abandoned.Broken
+
+abbrev pub abandonedSaid : Abandoned → Said
+abandonedSaid abandoned.Broken = said 2 []
+abandonedSaid abandoned.Nothing = said 1 []
+abandonedSaid (abandoned.Exchange n) = said 0 (n ∷ [])
+
+-- 0 and the exchange, or 1
+abbrev pub saysUnknown : List ℕ → State → Said
+saysUnknown page s = unlessBroken page s (pick (eqb (s .asked .unknown) 0) (said 1 []) (said 0 (s .asked .unknown ∷ [])))

@@ -4,7 +4,7 @@ ghost use Prim.Native.Nat.{_≤_};
 ghost use Rattle.cached.specs.Limits.{maxEntries, maxClusters};
 ghost use Rattle.cached.specs.Entries.{pathAt};
 ghost use Rattle.cache_part.specs.Entry.{Within};
-ghost use Rattle.cache_ask.specs.Ask.{wholeRead, coherentOf, wholeOf, valueBy, entryRead, entryOf, textOf, outcomeOf, unknownOf};
+ghost use Rattle.cache_ask.specs.Ask.{wholeRead, coherentOf, wholeOf, wholeSaid, saysWhole, valueBy, entryRead, entryOf, heldSaid, saysEntry, textOf, outcomeOf, endedSaid, saysOutcome, unknownOf, abandonedSaid, saysUnknown};
 use cache::LAST_PART;
 use cache::NONE;
 use cache::STATUS;
@@ -66,7 +66,7 @@ fn whole_of(c: Cached, word: u64) -> Whole
 }
 
 pub fn coherent(page: &[u8], state: State, endpoint: u16, cluster: u32) -> Whole
-    ensures { λ r. ⌜ r ≡ wholeOf (now (page .entry)) state endpoint cluster ⌝ }
+    ensures { λ r. ⌜ (r ≡ wholeOf (now (page .entry)) state endpoint cluster) × (wholeSaid r ≡ saysWhole (now (page .entry)) state endpoint cluster) ⌝ }
 {
     if !panel_ok(page, state) {
         return Whole::Broken;
@@ -114,7 +114,7 @@ fn value_by(kind: u8, word: u64, i: usize) -> Value
 }
 
 pub fn entry(page: &[u8], state: State, endpoint: u16, cluster: u32, attribute: u32) -> Held
-    ensures { λ r. ⌜ r ≡ entryOf (now (page .entry)) state endpoint cluster attribute ⌝ }
+    ensures { λ r. ⌜ (r ≡ entryOf (now (page .entry)) state endpoint cluster attribute) × (heldSaid (now (page .entry)) r ≡ saysEntry (now (page .entry)) state endpoint cluster attribute) ⌝ }
 {
     if !panel_ok(page, state) {
         return Held::Broken;
@@ -146,7 +146,7 @@ pub fn text<'a>(
 }
 
 pub fn outcome(page: &[u8], state: State) -> Ended
-    ensures { λ r. ⌜ r ≡ outcomeOf (now (page .entry)) state ⌝ }
+    ensures { λ r. ⌜ (r ≡ outcomeOf (now (page .entry)) state) × (endedSaid r ≡ saysOutcome (now (page .entry)) state) ⌝ }
 {
     if !panel_ok(page, state) {
         return Ended::Broken;
@@ -165,7 +165,7 @@ pub fn outcome(page: &[u8], state: State) -> Ended
 }
 
 pub fn unknown(page: &[u8], state: State) -> Abandoned
-    ensures { λ r. ⌜ r ≡ unknownOf (now (page .entry)) state ⌝ }
+    ensures { λ r. ⌜ (r ≡ unknownOf (now (page .entry)) state) × (abandonedSaid r ≡ saysUnknown (now (page .entry)) state) ⌝ }
 {
     if !panel_ok(page, state) {
         return Abandoned::Broken;

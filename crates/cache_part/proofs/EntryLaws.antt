@@ -90,7 +90,7 @@ stored-length s page i (value.Boolean b) = refl
 stored-length s page i (value.Unsigned n) = refl
 stored-length s page i (value.Signed z) = refl
 stored-length s page i (value.Float n) = refl
-stored-length s page i (value.Text a n) = length-store page (place i) (take n (drop a s))
+stored-length s page i (value.Text a n) = length-store page _ _
 stored-length s page i value.Other = refl
 
 pub page-length : (s : List ℕ) (c : Cached) (page : List ℕ) (f : Fate) → length (pageFor s c page f) ≡ length page

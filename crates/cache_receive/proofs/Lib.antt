@@ -1,2 +1,4 @@
 pub mod AnswerLaws
 pub mod ReceiveLaws
+pub mod KeptLaws
+pub mod NeverLaws

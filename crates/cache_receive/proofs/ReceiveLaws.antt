@@ -37,7 +37,7 @@ never e = absurd (omega arith)
 -- a status or a write response is answered with nothing
 ended-quiet : (s : State) (code : ℕ) → endedWith s code .len ≡ 0
 unfolding endedWith
-ended-quiet s code = pick-elim (λ (x : Outcome). x .len ≡ 0) (ltb code 256) (quiet 1 (record { held = s .held; asked = endedAs (s .asked) withStatus code })) (quiet 6 s) (λ _. refl) (λ _. refl)
+ended-quiet s code = pick-elim (λ (x : Outcome). x .len ≡ 0) (ltb code 256) _ _ (λ _. refl) (λ _. refl)
 
 pub status-quiet : (s : State) (payload : List ℕ) → byStatus s payload .len ≡ 0
 unfolding byStatus

@@ -1,2 +1,3 @@
 pub mod FilterLaws
 pub mod MessageLaws
+pub mod BoundLaws

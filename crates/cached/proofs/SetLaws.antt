@@ -6,7 +6,7 @@ use mathlib.Core.List.{List}
 use Prim.Native.Nat.{ℕ, zero, suc, _+_, _≤_, _<_}
 use native.Mathlib.Numerals.{add-one}
 use native.Mathlib.Omega.{arith}
-use borrow.Author.Tests.{eq-eqb, ne-eqb, eqb-true, ltb-true, lt-ltb, le-ltb}
+use borrow.Author.Tests.{eq-eqb, ne-eqb, eqb-true, ltb-true, ltb-false, lt-ltb, le-ltb}
 use lib.Dec.{eqb, ltb}
 use lib.ListN.{length, getD, set}
 use lib.Seq.{getD-set-same, getD-set-other, set-getD}
@@ -99,3 +99,23 @@ placed-below l n limit x i room at = go (wordAt l n x) refl at
     go (found.At j) e q = let s : j ≡ i = cc in omega (arith, s, found (λ k. eqb (getD l k 0) x) n 0 j e .below)
     go found.Nothing e q = by-test (ltb n limit) (λ t. let z : Here n ≡ Here i = rw t at q in let s : n ≡ i = cc in omega (arith, s, ltb-true n limit t))
         (λ f. never (let z : Full ≡ Here i = rw f at q in cc))
+
+-- and at most just after the last
+pub placed-next : (l : List ℕ) (n limit x i : ℕ) → placeFor n limit (wordAt l n x) ≡ Here i → i ≤ n
+unfolding wordAt
+placed-next l n limit x i at = go (wordAt l n x) refl at
+  where
+    go : (f : Found) → wordAt l n x ≡ f → placeFor n limit f ≡ Here i → i ≤ n
+    go (found.At j) e q = let s : j ≡ i = cc in omega (arith, s, found (λ k. eqb (getD l k 0) x) n 0 j e .below)
+    go found.Nothing e q = by-test (ltb n limit) (λ t. let z : Here n ≡ Here i = rw t at q in let s : n ≡ i = cc in omega (arith, s))
+        (λ f. never (let z : Full ≡ Here i = rw f at q in cc))
+
+-- a count that grows by one place at most
+pub counted-here : (count i : ℕ) → i < countWith count i
+counted-here count i = by-test (ltb i count) (λ t. rw t (ltb-true i count t)) (λ f. rw f (omega arith))
+
+pub counted-more : (count i : ℕ) → i ≤ count → count ≤ countWith count i
+counted-more count i l = by-test (ltb i count) (λ t. rw t (omega arith)) (λ f. rw f (omega (arith, l, ltb-false i count f)))
+
+pub counted-other : (count i j : ℕ) → i ≤ count → (j ≡ i → ⊥) → j < countWith count i → j < count
+counted-other count i j l apart h = by-test (ltb i count) (λ t. rw t at h) (λ f. let q : j < i + 1 = rw f at h in omega (arith, l, apart, q))

@@ -4,7 +4,7 @@ use mathlib.Core.Bool.{Bool, true, _&&_}
 use mathlib.Core.List.{List}
 use Prim.Native.Nat.{ℕ, _/_, _^_, _≤_, _<_}
 use native.Mathlib.Omega.{arith}
-use borrow.Author.Tests.{leb-true, ltb-true, eqb-true}
+use borrow.Author.Tests.{leb-true, ltb-true, eqb-true, eq-eqb, le-leb}
 use lib.Dec.{eqb, leb, ltb}
 use lib.ListN.{length, getD}
 use Rattle.schema.specs.Check.{every}
@@ -58,3 +58,18 @@ module _ (page : List ℕ) (c : Cached) (h : entriesRight page c ≡ true) (i : 
   pub entry-word : wordRight (getD (c .kinds) i 0) (getD (c .words) i 0) ≡ true
   unfolding entryRight
   entry-word = left _ _ (right (ltb (getD (c .keys) i 0 / half) (c .«cluster_count»)) _ entry-right)
+
+pub right-held : (page : List ℕ) (c : Cached) → RightHeld page c → heldRight page c ≡ true
+unfolding heldRight
+right-held page c r =
+    both _ _ (eq-eqb _ _ (r .size))
+    (both _ _ (le-leb _ _ (r .few-entries)) (both _ _ (le-leb _ _ (r .few-clusters)) (both _ _ (r .clusters) (r .entries))))
+
+-- arrays have their lengths and versions their 32 bits, as those of the code do
+pub record Whole (c : Cached) : Type 0 where
+  pub clusters : length (c .clusters) ≡ maxClusters
+  pub keys : length (c .keys) ≡ maxEntries
+  pub versions : length (c .versions) ≡ maxEntries
+  pub kinds : length (c .kinds) ≡ maxEntries
+  pub words : length (c .words) ≡ maxEntries
+  pub small : (i : ℕ) → getD (c .versions) i 0 < 2 ^ 32

@@ -1,3 +1,4 @@
+use Rattle.cache_ask.proofs.SaidLaws.{whole-says}
 use Rattle.cache.proofs.StateLaws.{right-within}
 use Rattle.cache_ask.specs.Ask.{wholeOf}
 use borrow.Author.Tests.{not-true, not-false}
@@ -15,7 +16,7 @@ panel-ok-requires c κs = search needs
 
 returns : tie.Need-returns
 unfolding wholeOf
-returns c = rw (sym (c .before .panel-ok .ensures) ∙ not-true _ (c .if1 .taken)) refl
+returns c = let a = c .before .before .before .args in whole-says (a .page .now) (a .state) (a .endpoint) (a .cluster) (rw (sym (c .before .panel-ok .ensures) ∙ not-true _ (c .if1 .taken)) refl)
 
 mul-whole-of : tie.Need-mul-whole-of
 mul-whole-of c = search needs
@@ -28,7 +29,7 @@ whole-of-requires c κs = right-within (c .before .before .before .args .page .n
 
 returns-2 : tie.Need-returns-2
 unfolding wholeOf
-returns-2 c = c .whole-of .ensures ∙ rw (sym (c .before .before .panel-ok .ensures) ∙ not-false _ (c .before .if1 .left)) refl
+returns-2 c = let a = c .before .before .before .before .args in whole-says (a .page .now) (a .state) (a .endpoint) (a .cluster) (c .whole-of .ensures ∙ rw (sym (c .before .before .panel-ok .ensures) ∙ not-false _ (c .before .if1 .left)) refl)
 
 pub coherent-spec : {M : Type 1} → statement M
 coherent-spec =

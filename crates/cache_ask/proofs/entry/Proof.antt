@@ -1,3 +1,4 @@
+use Rattle.cache_ask.proofs.SaidLaws.{entry-says}
 use Rattle.cache_ask.proofs.AskLaws.{entry-found}
 use Rattle.cache.proofs.StateLaws.{right-within}
 use Rattle.cache_ask.specs.Ask.{entryRead, entryOf}
@@ -27,7 +28,7 @@ panel-ok-requires c κs = search needs
 
 returns : tie.Need-returns
 unfolding entryOf
-returns c = rw (sym (c .before .panel-ok .ensures) ∙ not-true _ (c .if1 .taken)) refl
+returns c = let a = c .before .before .before .args in entry-says (a .page .now) (a .state) (a .endpoint) (a .cluster) (a .attribute) (rw (sym (c .before .panel-ok .ensures) ∙ not-true _ (c .if1 .taken)) refl)
 
 path-at-requires : tie.Need-path-at-requires
 path-at-requires c κs = right-within (c .before .before .before .before .args .page .now) (c .before .before .before .before .args .state) (sym (c .before .before .panel-ok .ensures) ∙ not-false _ (c .before .if1 .left))
@@ -40,7 +41,7 @@ enum-told c = search needs
 
 returns-2 : tie.Need-returns-2
 unfolding entryOf
-returns-2 c = rw (sym (c .before .before .before .before .before .panel-ok .ensures) ∙ not-false _ (c .before .before .before .before .if1 .left)) (sym (ap (entryRead (c .before .before .before .before .before .before .before .args .state .held)) (sym (c .before .before .path-at .ensures) ∙ c .enum-told .given .1)))
+returns-2 c = let a = c .before .before .before .before .before .before .before .args in entry-says (a .page .now) (a .state) (a .endpoint) (a .cluster) (a .attribute) (rw (sym (c .before .before .before .before .before .panel-ok .ensures) ∙ not-false _ (c .before .before .before .before .if1 .left)) (sym (ap (entryRead (c .before .before .before .before .before .before .before .args .state .held)) (sym (c .before .before .path-at .ensures) ∙ c .enum-told .given .1))))
 
 mul-t12 : tie.Need-mul-t12
 mul-t12 c = omega (arith, found-below (c .before))
@@ -62,7 +63,7 @@ value-by-requires c κs = omega (arith, found-below (c .before .before .before .
 
 returns-3 : tie.Need-returns-3
 unfolding entryOf
-returns-3 c = rw (sym (c .before .before .before .before .before .before .before .before .before .before .panel-ok .ensures) ∙ not-false _ (c .before .before .before .before .before .before .before .before .before .if1 .left)) (ap (λ (v : Value). held.Here (getD (c .before .before .before .before .before .before .before .before .before .before .before .before .args .state .held .versions) (c .before .before .before .before .before .i .given .0 .0) 0) v) (c .value-by .ensures) ∙ sym (ap (entryRead (c .before .before .before .before .before .before .before .before .before .before .before .before .args .state .held)) (sym (c .before .before .before .before .before .before .before .path-at .ensures) ∙ c .before .before .before .before .before .i .given .1)))
+returns-3 c = let a = c .before .before .before .before .before .before .before .before .before .before .before .before .args in entry-says (a .page .now) (a .state) (a .endpoint) (a .cluster) (a .attribute) (rw (sym (c .before .before .before .before .before .before .before .before .before .before .panel-ok .ensures) ∙ not-false _ (c .before .before .before .before .before .before .before .before .before .if1 .left)) (ap (λ (v : Value). held.Here (getD (c .before .before .before .before .before .before .before .before .before .before .before .before .args .state .held .versions) (c .before .before .before .before .before .i .given .0 .0) 0) v) (c .value-by .ensures) ∙ sym (ap (entryRead (c .before .before .before .before .before .before .before .before .before .before .before .before .args .state .held)) (sym (c .before .before .before .before .before .before .before .path-at .ensures) ∙ c .before .before .before .before .before .i .given .1))))
 
 pub entry-spec : {M : Type 1} → statement M
 entry-spec =

@@ -1,0 +1,131 @@
+-- A FRESH PANEL IS VALID, and beginning and resending keep it valid.
+use mathlib.Core.Path.{_≡_, refl, sym, ap, subst, _∙_}
+use mathlib.Core.Bool.{Bool, true, false, _&&_, not}
+use mathlib.Core.List.{List, []}
+use Prim.Native.Nat.{ℕ, zero, suc, _+_, _-_, _^_, _≤_, _<_}
+use native.Mathlib.Omega.{arith}
+use borrow.Author.Tests.{eq-eqb, ne-eqb, lt-ltb, le-leb, ltb-true}
+use lib.Dec.{eqb, leb, ltb}
+use lib.ListN.{length, getD, replicate, length-replicate}
+use Rattle.octets.proofs.StoreLaws.{length-store}
+use Rattle.tlv.specs.declared.Value.{Value}
+use Rattle.tlv.specs.Octet.{pick}
+use Rattle.tlv.specs.Value.{datumIn}
+use Rattle.tlv.proofs.Picks.{pick-elim}
+use Rattle.schema.specs.Check.{every}
+use Rattle.schema.proofs.BoolLaws.{both, by-test}
+use Rattle.cached.specs.Limits.{maxEntries, maxClusters, pageSize}
+use Rattle.cached.specs.Valid.{clustersRight, entriesRight}
+use Rattle.cached.proofs.ValidLaws as Held
+use Rattle.cache_part.proofs.RightLaws.{Good}
+use Rattle.cache_request.specs.Filters.{filtersOf}
+use Rattle.cache_request.specs.Messages.{readMessage, writeMessage}
+use Rattle.cache_request.proofs.BoundLaws.{Sized, filters-narrow, filters-few, read-sized, write-sized}
+use Rattle.envelope.specs.Envelope.{maxMessage}
+use Rattle.cache.specs.declared.Request.{Request}
+use Rattle.cache.specs.declared.State.{State}
+use Rattle.cache.specs.State.{reading, writing, withStatus, isOpen, askedRight, panelRight}
+use Rattle.cache.specs.Reaction.{Reaction, refusal}
+use Rattle.cache.specs.Begin.{fresh, unknownAfter, keeping, nextRequest, askedAs, sent, beginning, beginsRead, sendable, beginsWrite, resends, keptMessage}
+use Rattle.cache.proofs.StateLaws.{RightAsked}
+use Rattle.cache.proofs.BeginLaws.{sendable-fits}
+
+-- a panel that keeps the rules; its arrays have their lengths, as those of the code do
+pub record ValidPanel (page : List ℕ) (s : State) : Type 0 where
+  pub held : Good page (s .held)
+  pub asked : RightAsked (s .asked)
+  pub kept : length (s .asked .kept) ≡ maxMessage
+
+asked-true : (x : Request) → RightAsked x → askedRight x ≡ true
+unfolding askedRight
+asked-true x r =
+    both _ _ (lt-ltb _ _ (r .used))
+    (both _ _ (le-leb _ _ (r .exchange)) (both _ _ (le-leb _ _ (r .unknown)) (both _ _ (le-leb _ _ (r .stage)) (both _ _ (le-leb _ _ (r .len)) (r .sent)))))
+
+-- SO IT NEVER ANSWERS 2
+pub valid-right : (page : List ℕ) (s : State) → ValidPanel page s → panelRight page s ≡ true
+unfolding panelRight
+valid-right page s v = both _ _ (Held.right-held page (s .held) (v .held .right)) (asked-true (s .asked) (v .asked))
+
+zeros : (n : ℕ) → length {A = ℕ} (replicate n 0) ≡ n
+zeros n = length-replicate n 0
+
+zero-there : (n i : ℕ) → getD {A = ℕ} (replicate n 0) i 0 ≡ 0
+zero-there zero zero = refl
+zero-there zero (suc i) = refl
+zero-there (suc n) zero = refl
+zero-there (suc n) (suc i) = zero-there n i
+
+-- FRESH, with any page of its size
+pub fresh-valid : (page : List ℕ) → length page ≡ pageSize → ValidPanel page fresh
+unfolding fresh clustersRight entriesRight every isOpen
+fresh-valid page size = record {
+  held = record {
+    right = record { size = size; few-entries = omega arith; few-clusters = omega arith; clusters = refl; entries = refl };
+    whole = record { clusters = zeros maxClusters; keys = zeros maxEntries; versions = zeros maxEntries; kinds = zeros maxEntries; words = zeros maxEntries; small = λ i. omega (arith, zero-there maxEntries i) };
+  };
+  asked = record { used = omega arith; exchange = omega arith; unknown = omega arith; stage = omega arith; len = omega arith; sent = refl };
+  kept = zeros maxMessage;
+}
+
+-- a message kept by an open request
+pub keeping-right : (x : Request) → x .used < 2 ^ 40 → x .exchange ≤ x .used → x .unknown ≤ x .used → x .stage ≤ withStatus → (x .turn ≡ 0 → ⊥) → {m : List ℕ} → Sized m → RightAsked (keeping x m)
+unfolding keeping
+keeping-right x u e k s t {m} z = record {
+  used = u;
+  exchange = e;
+  unknown = k;
+  stage = s;
+  len = z .fits;
+  sent = by-test (isOpen (x .stage)) (λ o. rw o (both _ _ (ap not (ne-eqb (x .turn) 0 t)) (lt-ltb 0 (length m) (z .some)))) (λ o. rw o refl);
+}
+
+-- what a call leaves keeps the rules
+abbrev pub Holds : Reaction → Type 0
+Holds r = ValidPanel (r .page) (r .state)
+
+module _ (page : List ℕ) (s : State) (v : ValidPanel page s) where
+  unknown-kept : unknownAfter (s .asked) ≤ s .asked .used
+  unfolding unknownAfter
+  unknown-kept = pick-elim (λ (n : ℕ). n ≤ s .asked .used) (eqb (s .asked .stage) writing) _ _ (λ _. v .asked .exchange) (λ _. v .asked .unknown)
+
+  -- a request begun
+  sent-valid : (stage e c a : ℕ) → stage ≤ withStatus → s .asked .used + 1 < 2 ^ 40 → {m : List ℕ} → Sized m → ValidPanel page (sent page s stage e c a m .state)
+  unfolding askedAs keeping
+  sent-valid stage e c a l u {m} z = record {
+    held = v .held;
+    asked = keeping-right (nextRequest (s .asked) stage e c a) u (omega arith) (omega (arith, unknown-kept)) l (λ q. omega (arith, q)) z;
+    kept = length-store (s .asked .kept) 0 m ∙ v .kept;
+  }
+
+  begun-valid : (room : ℕ) (next : Reaction) → (s .asked .used + 1 < 2 ^ 40 → Holds next) → Holds (beginning page s room next)
+  begun-valid room next h =
+      pick-elim Holds (panelRight page s) _ _
+      (λ _. pick-elim Holds (ltb room maxMessage) _ _ (λ _. v)
+      (λ _. pick-elim Holds (ltb (s .asked .used) (2 ^ 40 - 1)) _ _ (λ t. h (omega (arith, ltb-true (s .asked .used) (2 ^ 40 - 1) t))) (λ _. v)))
+      (λ _. v)
+
+  -- BEGINNING A READ, whatever the buffer
+  pub read-kept : (room : ℕ) → Holds (beginsRead page s room)
+  unfolding beginsRead
+  read-kept room =
+      begun-valid room (sent page s reading 0 0 0 (readMessage (s .asked .used + 1) (filtersOf (s .held))))
+      (λ u. sent-valid reading 0 0 0 (omega arith) u
+      (read-sized (s .asked .used + 1) (filtersOf (s .held)) (filters-narrow (s .held) (v .held .whole .small)) (omega (arith, filters-few (s .held), v .held .right .few-clusters))))
+
+  -- BEGINNING A WRITE of any value
+  pub write-kept : (e c a : ℕ) (given : Bool) (version : ℕ) (src : List ℕ) (x : Value) (room : ℕ) → e < 2 ^ 16 → c < 2 ^ 32 → a < 2 ^ 32 → version < 2 ^ 32 → Holds (beginsWrite page s e c a given version src x room)
+  unfolding beginsWrite
+  write-kept e c a given version src x room fe fc fa fv =
+      begun-valid room _
+      (λ u. pick-elim Holds (sendable src x) _ _
+      (λ t. sent-valid writing e c a (omega arith) u (write-sized (s .asked .used + 1) given version e c a (datumIn src x) fv fe fc fa (sendable-fits src x t .short)))
+      (λ _. v))
+
+  -- RESENDING changes nothing
+  pub resent-kept : (room : ℕ) → Holds (resends page s room)
+  unfolding resends
+  resent-kept room =
+      pick-elim Holds (panelRight page s) _ _
+      (λ _. pick-elim Holds (ltb room maxMessage) _ _ (λ _. v) (λ _. pick-elim Holds (isOpen (s .asked .stage)) _ _ (λ _. v) (λ _. v)))
+      (λ _. v)

@@ -1,0 +1,139 @@
+-- A VALID PANEL STAYS VALID, whatever it is handed; so it never answers 2 on its own account.
+use mathlib.Core.Path.{_≡_, refl, sym, ap, _∙_}
+use mathlib.Core.Bool.{Bool, true, false, _&&_}
+use mathlib.Core.List.{List, []}
+use Prim.Native.Nat.{ℕ, _+_, _^_, _≤_, _<_}
+use native.Mathlib.Omega.{arith}
+use lib.Dec.{eqb, leb, ltb}
+use lib.ListN.{length, drop}
+use Rattle.octets.proofs.StoreLaws.{length-store}
+use Rattle.tlv.specs.Octet.{pick}
+use Rattle.tlv.specs.Decode.{Opt}
+use Rattle.tlv.specs.Decode.Opt.{just, nothing}
+use Rattle.tlv.proofs.Picks.{pick-elim}
+use Rattle.blocks.specs.declared.Answer.{Answer}
+use Rattle.interaction.specs.Status.{responseIn}
+use Rattle.interaction_report.specs.Report.{PartAt, partIn}
+use Rattle.interaction_answer.specs.Answered.{answeredIn}
+use Rattle.envelope.specs.declared.Fields.{Fields}
+use Rattle.envelope.specs.declared.Envelope.{Envelope}
+use Rattle.envelope.specs.declared.Envelope.the-variants.{Whole, Short}
+use Rattle.envelope.specs.Envelope.{envelopeIn, envelopeLength, maxMessage}
+use Rattle.exchange.specs.Rules.{statusOpcode, reportOpcode}
+use Rattle.cached.specs.declared.Cached.{Cached}
+use Rattle.cached.specs.Valid.{clustersRight, entriesRight}
+use Rattle.cache_part.specs.Part.{blocksIn, judgedAll, heldAll, pageAll}
+use Rattle.cache_part.proofs.RightLaws.{Good, part-right}
+use Rattle.cache_request.specs.Messages.{successMessage}
+use Rattle.cache_request.proofs.BoundLaws.{success-sized}
+use Rattle.cache.specs.declared.Request.{Request}
+use Rattle.cache.specs.declared.State.{State}
+use Rattle.cache.specs.declared.Outcome.{Outcome}
+use Rattle.cache.specs.State.{lastPart, withStatus, isOpen, panelRight}
+use Rattle.cache.specs.Reaction.{Reaction, refusal, quiet, unsent}
+use Rattle.cache.specs.Begin.{keeping}
+use Rattle.cache.proofs.StateLaws.{RightAsked}
+use Rattle.cache.proofs.KeptLaws.{ValidPanel, Holds, valid-right, keeping-right}
+use Rattle.cache_receive.specs.Receive.{forCache, awaited, endedAs, primedAs, endedWith, statusTaken, byStatus, ofWrite, answerTaken, byAnswer, nextAwaited, goesOn, ends, pastTurns, partTaken, takesPart, takes, inEnvelope, received}
+
+-- a request ended: it is open no more
+ended-right : (x : Request) (stage status : ℕ) → stage ≤ withStatus → isOpen stage ≡ false → RightAsked x → RightAsked (endedAs x stage status)
+unfolding endedAs
+ended-right x stage status l o r =
+    record { used = r .used; exchange = r .exchange; unknown = r .unknown; stage = l; len = r .len; sent = rw o refl }
+
+closed-status : isOpen withStatus ≡ false
+unfolding isOpen
+closed-status = refl
+
+closed-part : isOpen lastPart ≡ false
+unfolding isOpen
+closed-part = refl
+
+-- priming changes no entry
+primed-good : (page : List ℕ) (c : Cached) → Good page c → Good page (primedAs c)
+unfolding primedAs clustersRight entriesRight
+primed-good page c g = record {
+  right = record { size = g .right .size; few-entries = g .right .few-entries; few-clusters = g .right .few-clusters; clusters = g .right .clusters; entries = g .right .entries };
+  whole = record { clusters = g .whole .clusters; keys = g .whole .keys; versions = g .whole .versions; kinds = g .whole .kinds; words = g .whole .words; small = g .whole .small };
+}
+
+kept-length : (x : Request) (m : List ℕ) → length (keeping x m .kept) ≡ length (x .kept)
+unfolding keeping
+kept-length x m = length-store (x .kept) 0 m
+
+ended-length : (x : Request) (stage status : ℕ) → length (endedAs x stage status .kept) ≡ length (x .kept)
+unfolding endedAs
+ended-length x stage status = refl
+
+module _ (page : List ℕ) (s : State) (v : ValidPanel page s) where
+  ended-valid : (code : ℕ) → ValidPanel page (endedWith s code .state)
+  unfolding endedWith
+  ended-valid code = pick-elim (λ (o : Outcome). ValidPanel page (o .state)) (ltb code 256) _ _ (λ _. done) (λ _. v)
+    where
+      done : ValidPanel page (record { held = s .held; asked = endedAs (s .asked) withStatus code })
+      done = record { held = v .held; asked = ended-right (s .asked) withStatus code (omega arith) closed-status (v .asked); kept = ended-length (s .asked) withStatus code ∙ v .kept }
+
+  status-valid : (payload : List ℕ) → ValidPanel page (byStatus s payload .state)
+  unfolding byStatus
+  status-valid payload = go (responseIn payload)
+    where
+      go : (o : Opt ℕ) → ValidPanel page (statusTaken s o .state)
+      go nothing = v
+      go (just code) = ended-valid code
+
+  answer-valid : (payload : List ℕ) → ValidPanel page (byAnswer s payload .state)
+  unfolding byAnswer
+  answer-valid payload = go (answeredIn payload)
+    where
+      go : (o : Opt Answer) → ValidPanel page (answerTaken s o .state)
+      go nothing = v
+      go (just a) = pick-elim (λ (o : Outcome). ValidPanel page (o .state)) (ofWrite (s .asked) (a .path)) _ _ (λ _. ended-valid (a .status .code)) (λ _. v)
+
+  -- a part
+  part-valid : (payload : List ℕ) → Holds (takesPart page s payload)
+  unfolding takesPart goesOn
+  part-valid payload = go (partIn payload)
+    where
+      good : Good (pageAll payload (s .held) page (blocksIn payload)) (heldAll payload (s .held) (blocksIn payload))
+      good = part-right payload page (s .held) (v .held) (blocksIn payload)
+
+      more : Holds (goesOn (heldAll payload (s .held) (blocksIn payload)) (s .asked) (pageAll payload (s .held) page (blocksIn payload)))
+      more = record {
+        held = good;
+        asked = keeping-right (nextAwaited (s .asked)) (v .asked .used) (v .asked .exchange) (v .asked .unknown) (v .asked .stage) (λ z. omega (arith, z)) (success-sized (s .asked .exchange) (s .asked .turn));
+        kept = kept-length (nextAwaited (s .asked)) (successMessage (s .asked .exchange) (s .asked .turn)) ∙ v .kept;
+      }
+
+      last : Holds (ends (heldAll payload (s .held) (blocksIn payload)) (s .asked) (pageAll payload (s .held) page (blocksIn payload)))
+      last = record {
+        held = primed-good (pageAll payload (s .held) page (blocksIn payload)) (heldAll payload (s .held) (blocksIn payload)) good;
+        asked = ended-right (s .asked) lastPart 0 (omega arith) closed-part (v .asked);
+        kept = ended-length (s .asked) lastPart 0 ∙ v .kept;
+      }
+
+      go : (o : Opt PartAt) → Holds (partTaken page s payload o)
+      go nothing = v
+      go (just p) =
+          pick-elim Holds (pastTurns (p .part .more) (s .asked .turn)) _ _ (λ _. v)
+          (λ _. pick-elim Holds (eqb (judgedAll payload (record { number = 0; held = s .held }) (blocksIn payload) .number) 0) _ _
+          (λ _. pick-elim Holds (eqb (p .part .more) 1) _ _ (λ _. more) (λ _. last)) (λ _. v))
+
+  takes-valid : (opcode : ℕ) (payload : List ℕ) → Holds (takes page s opcode payload)
+  unfolding takes
+  takes-valid opcode payload =
+      pick-elim Holds (eqb opcode statusOpcode) _ _ (λ _. status-valid payload)
+      (λ _. pick-elim Holds (eqb opcode reportOpcode) _ _ (λ _. part-valid payload) (λ _. answer-valid payload))
+
+  -- A MESSAGE, any bytes, with any buffer
+  pub received-kept : (m : List ℕ) (room : ℕ) → Holds (received page s m room)
+  unfolding received
+  received-kept m room =
+      pick-elim Holds (panelRight page s) _ _
+      (λ _. pick-elim Holds (ltb room maxMessage) _ _ (λ _. v) (λ _. go (envelopeIn m))) (λ _. v)
+    where
+      go : (e : Envelope) → Holds (inEnvelope page s m e)
+      go Short = v
+      go (Whole e) =
+          pick-elim Holds (leb (length m) maxMessage && (eqb (e .edition) 0 && forCache (e .opcode))) _ _
+          (λ _. pick-elim Holds (awaited (s .asked) e) _ _ (λ _. takes-valid (e .opcode) (drop envelopeLength m)) (λ _. v)) (λ _. v)
