@@ -10,7 +10,7 @@ use lib.Dec.{ltb}
 use lib.ListN.{length, getD, drop, drop-of-length-le}
 use lib.Seq.{drop-cons}
 use Rattle.utf8.specs.WellFormed.{table, completes, wellFormed}
-use Rattle.utf8.specs.Sequence.{allAscii}
+use Rattle.utf8.specs.Bytewise.{allAscii}
 use Rattle.utf8.proofs.Lines.{split, and-l, and-r, and-false, and-true, line}
 
 -- ALL BYTES BELOW 128: well formed

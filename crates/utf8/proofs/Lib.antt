@@ -1,8 +1,7 @@
 -- Laws of the definitions, and the theorems.
 pub mod Lines
-pub mod Walk
-pub mod Answer
 pub mod Below128
+pub mod Bytewise
 pub mod Scalars
 pub mod Joins
 pub mod Examples

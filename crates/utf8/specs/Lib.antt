@@ -1,3 +1,3 @@
 pub mod WellFormed
-pub mod Sequence
+pub mod Bytewise
 pub mod Scalar

@@ -1,89 +1,7 @@
 // Whether bytes are well-formed UTF-8.
 ghost use mathlib.Core.Path.{_≡_};
-ghost use Prim.Native.Nat.{_<_};
-ghost use lib.ListN.{length, drop};
-ghost use Rattle.utf8.specs.WellFormed.{wellFormed, within, trailing};
-ghost use Rattle.utf8.specs.Sequence.{allAscii, sequenceOf, ranges};
-
-// A line of Table 3-7 of the Unicode Standard: how many bytes follow the first, and the range of the second byte. The others are in 80 to BF.
-struct Trail(usize, u8, u8);
-
-// The line of a first byte. Where no sequence begins with it, no byte is in the range.
-fn line_of(a: u8) -> Trail
-    ensures { λ r. ⌜ ranges (r .0) (r .1, r .2) ≡ trailing a ⌝ }
-{
-    if a < 0x80 {
-        return Trail(0, 0, 0);
-    }
-    if a < 0xC2 {
-        return Trail(1, 1, 0);
-    }
-    if a < 0xE0 {
-        return Trail(1, 0x80, 0xBF);
-    }
-    if a < 0xE1 {
-        return Trail(2, 0xA0, 0xBF);
-    }
-    if a < 0xED {
-        return Trail(2, 0x80, 0xBF);
-    }
-    if a < 0xEE {
-        return Trail(2, 0x80, 0x9F);
-    }
-    if a < 0xF0 {
-        return Trail(2, 0x80, 0xBF);
-    }
-    if a < 0xF1 {
-        return Trail(3, 0x90, 0xBF);
-    }
-    if a < 0xF4 {
-        return Trail(3, 0x80, 0xBF);
-    }
-    if a < 0xF5 {
-        return Trail(3, 0x80, 0x8F);
-    }
-    Trail(1, 1, 0)
-}
-
-fn is_within(low: u8, high: u8, b: u8) -> bool
-    ensures { λ r. ⌜ r ≡ within (low, high) b ⌝ }
-{
-    if b < low {
-        return false;
-    }
-    b <= high
-}
-
-// How long the well-formed sequence at a place is, 0 for none.
-fn sequence(s: &[u8], at: usize) -> usize
-    requires { ⌜ at < length (now s) ⌝ }
-    ensures { λ r. ⌜ r ≡ sequenceOf (drop at (now (s .entry))) ⌝ }
-{
-    let t = line_of(s[at]);
-    let count = t.0;
-    if count == 0 {
-        return 1;
-    }
-    if s.len() - at <= count {
-        return 0;
-    }
-    if !is_within(t.1, t.2, s[at + 1]) {
-        return 0;
-    }
-    if count == 1 {
-        return 2;
-    }
-    if !is_within(0x80, 0xBF, s[at + 2]) {
-        return 0;
-    }
-    if count == 2 {
-        return 3;
-    }
-    if !is_within(0x80, 0xBF, s[at + 3]) {
-        return 0;
-    }
-    4
-}
+ghost use Rattle.utf8.specs.WellFormed.{wellFormed};
+ghost use Rattle.utf8.specs.Bytewise.{allAscii, due, allowed};
 
 // Whether every byte is below 128: the greatest is. No way out of the loop, so that it becomes a vector maximum.
 fn ascii(s: &[u8]) -> bool
@@ -101,20 +19,44 @@ fn ascii(s: &[u8]) -> bool
     m < 128
 }
 
-// Whether the bytes are well-formed UTF-8: at once where all are below 128, else sequence by sequence.
+// Whether a trailing byte must come next, after these three.
+fn is_due(a: u8, b: u8, c: u8) -> bool
+    ensures { λ r. ⌜ r ≡ due a b c ⌝ }
+{
+    (0xC0 <= c) | ((0xE0 <= b) | (0xF0 <= a))
+}
+
+// Whether d may come next, after these three. Every test is made, whatever the others say: no branch, so that the loop over it becomes vector code.
+fn is_allowed(a: u8, b: u8, c: u8, d: u8) -> bool
+    ensures { λ r. ⌜ r ≡ allowed a b c d ⌝ }
+{
+    let due = is_due(a, b, c);
+    let trails = (0x80 <= d) & (d <= 0xBF);
+    let begins = ((c < 0xC0) | (0xC2 <= c)) & (c < 0xF5);
+    let three = ((c != 0xE0) | (0xA0 <= d)) & ((c != 0xED) | (d <= 0x9F));
+    let four = ((c != 0xF0) | (0x90 <= d)) & ((c != 0xF4) | (d <= 0x8F));
+    ((due | !trails) & (!due | trails)) & (begins & (three & four))
+}
+
+// Whether the bytes are well-formed UTF-8: at once where all are below 128, else each byte by the three before it.
 pub fn valid(s: &[u8]) -> bool
     ensures { λ r. ⌜ r ≡ wellFormed (now (s .entry)) ⌝ }
 {
     if ascii(s) {
         return true;
     }
-    let mut at: usize = 0;
-    while at < s.len() {
-        let n = sequence(s, at);
-        if n == 0 {
-            return false;
-        }
-        at += n;
+    let mut a: u8 = 0;
+    let mut b: u8 = 0;
+    let mut c: u8 = 0;
+    let mut good = true;
+    let mut i: usize = 0;
+    while i < s.len() {
+        let d = s[i];
+        good = good & is_allowed(a, b, c, d);
+        a = b;
+        b = c;
+        c = d;
+        i += 1;
     }
-    true
+    good & !is_due(a, b, c)
 }

@@ -6,7 +6,7 @@ use Prim.Native.Nat.{_≤_, _-_}
 use native.Mathlib.Omega.{arith}
 use lib.Dec.{ltb}
 use lib.ListN.{length, drop}
-use Rattle.utf8.specs.Sequence.{allAscii}
+use Rattle.utf8.specs.Bytewise.{allAscii}
 use Rattle.utf8.proofs.Below128.{rises, stays, decides}
 use Rattle.utf8.proofs.ascii.Statement.{statement}
 use Rattle.utf8.proofs.ascii.Tie as tie
