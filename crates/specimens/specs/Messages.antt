@@ -84,6 +84,13 @@ block v cluster attribute value =
 abbrev pub report : List ℕ → List ℕ
 report blocks = envelope 0x05 0x01 ++ (0x15 ∷ 0x36 ∷ 0x01 ∷ (blocks ++ (0x18 ∷ 0x29 ∷ 0x04 ∷ ending)))
 
+-- the first part of a report of which more follows, and the second, which says all is sent
+abbrev pub firstPart : List ℕ → List ℕ
+firstPart blocks = envelope 0x05 0x01 ++ (0x15 ∷ 0x36 ∷ 0x01 ∷ (blocks ++ (0x18 ∷ 0x29 ∷ 0x03 ∷ ending)))
+
+abbrev pub secondPart : List ℕ → List ℕ
+secondPart blocks = envelope 0x05 0x02 ++ (0x15 ∷ 0x36 ∷ 0x01 ∷ (blocks ++ (0x18 ∷ 0x29 ∷ 0x04 ∷ ending)))
+
 -- a status response
 abbrev pub status : ℕ → List ℕ
 status code = envelope 0x01 0x01 ++ (0x15 ∷ 0x24 ∷ 0x00 ∷ code ∷ ending)

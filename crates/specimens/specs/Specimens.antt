@@ -1,4 +1,4 @@
--- S1 to S12 of document 01, as one list, over what `receive` and `change` answer.
+-- S1 to S12 of document 01, and a read of two parts, as one list, over what `receive` and `change` answer.
 use mathlib.Core.Path.{_≡_}
 use mathlib.Core.Bool.{true}
 use mathlib.Core.List.{List, [], _∷_, _++_}
@@ -14,7 +14,7 @@ use Rattle.server.specs.State.{signRight}
 use Rattle.server.specs.Receive.{Reaction, received}
 use Rattle.server.specs.Start.{Altered, started, alteredBy}
 use Rattle.specimens.specs.Sign.{words, defaults, edits, access, fresh}
-use Rattle.specimens.specs.Messages.{request1, reply1, block2, payload3, minus128, minus129, envelope, id, idFFFD, asked, askedOfAny, reading, filter, filters, version, versionFFFFFFFF, block, report, status, writing, response, true-data, float-data, text-data, times, nested}
+use Rattle.specimens.specs.Messages.{request1, reply1, block2, payload3, minus128, minus129, envelope, id, idFFFD, asked, askedOfAny, reading, filter, filters, version, versionFFFFFFFF, block, report, firstPart, secondPart, status, writing, response, true-data, float-data, text-data, times, nested}
 
 -- a sign given a message by subject 1, with a buffer of full size
 abbrev pub given : List ℕ → State → List ℕ → Reaction
@@ -64,6 +64,24 @@ toText n = changed 8 1 (bytes n) (Text 0 n)
 -- 1.0
 abbrev pub one : ℕ
 one = 0x3F80_0000
+
+-- A READ OF TWO PARTS: the text of 200 bytes five times, of which a part has room for four, then the boolean of cluster 6, with a filter for that cluster
+abbrev pub begun : ℕ → Reaction
+begun v = given (toText 200 .edits) (toText 200 .state) (reading (times 5 (asked 8 (id 1)) ++ asked 6 (id 0)) (filters (filter v)))
+
+-- between the parts cluster 6 goes from version 5 to 6
+abbrev pub moved : Reaction → Altered
+moved x = alteredBy words defaults (x .edits) (x .state) 1 6 1 [] (Signed (negsuc 128))
+
+-- the second part, without that change and with it
+abbrev pub standing : ℕ → List ℕ
+standing v = shown (given (begun v .edits) (begun v .state) (status 0x00))
+
+abbrev pub altering : ℕ → List ℕ
+altering v = lineThen (moved (begun v)) (status 0x00)
+
+abbrev pub texts : ℕ → List ℕ
+texts n = times n (block (version 0) 8 (id 1) (text-data 200 (bytes 200)))
 
 pub record All : Type 0 where
   -- the sign is one that `start` makes, its state keeps the rules, and so does its access table
@@ -117,3 +135,10 @@ pub record All : Type 0 where
   -- "S12. Depth 10 passes, 11 gets 80.": the message's structure and 9 or 10 more
   pub s12-10 : line (reading (asked 6 (id 0)) (nested 9)) ≡ 0 ∷ reply1
   pub s12-11 : line (reading (asked 6 (id 0)) (nested 10)) ≡ 0 ∷ status 0x80
+  -- each part judges the filters with the versions held when it is made: that of version 5 agrees until the change, that of version 6 from then on
+  pub begun-5 : shown (begun 5) ≡ 0 ∷ firstPart (texts 4)
+  pub begun-6 : begun 6 .reply ≡ begun 5 .reply
+  pub standing-5 : standing 5 ≡ 0 ∷ secondPart (texts 1)
+  pub standing-6 : standing 6 ≡ 0 ∷ secondPart (texts 1 ++ block (version 5) 6 (id 0) true-data)
+  pub altering-5 : altering 5 ≡ 0 ∷ secondPart (texts 1 ++ block (version 6) 6 (id 0) true-data)
+  pub altering-6 : altering 6 ≡ 0 ∷ secondPart (texts 1)
