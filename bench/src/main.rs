@@ -1,9 +1,9 @@
-//! Times the test of refusal 2 beside one part of a report, both proved functions of `crates/measured`. It asserts nothing about time: it prints medians and
-//! their ratios within one run.
+//! Times the test of refusal 2 beside one part of a report and beside whole calls, all proved functions of `crates/measured`. It asserts nothing about time: it
+//! prints medians and their ratios within one run.
 
 mod sign;
 
-use sign::{Kind, Sign, ATTRIBUTES, PAYLOAD, TEXT_SIZE};
+use sign::{Kind, Sign, ATTRIBUTES, MESSAGE, PAYLOAD, TEXT_SIZE};
 use std::hint::black_box;
 use std::time::Instant;
 
@@ -96,6 +96,10 @@ fn edited(kinds: &[Kind]) -> Sign {
     sign
 }
 
+/// A read of everything in exchange 7, and the success that asks for its second part.
+const READ: [u8; 20] = [2, 0, 0, 0, 0, 7, 0, 0, 0x15, 0x36, 0x00, 0x17, 0x18, 0x18, 0x28, 0x03, 0x24, 0xFF, 0x0A, 0x18];
+const SUCCESS: [u8; 16] = [1, 0, 0, 0, 0, 7, 0, 1, 0x15, 0x24, 0x00, 0x00, 0x24, 0xFF, 0x0A, 0x18];
+
 /// The answers are held to what they must be; the times are not.
 fn answers_are_right(sign: &Sign) -> usize {
     assert!(sign.valid(), "a fresh sign keeps the rules");
@@ -103,6 +107,12 @@ fn answers_are_right(sign: &Sign) -> usize {
     let first = sign.part(0, 0, &mut out);
     assert!(first.more && first.end <= PAYLOAD, "a part is within its limit, and promises more");
     assert_eq!(out[..4], [0x15, 0x36, 0x01, 0x15], "a report begins with its blocks");
+    let mut reply = [0; MESSAGE];
+    assert_eq!(sign.call(&READ, &mut reply), 8 + first.end, "a call answers with the part in an envelope");
+    assert_eq!(reply[8..8 + first.end], out[..first.end], "and with nothing else");
+    let second = sign.part(first.path, first.index, &mut out);
+    assert_eq!(sign.two_calls(&READ, &SUCCESS, &mut reply), 8 + second.end, "a success gets the next part");
+    assert_eq!(reply[8..8 + second.end], out[..second.end]);
     sign.read(&mut out)
 }
 
@@ -117,14 +127,18 @@ fn main() {
     let mut broken = Sign::new(&mixed());
     broken.break_last();
     assert!(!broken.valid(), "a value past its limits breaks the rules");
+    let mut refused = Sign::new(&mixed());
+    refused.break_first();
+    assert_eq!(refused.call(&READ, &mut [0; MESSAGE]), 0, "a broken schema gets no reply");
     println!(
-        "{:26} {:>9} {:>9} {:>7} {:>6} {:>9} {:>7}",
-        "", "test ns", "part ns", "ratio", "parts", "read ns", "ratio"
+        "{:26} {:>9} {:>9} {:>9} {:>9} {:>9} {:>7} {:>7} {:>6} {:>9}",
+        "", "test ns", "part ns", "first ns", "next ns", "refused", "t/part", "t/call", "parts", "read ns"
     );
     for (name, sign) in &signs {
         let parts = answers_are_right(sign);
         let (mut one, mut all) = ([0; PAYLOAD], [0; PAYLOAD]);
-        let [test, part, read] = medians([
+        let (mut reply, mut second, mut none) = ([0; MESSAGE], [0; MESSAGE], [0; MESSAGE]);
+        let [test, part, read, first, both, refusal] = medians([
             &mut || {
                 black_box(black_box(sign).valid());
             },
@@ -134,11 +148,22 @@ fn main() {
             &mut || {
                 black_box(black_box(sign).read(&mut all));
             },
+            &mut || {
+                black_box(black_box(sign).call(&READ, &mut reply));
+            },
+            &mut || {
+                black_box(black_box(sign).two_calls(&READ, &SUCCESS, &mut second));
+            },
+            &mut || {
+                black_box(black_box(&refused).call(&READ, &mut none));
+            },
         ]);
+        // The second call alone: what two calls take more than one.
+        let next = both - first;
         println!(
-            "{name:26} {test:9.0} {part:9.0} {:7.2} {parts:6} {read:9.0} {:7.2}",
+            "{name:26} {test:9.0} {part:9.0} {first:9.0} {next:9.0} {refusal:9.0} {:7.2} {:7.2} {parts:6} {read:9.0}",
             test / part,
-            test / read,
+            test / next,
         );
     }
 }

@@ -1,10 +1,14 @@
 //! A sign's schema, values and pages as the library is lent them, and safe calls of its functions.
 
+use std::cell::RefCell;
+
 pub const WORDS: usize = 1348;
 pub const ATTRIBUTES: usize = 256;
 pub const CLUSTERS: usize = 32;
 pub const TEXT_SIZE: usize = 200;
 pub const PAYLOAD: usize = 1024;
+pub const MESSAGE: usize = 1032;
+const SUBJECT: u64 = 1;
 
 // Where the columns of the schema start (crates/schema/src/lib.rt).
 const PATH: usize = 4;
@@ -53,6 +57,40 @@ extern "C" {
         out: *mut u8,
         out_len: usize,
     ) -> Part;
+    fn sign_call(
+        w: *const u64,
+        words: *const u64,
+        nulls: *const bool,
+        edited: *const bool,
+        versions: *const u32,
+        defaults: *const u8,
+        defaults_len: usize,
+        edits: *mut u8,
+        edits_len: usize,
+        subject: u64,
+        message: *const u8,
+        message_len: usize,
+        out: *mut u8,
+        out_len: usize,
+    ) -> usize;
+    fn sign_two_calls(
+        w: *const u64,
+        words: *const u64,
+        nulls: *const bool,
+        edited: *const bool,
+        versions: *const u32,
+        defaults: *const u8,
+        defaults_len: usize,
+        edits: *mut u8,
+        edits_len: usize,
+        subject: u64,
+        message: *const u8,
+        message_len: usize,
+        next: *const u8,
+        next_len: usize,
+        out: *mut u8,
+        out_len: usize,
+    ) -> usize;
 }
 
 /// One attribute: its kind, limits and first value.
@@ -71,7 +109,7 @@ pub struct Sign {
     edited: [bool; ATTRIBUTES],
     versions: [u32; CLUSTERS],
     defaults: Vec<u8>,
-    edits: Vec<u8>,
+    edits: RefCell<Vec<u8>>,
 }
 
 impl Sign {
@@ -85,12 +123,12 @@ impl Sign {
             edited: [false; ATTRIBUTES],
             versions: [0; CLUSTERS],
             defaults: Vec::new(),
-            edits: Vec::new(),
+            edits: RefCell::new(Vec::new()),
         };
         let w = &mut sign.schema;
         w[0] = CLUSTERS as u64;
         w[1] = ATTRIBUTES as u64;
-        w[2] = 1;
+        w[2] = SUBJECT;
         for k in 0..CLUSTERS {
             w[PATH + k] = ((k as u64 / 4) << 32) | (0x0500 + k as u64);
             w[VERSION + k] = 0x1000_0000 + k as u64;
@@ -120,7 +158,7 @@ impl Sign {
             w[FIRST + i] = first;
             sign.words[i] = if code == 4 { high } else { first };
         }
-        sign.edits = vec![0; TEXT_SIZE * rank as usize];
+        sign.edits = RefCell::new(vec![0; TEXT_SIZE * rank as usize]);
         sign
     }
 
@@ -131,7 +169,7 @@ impl Sign {
                 let start = self.schema[LOW + i] as usize;
                 let len = self.schema[HIGH + i] as usize;
                 let place = TEXT_SIZE * self.schema[FIRST + i] as usize;
-                self.edits[place..place + len].copy_from_slice(&self.defaults[start..start + len]);
+                self.edits.get_mut()[place..place + len].copy_from_slice(&self.defaults[start..start + len]);
                 self.edited[i] = true;
             }
         }
@@ -142,8 +180,14 @@ impl Sign {
         self.words[ATTRIBUTES - 1] = u64::MAX;
     }
 
+    /// The schema is broken where it is looked at first: every call is refused at once.
+    pub fn break_first(&mut self) {
+        self.schema[3] = 1;
+    }
+
     /// The test of refusal 2: whether schema, values and pages keep the rules.
     pub fn valid(&self) -> bool {
+        let edits = self.edits.borrow();
         // SAFETY: the arrays have the lengths that the library declares, each slice its own, and the library writes to none.
         unsafe {
             sign_valid(
@@ -154,14 +198,15 @@ impl Sign {
                 self.versions.as_ptr(),
                 self.defaults.as_ptr(),
                 self.defaults.len(),
-                self.edits.as_ptr(),
-                self.edits.len(),
+                edits.as_ptr(),
+                edits.len(),
             )
         }
     }
 
     /// One part of a read of everything, from this place on. The sign must be valid.
     pub fn part(&self, path: usize, index: usize, out: &mut [u8; PAYLOAD]) -> Part {
+        let edits = self.edits.borrow();
         // SAFETY: as above; `out` is as long as the contract asks, and the schema is well-formed, which `valid` was asked before.
         unsafe {
             sign_part(
@@ -172,8 +217,8 @@ impl Sign {
                 self.versions.as_ptr(),
                 self.defaults.as_ptr(),
                 self.defaults.len(),
-                self.edits.as_ptr(),
-                self.edits.len(),
+                edits.as_ptr(),
+                edits.len(),
                 path,
                 index,
                 out.as_mut_ptr(),
@@ -191,5 +236,55 @@ impl Sign {
             parts += 1;
         }
         parts
+    }
+
+    /// The whole call for a message given to the sign: the reply's length.
+    pub fn call(&self, message: &[u8], out: &mut [u8; MESSAGE]) -> usize {
+        let mut edits = self.edits.borrow_mut();
+        // SAFETY: the arrays have the lengths that the library declares, each slice its own, and only `edits` and `out` may be written.
+        unsafe {
+            sign_call(
+                self.schema.as_ptr(),
+                self.words.as_ptr(),
+                self.nulls.as_ptr(),
+                self.edited.as_ptr(),
+                self.versions.as_ptr(),
+                self.defaults.as_ptr(),
+                self.defaults.len(),
+                edits.as_mut_ptr(),
+                edits.len(),
+                SUBJECT,
+                message.as_ptr(),
+                message.len(),
+                out.as_mut_ptr(),
+                out.len(),
+            )
+        }
+    }
+
+    /// The same, and a second message given to the sign as the first left it: the second reply's length.
+    pub fn two_calls(&self, message: &[u8], next: &[u8], out: &mut [u8; MESSAGE]) -> usize {
+        let mut edits = self.edits.borrow_mut();
+        // SAFETY: as above.
+        unsafe {
+            sign_two_calls(
+                self.schema.as_ptr(),
+                self.words.as_ptr(),
+                self.nulls.as_ptr(),
+                self.edited.as_ptr(),
+                self.versions.as_ptr(),
+                self.defaults.as_ptr(),
+                self.defaults.len(),
+                edits.as_mut_ptr(),
+                edits.len(),
+                SUBJECT,
+                message.as_ptr(),
+                message.len(),
+                next.as_ptr(),
+                next.len(),
+                out.as_mut_ptr(),
+                out.len(),
+            )
+        }
     }
 }

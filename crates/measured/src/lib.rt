@@ -1,4 +1,4 @@
-// What a program in C or Rust links to measure a sign: the test of refusal 2 alone, and one part of a read of everything.
+// What a program in C or Rust links to measure a sign: the test of refusal 2 alone, one part of a read of everything, and whole calls.
 ghost use mathlib.Core.Path.{_≡_};
 ghost use mathlib.Core.Bool.{true};
 ghost use mathlib.Core.List.{[], _∷_};
@@ -8,9 +8,12 @@ ghost use Rattle.schema.specs.Check.{wellFormed};
 ghost use Rattle.report.specs.Blocks.{valuesOf, viewOf, blocksFrom};
 ghost use Rattle.report.specs.Chunk.{maxPayload};
 ghost use Rattle.report.specs.Part.{Made};
-ghost use Rattle.measured.specs.Sign.{signRight, everything, allGranted, readAll};
+ghost use Rattle.measured.specs.Sign.{signRight, everything, allGranted, readAll, openTable, idle, called, calledAfter};
 use acl::ADMINISTER;
+use acl::ENTRIES;
+use acl::Entry;
 use acl::Grants;
+use acl::table::Table;
 use interaction::MAX_FILTERS;
 use interaction::MAX_PATHS;
 use interaction::Wanted;
@@ -23,6 +26,9 @@ use schema::CLUSTERS;
 use schema::WORDS;
 use schema::check::well_formed;
 use selection::asked::Asked;
+use server::State;
+use server::receive::receive;
+use server::start::fresh_row;
 use values::Values;
 use values::valid::values_ok;
 
@@ -131,4 +137,89 @@ pub extern "C" fn sign_part<'a>(
         index: f.place.index,
         more: f.more,
     }
+}
+
+// One access entry: every privilege, for anyone, everywhere.
+fn open_table() -> Table
+    ensures { λ r. ⌜ r ≡ openTable ⌝ }
+{
+    let all = Entry {
+        privilege: ADMINISTER,
+        any_subject: true,
+        subject: 0,
+        any_endpoint: true,
+        endpoint: 0,
+        any_cluster: true,
+        cluster: 0,
+    };
+    Table {
+        entries: [all; ENTRIES],
+        count: 1,
+    }
+}
+
+// A sign that holds these and serves no exchange yet.
+fn holding<'a>(
+    words: &'a [u64; ATTRIBUTES],
+    nulls: &'a [bool; ATTRIBUTES],
+    edited: &'a [bool; ATTRIBUTES],
+    versions: &'a [u32; CLUSTERS],
+) -> State
+    ensures { λ r. ⌜ r ≡ idle (now (words .entry)) (now (nulls .entry)) (now (edited .entry)) (now (versions .entry)) ⌝ }
+{
+    let values = Values {
+        words: *words,
+        nulls: *nulls,
+        edited: *edited,
+        versions: *versions,
+    };
+    let row = fresh_row();
+    State { values, row }
+}
+
+// The whole call for a message given to such a sign: the reply's length.
+#[no_mangle]
+pub extern "C" fn sign_call<'a>(
+    w: &'a [u64; WORDS],
+    words: &'a [u64; ATTRIBUTES],
+    nulls: &'a [bool; ATTRIBUTES],
+    edited: &'a [bool; ATTRIBUTES],
+    versions: &'a [u32; CLUSTERS],
+    defaults: &'a [u8],
+    edits: &mut [u8],
+    subject: u64,
+    message: &'a [u8],
+    out: &mut [u8],
+) -> usize
+    ensures { λ r. ⌜ r ≡ length (called (now (w .entry)) (now (defaults .entry)) (now (edits .entry)) (idle (now (words .entry)) (now (nulls .entry)) (now (edited .entry)) (now (versions .entry))) subject (now (message .entry)) (length (now (out .entry))) .reply) ⌝ }
+{
+    let s = holding(words, nulls, edited, versions);
+    let t = open_table();
+    let o = receive(w, defaults, edits, s, t, subject, message, out);
+    o.len
+}
+
+// The same, and a second message given to the sign as the first left it: the second reply's length.
+#[no_mangle]
+pub extern "C" fn sign_two_calls<'a>(
+    w: &'a [u64; WORDS],
+    words: &'a [u64; ATTRIBUTES],
+    nulls: &'a [bool; ATTRIBUTES],
+    edited: &'a [bool; ATTRIBUTES],
+    versions: &'a [u32; CLUSTERS],
+    defaults: &'a [u8],
+    edits: &mut [u8],
+    subject: u64,
+    message: &'a [u8],
+    next: &'a [u8],
+    out: &mut [u8],
+) -> usize
+    ensures { λ r. ⌜ r ≡ length (calledAfter (now (w .entry)) (now (defaults .entry)) (called (now (w .entry)) (now (defaults .entry)) (now (edits .entry)) (idle (now (words .entry)) (now (nulls .entry)) (now (edited .entry)) (now (versions .entry))) subject (now (message .entry)) (length (now (out .entry)))) subject (now (next .entry)) (length (now (out .entry))) .reply) ⌝ }
+{
+    let s = holding(words, nulls, edited, versions);
+    let t = open_table();
+    let o = receive(w, defaults, edits, s, t, subject, message, out);
+    let left = o.state;
+    let p = receive(w, defaults, edits, left, t, subject, next, out);
+    p.len
 }

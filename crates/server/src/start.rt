@@ -50,7 +50,8 @@ const UNWANTED: Wanted = Wanted {
     version: 0,
 };
 
-fn fresh_row() -> Row
+// A sign that serves no exchange yet.
+pub fn fresh_row() -> Row
     ensures { λ r. ⌜ r ≡ freshRow ⌝ }
 {
     Row {
