@@ -13,7 +13,7 @@ use Rattle.utf8.specs.WellFormed.{Range, within, table, trailing, comple
 use Rattle.utf8.specs.Bytewise.{due, trails, begins, second, allowed, judged}
 use Rattle.utf8.proofs.Lines.{and-l, and-r, and-false, and-true, split, inside, low, high, under, over, line, no-line, by-line}
 
-and-assoc : (x y z : Bool) → (x && (y && z)) ≡ ((x && y) && z)
+pub and-assoc : (x y z : Bool) → (x && (y && z)) ≡ ((x && y) && z)
 and-assoc true y z = refl
 and-assoc false y z = refl
 

@@ -1,7 +1,8 @@
 -- Laws of the definitions, and the theorems.
 pub mod Lines
-pub mod Below128
+pub mod Below
 pub mod Bytewise
+pub mod Shorter
 pub mod Scalars
 pub mod Joins
 pub mod Examples

@@ -1,13 +1,18 @@
 -- Well-formed UTF-8 judged at each byte from the three before it. That this is the walk of Table 3-7 is a law (proofs/Bytewise.antt).
+use mathlib.Core.Path.{_≡_}
 use mathlib.Core.Bool.{Bool, true, not, _&&_, _||_}
 use mathlib.Core.List.{List, [], _∷_}
-use Prim.Native.Nat.{ℕ}
+use Prim.Native.Nat.{ℕ, _<_}
 use lib.Dec.{leb, ltb, eqb}
 
--- every byte is below 128
-unfoldable pub allAscii : List ℕ → Bool
-allAscii [] = true
-allAscii (a ∷ s) = ltb a 128 && allAscii s
+-- every byte is below k
+unfoldable pub allBelow : ℕ → List ℕ → Bool
+allBelow k [] = true
+allBelow k (a ∷ s) = ltb a k && allBelow k s
+
+-- m is the greatest byte, 0 of none: it is below just what every byte is below
+abbrev pub Greatest : ℕ → List ℕ → Type 0
+Greatest m s = (k : ℕ) → 0 < k → ltb m k ≡ allBelow k s
 
 -- a trailing byte must come after a, b, c: c begins a sequence, b one of three bytes or four, or a one of four
 unfoldable pub due : ℕ → ℕ → ℕ → Bool
@@ -34,3 +39,21 @@ allowed a b c d = ((due a b c || not (trails d)) && (not (due a b c) || trails d
 unfoldable pub judged : ℕ → ℕ → ℕ → List ℕ → Bool
 judged a b c [] = not (due a b c)
 judged a b c (d ∷ s) = allowed a b c d && judged b c d s
+
+-- THE SAME where no byte begins a sequence of four bytes: the last two decide
+unfoldable pub allowed3 : ℕ → ℕ → ℕ → Bool
+allowed3 b c d =
+    (((leb 0xC0 c || leb 0xE0 b) || not (trails d)) && (not (leb 0xC0 c || leb 0xE0 b) || trails d))
+    && ((ltb c 0xC0 || leb 0xC2 c) && ((not (eqb c 0xE0) || leb 0xA0 d) && (not (eqb c 0xED) || leb d 0x9F)))
+
+unfoldable pub judged3 : ℕ → ℕ → List ℕ → Bool
+judged3 b c [] = ltb c 0xC0 && ltb b 0xE0
+judged3 b c (d ∷ s) = allowed3 b c d && judged3 c d s
+
+-- and where none begins one of three either: the last one does
+unfoldable pub allowed2 : ℕ → ℕ → Bool
+allowed2 c d = ((leb 0xC0 c || not (trails d)) && (not (leb 0xC0 c) || trails d)) && (ltb c 0xC0 || leb 0xC2 c)
+
+unfoldable pub judged2 : ℕ → List ℕ → Bool
+judged2 c [] = ltb c 0xC0
+judged2 c (d ∷ s) = allowed2 c d && judged2 d s

@@ -1,11 +1,12 @@
 // Whether bytes are well-formed UTF-8.
 ghost use mathlib.Core.Path.{_≡_};
+ghost use mathlib.Core.Bool.{true};
 ghost use Rattle.utf8.specs.WellFormed.{wellFormed};
-ghost use Rattle.utf8.specs.Bytewise.{allAscii, due, allowed};
+ghost use Rattle.utf8.specs.Bytewise.{Greatest, allBelow, due, allowed, allowed3, allowed2};
 
-// Whether every byte is below 128: the greatest is. No way out of the loop, so that it becomes a vector maximum.
-fn ascii(s: &[u8]) -> bool
-    ensures { λ r. ⌜ r ≡ allAscii (now (s .entry)) ⌝ }
+// The greatest byte. No way out of the loop, so that it becomes a vector maximum.
+fn greatest(s: &[u8]) -> u8
+    ensures { λ r. ⌜ Greatest r (now (s .entry)) ⌝ }
 {
     let mut m: u8 = 0;
     let mut i: usize = 0;
@@ -16,7 +17,28 @@ fn ascii(s: &[u8]) -> bool
         }
         i += 1;
     }
-    m < 128
+    m
+}
+
+// Whether d may come after c, in a text of sequences of one and two bytes. Every test is made, whatever the others say: no branch, so that the loop over
+// it becomes vector code. The same holds of the two functions for longer sequences.
+fn is_allowed_two(c: u8, d: u8) -> bool
+    ensures { λ r. ⌜ r ≡ allowed2 c d ⌝ }
+{
+    let due = 0xC0 <= c;
+    let trails = (0x80 <= d) & (d <= 0xBF);
+    ((due | !trails) & (!due | trails)) & ((c < 0xC0) | (0xC2 <= c))
+}
+
+// The same after b and c, where sequences have at most three bytes.
+fn is_allowed_three(b: u8, c: u8, d: u8) -> bool
+    ensures { λ r. ⌜ r ≡ allowed3 b c d ⌝ }
+{
+    let due = (0xC0 <= c) | (0xE0 <= b);
+    let trails = (0x80 <= d) & (d <= 0xBF);
+    let begins = (c < 0xC0) | (0xC2 <= c);
+    let three = ((c != 0xE0) | (0xA0 <= d)) & ((c != 0xED) | (d <= 0x9F));
+    ((due | !trails) & (!due | trails)) & (begins & three)
 }
 
 // Whether a trailing byte must come next, after these three.
@@ -26,7 +48,7 @@ fn is_due(a: u8, b: u8, c: u8) -> bool
     (0xC0 <= c) | ((0xE0 <= b) | (0xF0 <= a))
 }
 
-// Whether d may come next, after these three. Every test is made, whatever the others say: no branch, so that the loop over it becomes vector code.
+// Whether d may come next, after these three: any sequence.
 fn is_allowed(a: u8, b: u8, c: u8, d: u8) -> bool
     ensures { λ r. ⌜ r ≡ allowed a b c d ⌝ }
 {
@@ -38,13 +60,45 @@ fn is_allowed(a: u8, b: u8, c: u8, d: u8) -> bool
     ((due | !trails) & (!due | trails)) & (begins & (three & four))
 }
 
-// Whether the bytes are well-formed UTF-8: at once where all are below 128, else each byte by the three before it.
-pub fn valid(s: &[u8]) -> bool
+// Whether bytes of which none begins a sequence of three bytes or four are well-formed.
+fn up_to_two(s: &[u8]) -> bool
+    requires { ⌜ allBelow 0xE0 (now s) ≡ true ⌝ }
     ensures { λ r. ⌜ r ≡ wellFormed (now (s .entry)) ⌝ }
 {
-    if ascii(s) {
-        return true;
+    let mut c: u8 = 0;
+    let mut good = true;
+    let mut i: usize = 0;
+    while i < s.len() {
+        let d = s[i];
+        good = good & is_allowed_two(c, d);
+        c = d;
+        i += 1;
     }
+    good & (c < 0xC0)
+}
+
+// Whether bytes of which none begins a sequence of four are well-formed.
+fn up_to_three(s: &[u8]) -> bool
+    requires { ⌜ allBelow 0xF0 (now s) ≡ true ⌝ }
+    ensures { λ r. ⌜ r ≡ wellFormed (now (s .entry)) ⌝ }
+{
+    let mut b: u8 = 0;
+    let mut c: u8 = 0;
+    let mut good = true;
+    let mut i: usize = 0;
+    while i < s.len() {
+        let d = s[i];
+        good = good & is_allowed_three(b, c, d);
+        b = c;
+        c = d;
+        i += 1;
+    }
+    good & ((c < 0xC0) & (b < 0xE0))
+}
+
+fn up_to_four(s: &[u8]) -> bool
+    ensures { λ r. ⌜ r ≡ wellFormed (now (s .entry)) ⌝ }
+{
     let mut a: u8 = 0;
     let mut b: u8 = 0;
     let mut c: u8 = 0;
@@ -59,4 +113,22 @@ pub fn valid(s: &[u8]) -> bool
         i += 1;
     }
     good & !is_due(a, b, c)
+}
+
+// Whether the bytes are well-formed UTF-8: at once where all are below 128, else each byte by those before it, as many as the longest sequence there can
+// be asks for.
+pub fn valid(s: &[u8]) -> bool
+    ensures { λ r. ⌜ r ≡ wellFormed (now (s .entry)) ⌝ }
+{
+    let m = greatest(s);
+    if m < 0x80 {
+        return true;
+    }
+    if m < 0xE0 {
+        return up_to_two(s);
+    }
+    if m < 0xF0 {
+        return up_to_three(s);
+    }
+    up_to_four(s)
 }

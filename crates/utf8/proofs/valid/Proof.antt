@@ -1,70 +1,45 @@
--- `utf8::valid` meets its contract. The invariant: what was good so far, and the bytes from here on, after the last three, give the answer.
-use mathlib.Core.Path.{_≡_, refl, sym, _∙_}
-use mathlib.Core.Bool.{_&&_}
-use Prim.Native.Nat.{_≤_, _-_}
+-- `utf8::valid` meets its contract: what the greatest byte is below, every byte is below.
+use mathlib.Core.Path.{sym, _∙_}
 use native.Mathlib.Omega.{arith}
 use borrow.Author.Needs.{needs}
-use lib.ListN.{length, drop}
-use Rattle.utf8.specs.WellFormed.{wellFormed}
-use Rattle.utf8.specs.Bytewise.{judged}
-use Rattle.utf8.proofs.Below128.{ascii-formed}
-use Rattle.utf8.proofs.Bytewise.{as-walked, one-further, ended}
+use borrow.Author.Tests.{lt-ltb}
+use Rattle.utf8.proofs.Below.{ascii-formed}
 use Rattle.utf8.proofs.valid.Statement.{statement}
 use Rattle.utf8.proofs.valid.Tie as tie
 
-abbrev Inv-loop : tie.InvT-loop
-Inv-loop s a₀ b₀ c₀ good₀ i₀ a b c good i = (i ≤ length s) × (wellFormed s ≡ (good && judged a b c (drop i s)))
+greatest-requires : tie.Need-greatest-requires
+greatest-requires c κs = search needs
 
-abbrev μ-loop : tie.MeasureT-loop
-μ-loop s a₀ b₀ c₀ good₀ i₀ a b c good i = length s - i
+returns : tie.Need-returns
+returns c = sym (ascii-formed _ (sym (c .before .greatest .ensures 0x80 (omega arith)) ∙ lt-ltb _ _ (c .if1 .taken)))
 
-ascii-requires : tie.Need-ascii-requires Inv-loop μ-loop
-ascii-requires c κs = search needs
+up-to-two-requires : tie.Need-up-to-two-requires
+up-to-two-requires c κs = sym (c .before .before .greatest .ensures 0xE0 (omega arith)) ∙ lt-ltb _ _ (c .if2 .taken)
 
-returns : tie.Need-returns Inv-loop μ-loop
-returns c = sym (ascii-formed _ (sym (c .before .ascii .ensures) ∙ c .if1 .taken))
+returns-2 : tie.Need-returns-2
+returns-2 c = search needs
 
-loop-holds : tie.Need-loop-holds Inv-loop μ-loop
-loop-holds c = (omega arith, as-walked _)
+up-to-three-requires : tie.Need-up-to-three-requires
+up-to-three-requires c κs = sym (c .before .before .before .greatest .ensures 0xF0 (omega arith)) ∙ lt-ltb _ _ (c .if3 .taken)
 
-shared-slice-read-d : tie.Need-shared-slice-read-d Inv-loop μ-loop
-shared-slice-read-d c = omega arith
+returns-3 : tie.Need-returns-3
+returns-3 c = search needs
 
-is-allowed-requires : tie.Need-is-allowed-requires Inv-loop μ-loop
-is-allowed-requires c κs = search needs
+up-to-four-requires : tie.Need-up-to-four-requires
+up-to-four-requires c κs = search needs
 
-add-i : tie.Need-add-i Inv-loop μ-loop
-add-i c = omega arith
-
-loop-less : tie.Need-loop-less Inv-loop μ-loop
-loop-less c = omega arith
-
-loop-again : tie.Need-loop-again Inv-loop μ-loop
-loop-again c =
-    let l = c .before .before .before .loop in
-    (omega arith, rw (c .is-allowed .ensures) (one-further (c .before .before .before .before .before .before .before .args .s .now) (l .a) (l .b) (l .c) (l .i) (l .good) (l .inv .1) (omega arith)))
-
-is-due-requires : tie.Need-is-due-requires Inv-loop μ-loop
-is-due-requires c κs = search needs
-
-returns-2 : tie.Need-returns-2 Inv-loop μ-loop
-returns-2 c =
-    let l = c .before .before .loop in
-    rw (c .is-due .ensures) (ended (c .before .before .before .before .before .before .args .s .now) (l .a) (l .b) (l .c) (l .i) (l .good) (l .inv .1) (c .before .loop-test .left))
+returns-4 : tie.Need-returns-4
+returns-4 c = search needs
 
 pub valid-spec : {M : Type 1} → statement M
 valid-spec =
     tie.close
     (tie.spec
-    Inv-loop
-    μ-loop
-    ascii-requires
+    greatest-requires
     returns
-    loop-holds
-    shared-slice-read-d
-    is-allowed-requires
-    add-i
-    loop-less
-    loop-again
-    is-due-requires
-    returns-2)
+    up-to-two-requires
+    returns-2
+    up-to-three-requires
+    returns-3
+    up-to-four-requires
+    returns-4)

@@ -1,24 +1,20 @@
--- `utf8::ascii` meets its contract. The invariant: the greatest byte so far and the bytes from here on give the answer.
-use mathlib.Core.Path.{_≡_, refl}
-use mathlib.Core.Bool.{_&&_}
+-- `utf8::greatest` meets its contract. The invariant: the greatest byte so far is below what every byte before here is below.
 use mathlib.Core.Logic.{⊎-elim}
 use Prim.Native.Nat.{_≤_, _-_}
 use native.Mathlib.Omega.{arith}
-use lib.Dec.{ltb}
-use lib.ListN.{length, drop}
-use Rattle.utf8.specs.Bytewise.{allAscii}
-use Rattle.utf8.proofs.Below128.{rises, stays, decides}
-use Rattle.utf8.proofs.ascii.Statement.{statement}
-use Rattle.utf8.proofs.ascii.Tie as tie
+use lib.ListN.{length}
+use Rattle.utf8.proofs.Below.{SoFar, none-yet, rises, stays, decides}
+use Rattle.utf8.proofs.greatest.Statement.{statement}
+use Rattle.utf8.proofs.greatest.Tie as tie
 
 abbrev Inv-loop : tie.InvT-loop
-Inv-loop s m₀ i₀ m i = (i ≤ length s) × (allAscii s ≡ (ltb m 128 && allAscii (drop i s)))
+Inv-loop s m₀ i₀ m i = (i ≤ length s) × SoFar s m i
 
 abbrev μ-loop : tie.MeasureT-loop
 μ-loop s m₀ i₀ m i = length s - i
 
 loop-holds : tie.Need-loop-holds Inv-loop μ-loop
-loop-holds c = (omega arith, refl)
+loop-holds c = (omega arith, none-yet _)
 
 shared-slice-read-b : tie.Need-shared-slice-read-b Inv-loop μ-loop
 shared-slice-read-b c = omega arith
@@ -38,7 +34,7 @@ loop-again c =
 returns : tie.Need-returns Inv-loop μ-loop
 returns c = let l = c .before .loop in decides (c .before .before .args .s .now) (l .m) (l .i) (l .inv .1) (c .loop-test .left)
 
-pub ascii-spec : {M : Type 1} → statement M
-ascii-spec =
+pub greatest-spec : {M : Type 1} → statement M
+greatest-spec =
     tie.close
     (tie.spec Inv-loop μ-loop loop-holds shared-slice-read-b add-i loop-less loop-again returns)

@@ -1,0 +1,44 @@
+-- `utf8::up_to_three` meets its contract. The invariant: what was good so far, and the bytes from here on, after the last two, give the answer.
+use mathlib.Core.Path.{_≡_}
+use mathlib.Core.Bool.{_&&_}
+use Prim.Native.Nat.{_≤_, _-_}
+use native.Mathlib.Omega.{arith}
+use borrow.Author.Needs.{needs}
+use lib.ListN.{length, drop}
+use Rattle.utf8.specs.WellFormed.{wellFormed}
+use Rattle.utf8.specs.Bytewise.{judged3}
+use Rattle.utf8.proofs.Shorter.{as-three, further-three, ended-three}
+use Rattle.utf8.proofs.up_to_three.Statement.{statement}
+use Rattle.utf8.proofs.up_to_three.Tie as tie
+
+abbrev Inv-loop : tie.InvT-loop
+Inv-loop s b₀ c₀ good₀ i₀ b c good i = (i ≤ length s) × (wellFormed s ≡ (good && judged3 b c (drop i s)))
+
+abbrev μ-loop : tie.MeasureT-loop
+μ-loop s b₀ c₀ good₀ i₀ b c good i = length s - i
+
+loop-holds : tie.Need-loop-holds Inv-loop μ-loop
+loop-holds c = (omega arith, as-three _ (c .before .pre))
+
+shared-slice-read-d : tie.Need-shared-slice-read-d Inv-loop μ-loop
+shared-slice-read-d c = omega arith
+
+is-allowed-three-requires : tie.Need-is-allowed-three-requires Inv-loop μ-loop
+is-allowed-three-requires c κs = search needs
+
+add-i : tie.Need-add-i Inv-loop μ-loop
+add-i c = omega arith
+
+loop-less : tie.Need-loop-less Inv-loop μ-loop
+loop-less c = omega arith
+
+loop-again : tie.Need-loop-again Inv-loop μ-loop
+loop-again c =
+    let l = c .before .before .before .loop in
+    (omega arith, rw (c .is-allowed-three .ensures) (further-three (c .before .before .before .before .before .args .s .now) (l .i) (l .good) (l .b) (l .c) (l .inv .1) (omega arith)))
+
+returns : tie.Need-returns Inv-loop μ-loop
+returns c = let l = c .before .loop in ended-three (c .before .before .before .args .s .now) (l .i) (l .good) (l .b) (l .c) (l .inv .1) (c .loop-test .left)
+
+pub up-to-three-spec : {M : Type 1} → statement M
+up-to-three-spec = tie.close (tie.spec Inv-loop μ-loop loop-holds shared-slice-read-d is-allowed-three-requires add-i loop-less loop-again returns)
