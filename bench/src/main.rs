@@ -70,14 +70,14 @@ fn texts(inner: &str) -> Vec<Kind> {
     texts.collect()
 }
 
-/// Characters of one to four bytes in no order, until 200 bytes are full.
-fn scripts() -> Vec<Kind> {
+/// These characters in no order, until 200 bytes are full.
+fn scripts(characters: [&str; 4]) -> Vec<Kind> {
     let mut seed: u32 = 1;
     let texts = (0..ATTRIBUTES).map(|_| {
         let mut text = String::new();
         loop {
             seed = seed.wrapping_mul(1_664_525).wrapping_add(1_013_904_223);
-            let next = ["a", "é", "借", "𝄞"][(seed >> 30) as usize];
+            let next = characters[(seed >> 30) as usize];
             if TEXT_SIZE < text.len() + next.len() {
                 break;
             }
@@ -122,7 +122,8 @@ fn main() {
         ("256 texts, ASCII", Sign::new(&texts("BORROW"))),
         ("256 texts, ASCII, edited", edited(&texts("BORROW"))),
         ("256 texts, one é each", Sign::new(&texts("PRÉT"))),
-        ("256 texts, any script", Sign::new(&scripts())),
+        ("256 texts, to 3 bytes", Sign::new(&scripts(["a", "é", "借", "り"]))),
+        ("256 texts, to 4 bytes", Sign::new(&scripts(["a", "é", "借", "𝄞"]))),
     ];
     let mut broken = Sign::new(&mixed());
     broken.break_last();

@@ -17,7 +17,6 @@ use acl::table::Table;
 use interaction::MAX_FILTERS;
 use interaction::MAX_PATHS;
 use interaction::Wanted;
-use node::first::numbers_ok;
 use report::Place;
 use report::part::Request;
 use report::part::make_part;
@@ -55,9 +54,6 @@ pub extern "C" fn sign_valid<'a>(
     ensures { λ r. ⌜ r ≡ signRight (now (w .entry)) (now (defaults .entry)) (now (edits .entry)) (valuesOf (now (words .entry)) (now (nulls .entry)) (now (edited .entry)) (now (versions .entry))) ⌝ }
 {
     if !well_formed(w) {
-        return false;
-    }
-    if !numbers_ok(w) {
         return false;
     }
     let v = Values {

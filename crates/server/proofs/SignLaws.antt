@@ -1,6 +1,6 @@
 -- What a right sign keeps to, rule by rule.
-use mathlib.Core.Path.{_≡_}
-use mathlib.Core.Bool.{true, _&&_}
+use mathlib.Core.Path.{_≡_, refl}
+use mathlib.Core.Bool.{Bool, true, false, _&&_}
 use mathlib.Core.List.{List}
 use Prim.Native.Nat.{ℕ}
 use Rattle.schema.specs.Check as Schema
@@ -10,6 +10,11 @@ use Rattle.values.specs.Valid.{valuesRight}
 use Rattle.replies.specs.Row.{rowRight}
 use Rattle.server.specs.declared.State.{State}
 use Rattle.server.specs.State.{signRight}
+
+-- four tests, the middle two taken together
+grouped : (a b c d : Bool) → (a && (b && (c && d))) ≡ (a && ((b && c) && d))
+grouped a true c d = refl
+grouped a false c d = refl
 
 pub record RightSign (w defaults edits : List ℕ) (s : State) : Type 0 where
   pub schema : Schema.wellFormed w ≡ true
@@ -28,6 +33,11 @@ module _ (w defaults edits : List ℕ) (s : State) where
       let h₁ = right t₀ (t₁ && (t₂ && t₃)) h in
       let h₂ = right t₁ (t₂ && t₃) h₁ in
       record { schema = left t₀ (t₁ && (t₂ && t₃)) h; numbers = left t₁ (t₂ && t₃) h₁; values = left t₂ t₃ h₂; row = right t₂ t₃ h₂ }
+
+  -- as the code tests it: first values and values in one loop
+  pub as-tested : signRight w defaults edits s ≡ (Schema.wellFormed w && ((numbersRight w && valuesRight w defaults edits (s .values)) && rowRight (s .row)))
+  unfolding signRight
+  as-tested = grouped (Schema.wellFormed w) (numbersRight w) (valuesRight w defaults edits (s .values)) (rowRight (s .row))
 
   pub right-sign : RightSign w defaults edits s → signRight w defaults edits s ≡ true
   unfolding signRight

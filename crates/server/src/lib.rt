@@ -2,7 +2,6 @@
 ghost use mathlib.Core.Path.{_≡_};
 ghost use Prim.Native.Nat.{ℕ};
 ghost use Rattle.server.specs.State.{signRight};
-use node::first::numbers_ok;
 use replies::Row;
 use replies::kept::row_ok;
 use schema::WORDS;
@@ -44,9 +43,6 @@ pub fn sign_ok<'a>(w: &'a [u64; WORDS], defaults: &'a [u8], edits: &'a [u8], s: 
     ensures { λ r. ⌜ r ≡ signRight (now (w .entry)) (now (defaults .entry)) (now (edits .entry)) s ⌝ }
 {
     if !well_formed(w) {
-        return false;
-    }
-    if !numbers_ok(w) {
         return false;
     }
     if !values_ok(w, defaults, edits, s.values) {

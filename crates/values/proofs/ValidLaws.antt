@@ -1,6 +1,6 @@
 -- The check of a sign's values, test by test.
-use mathlib.Core.Path.{_≡_, sym, _∙_}
-use mathlib.Core.Bool.{Bool, true, false}
+use mathlib.Core.Path.{_≡_, refl, sym, _∙_}
+use mathlib.Core.Bool.{Bool, true, false, _&&_, false≢true}
 use mathlib.Core.List.{List}
 use Prim.Native.Nat.{ℕ, _*_, _<_}
 use borrow.Author.Tests.{eqb-true, eq-eqb, ne-eqb}
@@ -9,11 +9,12 @@ use lib.ListN.{length, getD}
 use Rattle.schema.specs.Layout.{clusterLimit, attributeLimit, textSize}
 use Rattle.schema.specs.Rows.{attributeRow, attributeCount, isText}
 use Rattle.schema.specs.Check.{every, textCount}
-use Rattle.schema.proofs.BoolLaws.{both, left, right, past, fails}
-use Rattle.schema.proofs.CheckLaws.{every-at, every-all, every-fails}
+use Rattle.schema.proofs.BoolLaws.{both, left, right, by-test}
+use Rattle.schema.proofs.CheckLaws.{every-at, every-all}
 use Rattle.kinds.specs.declared.Kind.{Kind}
 use Rattle.kinds.specs.Stored.{held}
 use Rattle.node.specs.Attributes.{kindOf}
+use Rattle.node.specs.Check.{numberRight, numbersRight}
 use Rattle.values.specs.declared.Values.{Values}
 use Rattle.values.specs.Values.{textAt}
 use Rattle.values.specs.Valid.{shownRight, valueRight, valuesRight}
@@ -45,6 +46,10 @@ module _ (w defaults edits : List ℕ) (i word : ℕ) (isNull edited : Bool) whe
 
 -- ---- the check by index
 
+and-false : (x : Bool) → (x && false) ≡ false
+and-false true = refl
+and-false false = refl
+
 -- attribute i holds what it may
 abbrev pub rightAt : List ℕ → List ℕ → List ℕ → Values → ℕ → Bool
 rightAt w defaults edits v i = valueRight w defaults edits i (getD (v .words) i 0) (getD (v .nulls) i false) (getD (v .edited) i false)
@@ -62,18 +67,34 @@ module _ (w defaults edits : List ℕ) (v : Values) where
   unfolding valuesRight
   right-all s f = both _ _ (eq-eqb _ _ s) (every-all (rightAt w defaults edits v) (attributeCount w) f)
 
-  -- the code's tests
-  pub wrong-size : (length edits ≡ textSize * textCount w → ⊥) → false ≡ valuesRight w defaults edits v
-  unfolding valuesRight
-  wrong-size n = fails _ _ (ne-eqb _ _ n)
+  -- the code's tests: first values and values in one loop
+  abbrev pub allRight : Bool
+  allRight = numbersRight w && valuesRight w defaults edits v
 
-  pub wrong-at : length edits ≡ textSize * textCount w → (i : ℕ) → i < attributeCount w → rightAt w defaults edits v i ≡ false → false ≡ valuesRight w defaults edits v
-  unfolding valuesRight
-  wrong-at s i l t = every-fails (rightAt w defaults edits v) (attributeCount w) i l t ∙ past _ _ (eq-eqb _ _ s)
+  abbrev pub bothAt : ℕ → Bool
+  bothAt i = numberRight (attributeRow w i) && rightAt w defaults edits v i
 
-  pub right-done : length edits ≡ textSize * textCount w → every (rightAt w defaults edits v) (attributeCount w) ≡ true → true ≡ valuesRight w defaults edits v
+  pub wrong-size : (length edits ≡ textSize * textCount w → ⊥) → false ≡ allRight
   unfolding valuesRight
-  right-done s h = sym h ∙ past _ _ (eq-eqb _ _ s)
+  wrong-size n = rw (ne-eqb _ _ n) (sym (and-false (numbersRight w)))
+
+  at-each : allRight ≡ true → (i : ℕ) → i < attributeCount w → bothAt i ≡ true
+  unfolding numbersRight
+  at-each h i l =
+      both (numberRight (attributeRow w i)) (rightAt w defaults edits v i)
+      (every-at (λ k. numberRight (attributeRow w k)) (attributeCount w) (left (numbersRight w) (valuesRight w defaults edits v) h) i l)
+      (right-at (right (numbersRight w) (valuesRight w defaults edits v) h) i l)
+
+  pub wrong-at : (i : ℕ) → i < attributeCount w → bothAt i ≡ false → false ≡ allRight
+  wrong-at i l t = by-test allRight (λ h. absurd (false≢true (sym t ∙ at-each h i l))) sym
+
+  pub right-done : length edits ≡ textSize * textCount w → every bothAt (attributeCount w) ≡ true → true ≡ allRight
+  unfolding numbersRight
+  right-done s h =
+      let f = every-at bothAt (attributeCount w) h in
+      sym (both (numbersRight w) (valuesRight w defaults edits v)
+      (every-all (λ k. numberRight (attributeRow w k)) (attributeCount w) (λ i l. left (numberRight (attributeRow w i)) (rightAt w defaults edits v i) (f i l)))
+      (right-all s (λ i l. right (numberRight (attributeRow w i)) (rightAt w defaults edits v i) (f i l))))
 
   -- what is held is within its limits
   pub limits-at : (i : ℕ) → rightAt w defaults edits v i ≡ true → withinLimits w i (getD (v .words) i 0) (getD (v .nulls) i false) ≡ true

@@ -13,30 +13,12 @@ returns : tie.Need-returns
 unfolding signRight
 returns c = fails _ _ (sym (c .before .well-formed .ensures) ∙ not-true _ (c .if1 .taken))
 
-numbers-ok-requires : tie.Need-numbers-ok-requires
-numbers-ok-requires c κs = search needs
-
-returns-2 : tie.Need-returns-2
-unfolding signRight
-returns-2 c = fails _ _ (sym (c .before .numbers-ok .ensures) ∙ not-true _ (c .if2 .taken))
-    ∙ past _ _ (sym (c .before .before .before .well-formed .ensures) ∙ not-false _ (c .before .before .if1 .left))
-
 values-ok-requires : tie.Need-values-ok-requires
 values-ok-requires c κs = search needs
 
-returns-3 : tie.Need-returns-3
+returns-2 : tie.Need-returns-2
 unfolding signRight
-returns-3 c = c .values-ok .ensures
-    ∙ past _ _ (sym (c .before .before .before .before .before .before .numbers-ok .ensures) ∙ not-false _ (c .before .before .before .before .before .if2 .left))
-    ∙ past _ _ (sym (c .before .before .before .before .before .before .before .before .well-formed .ensures) ∙ not-false _ (c .before .before .before .before .before .before .before .if1 .left))
+returns-2 c = c .values-ok .ensures ∙ past _ _ (sym (c .before .before .before .before .before .before .well-formed .ensures) ∙ not-false _ (c .before .before .before .before .before .if1 .left))
 
 pub sign-valid-spec : {M : Type 1} → statement M
-sign-valid-spec =
-    tie.close
-    (tie.spec
-    well-formed-requires
-    returns
-    numbers-ok-requires
-    returns-2
-    values-ok-requires
-    returns-3)
+sign-valid-spec = tie.close (tie.spec well-formed-requires returns values-ok-requires returns-2)
