@@ -5,3 +5,4 @@ pub mod FillLaws
 pub mod PartLaws
 pub mod ChunkLaws
 pub mod ReadLaws
+pub mod JudgedLaws

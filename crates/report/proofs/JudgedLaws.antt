@@ -1,0 +1,71 @@
+-- FILTERS ARE JUDGED AT EACH PART: with the versions of the view that the part is made of, whatever the sign held when the request was taken.
+use mathlib.Core.Path.{_≡_, refl, _∙_}
+use mathlib.Core.Bool.{Bool, true, false, not, _&&_, _||_}
+use mathlib.Core.List.{List, [], _∷_}
+use Prim.Native.Nat.{ℕ, zero, suc, _<_}
+use native.Mathlib.Omega.{arith}
+use borrow.Author.Tests.{ne-eqb}
+use lib.Dec.{eqb}
+use lib.ListN.{length, getD}
+use Rattle.tlv.specs.Octet.{pick}
+use Rattle.interaction.specs.declared.Wanted.{Wanted}
+use Rattle.schema.specs.Layout.{clusterLimit}
+use Rattle.schema.specs.Rows.{clusterRow, clusterCount, attributeRow, attributeCount}
+use Rattle.schema.specs.Check.{wellFormed}
+use Rattle.schema.proofs.RowLaws.{filled-at}
+use Rattle.acl.specs.declared.Grants.{Grants}
+use Rattle.acl.specs.Access.{isGranted}
+use Rattle.values.specs.declared.Values.{Values}
+use Rattle.selection.specs.declared.items.Item.the-variants.{Value, Nothing}
+use Rattle.selection.specs.Filters.{on, some, agree, skipsBy, skipsAt, skipsOf}
+use Rattle.selection.specs.Items.{readItem}
+use Rattle.selection.proofs.AskedLaws.{cluster-of}
+use Rattle.report.specs.Blocks.{viewOf}
+
+and-false : (b : Bool) → (b && false) ≡ false
+and-false true = refl
+and-false false = refl
+
+-- a filter for the cluster that carries another version
+disagrees : (e c version : ℕ) (d : Wanted) (fs : List Wanted) (n : ℕ) → n < length fs → on e c (getD fs n d) ≡ true → (getD fs n d .version ≡ version → ⊥) → agree e c version fs ≡ false
+unfolding agree
+disagrees e c version d [] n l h k = absurd (omega arith)
+disagrees e c version d (f ∷ fs) zero l h k = rw (h, ne-eqb (f .version) version k)
+disagrees e c version d (f ∷ fs) (suc n) l h k =
+    rw (disagrees e c version d fs n (omega arith) h k) (and-false (not (on e c f) || eqb (f .version) version))
+
+-- attribute i of a schema, in a view of the sign as it stands when a part is made
+module _ (w : List ℕ) (right : wellFormed w ≡ true) (v : Values) (defaults edits : List ℕ) (g : Grants) (fs : List Wanted) (i : ℕ) (l : i < attributeCount w) where
+  -- its cluster, and the version that this has now
+  abbrev place : ℕ
+  place = attributeRow w i .clusterIndex
+
+  abbrev endpoint : ℕ
+  endpoint = clusterRow w place .endpoint
+
+  abbrev cluster : ℕ
+  cluster = clusterRow w place .cluster
+
+  abbrev version : ℕ
+  version = getD (v .versions) place 0
+
+  skips-now : getD (viewOf w v defaults edits g fs .skips) place false ≡ skipsBy fs endpoint cluster version
+  unfolding skipsOf
+  skips-now = filled-at false (skipsAt w fs (v .versions)) clusterLimit (clusterCount w) place false (cluster-of w right i l)
+
+  -- one that may be read
+  module _ (readable : eqb (attributeRow w i .read) 0 ≡ false) (granted : isGranted g place (attributeRow w i .read) ≡ true) where
+    judged-now : readItem w g (viewOf w v defaults edits g fs .skips) i ≡ pick (skipsBy fs endpoint cluster version) Nothing (Value i)
+    unfolding readItem
+    judged-now = rw (readable, granted, skips-now)
+
+    -- THE VERSION MOVED AWAY from what a filter carries: the attribute is reported, even if that filter agreed when the request was taken
+    pub reported-now : (d : Wanted) (n : ℕ) → n < length fs → on endpoint cluster (getD fs n d) ≡ true → (getD fs n d .version ≡ version → ⊥) → readItem w g (viewOf w v defaults edits g fs .skips) i ≡ Value i
+    unfolding skipsBy
+    reported-now d n h o k =
+        judged-now ∙ rw (disagrees endpoint cluster version d fs n h o k, and-false (some endpoint cluster fs))
+
+    -- THE VERSION MOVED to what all its filters carry: the attribute is skipped, even if none agreed when the request was taken
+    pub skipped-now : some endpoint cluster fs ≡ true → agree endpoint cluster version fs ≡ true → readItem w g (viewOf w v defaults edits g fs .skips) i ≡ Nothing
+    unfolding skipsBy
+    skipped-now s a = judged-now ∙ rw (s, a)
