@@ -97,7 +97,9 @@ fn edited(kinds: &[Kind]) -> Sign {
 }
 
 /// A read of everything in exchange 7, and the success that asks for its second part.
-const READ: [u8; 20] = [2, 0, 0, 0, 0, 7, 0, 0, 0x15, 0x36, 0x00, 0x17, 0x18, 0x18, 0x28, 0x03, 0x24, 0xFF, 0x0A, 0x18];
+const READ: [u8; 20] = [
+    2, 0, 0, 0, 0, 7, 0, 0, 0x15, 0x36, 0x00, 0x17, 0x18, 0x18, 0x28, 0x03, 0x24, 0xFF, 0x0A, 0x18,
+];
 const SUCCESS: [u8; 16] = [1, 0, 0, 0, 0, 7, 0, 1, 0x15, 0x24, 0x00, 0x00, 0x24, 0xFF, 0x0A, 0x18];
 
 /// The answers are held to what they must be; the times are not.
@@ -108,10 +110,18 @@ fn answers_are_right(sign: &Sign) -> usize {
     assert!(first.more && first.end <= PAYLOAD, "a part is within its limit, and promises more");
     assert_eq!(out[..4], [0x15, 0x36, 0x01, 0x15], "a report begins with its blocks");
     let mut reply = [0; MESSAGE];
-    assert_eq!(sign.call(&READ, &mut reply), 8 + first.end, "a call answers with the part in an envelope");
+    assert_eq!(
+        sign.call(&READ, &mut reply),
+        8 + first.end,
+        "a call answers with the part in an envelope"
+    );
     assert_eq!(reply[8..8 + first.end], out[..first.end], "and with nothing else");
     let second = sign.part(first.path, first.index, &mut out);
-    assert_eq!(sign.two_calls(&READ, &SUCCESS, &mut reply), 8 + second.end, "a success gets the next part");
+    assert_eq!(
+        sign.two_calls(&READ, &SUCCESS, &mut reply),
+        8 + second.end,
+        "a success gets the next part"
+    );
     assert_eq!(reply[8..8 + second.end], out[..second.end]);
     sign.read(&mut out)
 }
@@ -133,7 +143,16 @@ fn main() {
     assert_eq!(refused.call(&READ, &mut [0; MESSAGE]), 0, "a broken schema gets no reply");
     println!(
         "{:26} {:>9} {:>9} {:>9} {:>9} {:>9} {:>7} {:>7} {:>6} {:>9}",
-        "", "test ns", "part ns", "first ns", "next ns", "refused", "t/part", "t/call", "parts", "read ns"
+        "",
+        "test ns",
+        "part ns",
+        "first ns",
+        "next ns",
+        "refused",
+        "t/part",
+        "t/call",
+        "parts",
+        "read ns"
     );
     for (name, sign) in &signs {
         let parts = answers_are_right(sign);

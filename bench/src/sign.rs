@@ -169,7 +169,8 @@ impl Sign {
                 let start = self.schema[LOW + i] as usize;
                 let len = self.schema[HIGH + i] as usize;
                 let place = TEXT_SIZE * self.schema[FIRST + i] as usize;
-                self.edits.get_mut()[place..place + len].copy_from_slice(&self.defaults[start..start + len]);
+                self.edits.get_mut()[place..place + len]
+                    .copy_from_slice(&self.defaults[start..start + len]);
                 self.edited[i] = true;
             }
         }
