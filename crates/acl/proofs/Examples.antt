@@ -7,6 +7,7 @@ use lib.ListN.{take, replicate}
 use Rattle.schema.specs.Rows.{rowsFrom}
 use Rattle.acl.specs.declared.Entry.{Entry}
 use Rattle.acl.specs.Access.{coversPlace, coversE, granted, givenBy, levelOf, grantsOf, privilegeOk, privilegesOk, tableOk}
+use Rattle.acl.specs.Table.{tableRight, searched}
 
 manage7 : Entry
 manage7 =
@@ -58,3 +59,17 @@ list-ok = refl
 too-long : tableOk (replicate 17 manage7) ≡ false
 unfolding manage7 tableOk privilegesOk privilegeOk
 too-long = refl
+
+-- of the list's first entry alone subject 8 has nothing, of both it views
+of-one : take 2 (searched 1 list 8 words .grants .level) ≡ 0 ∷ (0 ∷ [])
+unfolding manage7 view1 list words grantsOf levelOf givenBy coversPlace rowsFrom
+of-one = refl
+
+of-two : take 2 (searched 2 list 8 words .grants .level) ≡ 1 ∷ (1 ∷ [])
+unfolding manage7 view1 list words grantsOf levelOf givenBy coversPlace rowsFrom
+of-two = refl
+
+-- a count above the limit, of a table that has no more than the limit
+counted-17 : tableRight 17 (replicate 16 manage7) ≡ false
+unfolding tableRight
+counted-17 = refl

@@ -1,20 +1,18 @@
--- The grants: filled row by row, and what they say at a cluster.
+-- The grants: one level for each row in use, and what they say at a cluster.
 use mathlib.Core.Path.{_≡_, refl, sym, ap, _∙_}
 use mathlib.Core.Logic.{_↔_}
 use mathlib.Core.Bool.{true, false, and-false}
-use mathlib.Core.List.{List, [], _∷_, _++_}
+use mathlib.Core.List.{List, _++_}
 use Prim.Native.Nat.{ℕ, zero, suc, _+_, _-_, _≤_, _<_}
-use native.Mathlib.Numerals.{add-one}
 use native.Mathlib.Omega.{arith}
 use borrow.Author.Tests.{lt-ltb, lt-leb}
 use lib.Dec.{ltb}
-use lib.ListN.{length, getD, set, replicate, List·getD-append}
-use lib.Seq.{set-at, append-snoc, getD-append-add}
+use lib.ListN.{length, getD, replicate}
+use lib.Seq.{getD-append-add}
 use Rattle.schema.specs.Layout.{clusterLimit}
 use Rattle.schema.specs.Rows.{ClusterRow, clusterRow, clusterCount, rowsFrom, filled}
-use Rattle.schema.proofs.RowLaws.{rows-length, rows-map, fill-step, filled-at}
+use Rattle.schema.proofs.RowLaws.{rows-length, rows-map, filled-at}
 use Rattle.acl.specs.declared.Entry.{Entry}
-use Rattle.acl.specs.declared.Grants.{Grants}
 use Rattle.acl.specs.Access.{view, granted, SomeCovers, levelOf, grantsOf, isGranted}
 use Rattle.acl.proofs.AccessLaws.{level-granted, granted-exactly}
 
@@ -32,18 +30,7 @@ module _ (es : List Entry) (s : ℕ) (w : List ℕ) where
   grants-filled =
       ap (λ (l : List ℕ). l ++ replicate (clusterLimit - clusterCount w) 0) (rows-map (clusterRow w) (λ (r : ClusterRow). levelOf es s (r .endpoint) (r .cluster)) (clusterCount w) 0)
 
-  -- one turn of the loop, and its end
-  pub grants-step : (l : List ℕ) (i v n c : ℕ) → i < clusterCount w → l ≡ filled 0 levelAt clusterLimit i → n ≡ clusterRow w i .endpoint → c ≡ clusterRow w i .cluster → v ≡ levelOf es s n c → set l i v ≡ filled 0 levelAt clusterLimit (i + 1)
-  grants-step l i v n c h p q r k =
-      let u : v ≡ levelAt i = k ∙ ap (λ (x : ℕ). levelOf es s x c) q ∙ ap (levelOf es s (clusterRow w i .endpoint)) r in
-      ap (λ (x : List ℕ). set x i v) p ∙ ap (set (filled 0 levelAt clusterLimit i) i) u ∙ fill-step 0 levelAt clusterLimit i (omega arith)
-
-  pub grants-done : (l : List ℕ) (i : ℕ) → i ≡ clusterCount w → l ≡ filled 0 levelAt clusterLimit i → _≡_ {A = Grants} (record { level = l }) (grantsOf es s w)
-  grants-done l i q p =
-      let u : l ≡ grantsOf es s w .level = p ∙ ap (filled 0 levelAt clusterLimit) q ∙ sym grants-filled in
-      λ k. record { level = u k }
-
-  level-in : (i : ℕ) → i < clusterCount w → getD (grantsOf es s w .level) i 0 ≡ levelAt i
+  pub level-in : (i : ℕ) → i < clusterCount w → getD (grantsOf es s w .level) i 0 ≡ levelAt i
   level-in i h = ap (λ (l : List ℕ). getD l i 0) grants-filled ∙ filled-at 0 levelAt clusterLimit (clusterCount w) i 0 h
 
   -- the grants at a cluster of the schema are what the list grants at its endpoint and id

@@ -1,7 +1,7 @@
 pub mod EntryLaws
-pub mod WalkLaws
-pub mod TableLaws
 pub mod AccessLaws
 pub mod RuleLaws
 pub mod GrantLaws
+pub mod SearchLaws
+pub mod AccessWalk
 pub mod Examples

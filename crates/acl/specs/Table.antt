@@ -1,16 +1,34 @@
--- The access list as a table by value.
+-- The access list as a table of which the first n entries are in use: what a search of it answers, and one step of that search.
+use Prim.Native.Nat.{ℕ, max}
 use mathlib.Core.Bool.{Bool, _&&_}
-use mathlib.Core.List.{List}
+use mathlib.Core.List.{List, _++_}
 use lib.Dec.{leb}
-use lib.ListN.{take}
-use Rattle.acl.specs.Access.{entryLimit, tableOk}
+use lib.ListN.{getD, take, drop, replicate}
+use Rattle.schema.specs.Layout.{clusterLimit}
+use Rattle.schema.specs.Rows.{clusterRow, clusterCount, rowsFrom}
+use Rattle.acl.specs.Access.{entryLimit, privilegeOk, givenBy, grantsOf, tableOk}
 use Rattle.acl.specs.declared.Entry.{Entry}
-use Rattle.acl.specs.declared.table.Table.{Table}
+use Rattle.acl.specs.declared.Grants.{Grants}
+use Rattle.acl.specs.declared.table.Access.{Access}
 
--- the entries in use
-abbrev pub entriesOf : Table → List Entry
-entriesOf t = take (t .count) (t .entries)
+-- a count above the limit breaks the rules, whatever the table holds; else the entries in use are judged
+unfoldable pub tableRight : ℕ → List Entry → Bool
+tableRight n es = leb n entryLimit && tableOk (take n es)
 
--- a count above the limit breaks the rules; else the entries in use are judged
-unfoldable pub tableRight : Table → Bool
-tableRight t = leb (t .count) entryLimit && tableOk (entriesOf t)
+-- what a search answers for a subject
+abbrev pub searched : ℕ → List Entry → ℕ → List ℕ → Access
+searched n es s w = record { right = tableRight n es; grants = grantsOf (take n es) s w }
+
+-- before any entry is looked at
+abbrev pub beginning : ℕ → Access
+beginning n = record { right = leb n entryLimit; grants = record { level = replicate clusterLimit 0 } }
+
+-- one entry more: at each of the schema's clusters the higher of what was granted and what it gives there
+abbrev pub levelWith : Grants → Entry → ℕ → List ℕ → ℕ → ℕ
+levelWith g e s w i = max (givenBy e s (clusterRow w i .endpoint) (clusterRow w i .cluster)) (getD (g .level) i 0)
+
+abbrev pub grantsWith : Grants → Entry → ℕ → List ℕ → Grants
+grantsWith g e s w = record { level = rowsFrom (levelWith g e s w) (clusterCount w) 0 ++ drop (clusterCount w) (g .level) }
+
+abbrev pub withEntry : Access → Entry → ℕ → List ℕ → Access
+withEntry a e s w = record { right = privilegeOk (e .privilege) && a .right; grants = grantsWith (a .grants) e s w }

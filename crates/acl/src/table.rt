@@ -1,72 +1,88 @@
-// The access list as a table by value. Nothing else depends on this form.
+// The access list: a lent table of entries, searched from its end. What is done with one entry stands in covered functions.
 ghost use mathlib.Core.Path.{_≡_};
 ghost use Prim.Native.Nat.{min};
-ghost use Rattle.acl.specs.Access.{entryLimit, levelOf, grantsOf};
-ghost use Rattle.acl.specs.Table.{entriesOf, tableRight};
+ghost use Rattle.acl.specs.Table.{beginning, grantsWith, withEntry, searched};
 use super::ENTRIES;
 use super::Entry;
 use super::Grants;
+use super::privilege_ok;
+use super::raised;
 use schema::CLUSTERS;
 use schema::WORDS;
 
-// The first `count` of the entries are in use.
-pub struct Table {
-    pub entries: [Entry; ENTRIES],
-    pub count: usize,
+// What a table says for a subject: whether it keeps the rules, refusal 2 where it does not, and what it grants.
+pub struct Access {
+    pub right: bool,
+    pub grants: Grants,
 }
 
-// How many entries are looked at. A count above the limit counts as the limit, so that every function is safe for any table; `table_ok` refuses it.
-fn used(count: usize) -> usize
-    ensures { λ r. ⌜ r ≡ min count entryLimit ⌝ }
+// How many entries are looked at.
+fn used(count: usize, len: usize) -> usize
+    ensures { λ r. ⌜ r ≡ min count len ⌝ }
 {
-    if count < ENTRIES { count } else { ENTRIES }
+    if count < len { count } else { len }
 }
 
-// Whether the table keeps the rules: refusal 2 where it does not.
-pub fn table_ok(t: Table) -> bool
-    ensures { λ r. ⌜ r ≡ tableRight t ⌝ }
+// Nothing looked at yet: the rule on the number of entries, and no grant.
+fn begin(count: usize) -> Access
+    ensures { λ r. ⌜ r ≡ beginning count ⌝ }
 {
-    let n = t.count;
-    if ENTRIES < n {
-        return false;
-    }
-    let mut i = 0;
-    while i < n {
-        let e = t.entries[i];
-        if !super::privilege_ok(e.privilege) {
-            return false;
-        }
-        i += 1;
-    }
-    true
+    let right = count <= ENTRIES;
+    let level = [0u8; CLUSTERS];
+    let grants = Grants { level };
+    Access { right, grants }
 }
 
-// The highest privilege that the table grants at a place, 0 for none. The table is walked from its end.
-pub fn level_at(t: Table, subject: u64, endpoint: u64, cluster: u64) -> u8
-    ensures { λ r. ⌜ r ≡ levelOf (entriesOf t) subject endpoint cluster ⌝ }
-{
-    let mut level: u8 = 0;
-    let mut i = used(t.count);
-    while 0 < i {
-        i -= 1;
-        let e = t.entries[i];
-        level = super::raised(level, e, subject, endpoint, cluster);
-    }
-    level
-}
-
-// What the table grants to the subject at each of the schema's clusters.
-pub fn grants(t: Table, subject: u64, w: &[u64; WORDS]) -> Grants
-    ensures { λ r. ⌜ r ≡ grantsOf (entriesOf t) subject (now (w .entry)) ⌝ }
+// What one entry grants, added at each of the schema's clusters.
+fn granted_by(g: Grants, e: Entry, subject: u64, w: &[u64; WORDS]) -> Grants
+    ensures { λ r. ⌜ r ≡ grantsWith g e subject (now (w .entry)) ⌝ }
 {
     let n = schema::cluster_count(w);
-    let mut level = [0u8; CLUSTERS];
+    let mut level = g.level;
     let mut i = 0;
     while i < n {
         let endpoint = schema::cluster_endpoint(w, i);
         let cluster = schema::cluster_id(w, i);
-        level[i] = level_at(t, subject, endpoint, cluster);
+        level[i] = raised(level[i], e, subject, endpoint, cluster);
         i += 1;
     }
     Grants { level }
+}
+
+// One step of the search: this entry beside those already looked at.
+fn with_entry(a: Access, e: Entry, subject: u64, w: &[u64; WORDS]) -> Access
+    ensures { λ r. ⌜ r ≡ withEntry a e subject (now (w .entry)) ⌝ }
+{
+    let had = a.grants;
+    let grants = granted_by(had, e, subject, w);
+    if !privilege_ok(e.privilege) {
+        return Access {
+            right: false,
+            grants,
+        };
+    }
+    Access {
+        right: a.right,
+        grants,
+    }
+}
+
+// The search: the first `count` entries of the table, or all where it has fewer.
+pub fn search(table: &[Entry], count: usize, subject: u64, w: &[u64; WORDS]) -> Access
+    ensures { λ r. ⌜ r ≡ searched count (now (table .entry)) subject (now (w .entry)) ⌝ }
+{
+    let mut access = begin(count);
+    let mut i = used(count, table.len());
+    while 0 < i {
+        i = i - 1;
+        access = with_entry(access, table[i], subject, w);
+    }
+    access
+}
+
+// For whoever has the table by value: it is lent here, so that nobody above needs to.
+pub fn search_in(entries: [Entry; ENTRIES], count: usize, subject: u64, w: &[u64; WORDS]) -> Access
+    ensures { λ r. ⌜ r ≡ searched count entries subject (now (w .entry)) ⌝ }
+{
+    search(&entries, count, subject, w)
 }

@@ -2,11 +2,11 @@
 ghost use mathlib.Core.Path.{_≡_};
 ghost use mathlib.Core.Bool.{true, _&&_};
 ghost use Prim.Native.Nat.{ℕ, _≤_, _<_, _^_};
-ghost use lib.ListN.{length};
+ghost use lib.ListN.{length, take};
 ghost use Rattle.exchange.specs.declared.Step.the-variants as steps;
 ghost use Rattle.exchange.specs.Rules.{maxTurn};
 ghost use Rattle.acl.specs.Access.{grantsOf};
-ghost use Rattle.acl.specs.Table.{entriesOf, tableRight};
+ghost use Rattle.acl.specs.Table.{tableRight};
 ghost use Rattle.replies.specs.Messages.{maxMessage};
 ghost use Rattle.server.specs.State.{signRight};
 ghost use Rattle.server.specs.Receive.{closing, stepOf, begun, reacted, inEnvelope, received, outcomeWith, Reacted};
@@ -18,10 +18,10 @@ use super::SILENT;
 use super::SMALL_BUFFER;
 use super::State;
 use super::sign_ok;
+use acl::ENTRIES;
+use acl::Entry;
 use acl::Grants;
-use acl::table::Table;
-use acl::table::grants;
-use acl::table::table_ok;
+use acl::table::search_in;
 use envelope::Envelope;
 use envelope::Fields;
 use envelope::envelope_of;
@@ -221,20 +221,32 @@ pub fn serve<'a>(
     react(w, defaults, edits, state, g, e, payload, step, out)
 }
 
-// A message from a subject: any bytes, any buffer, any state.
-pub fn receive<'a>(
+// A message from a subject: any bytes, any buffer, any state. For whoever has the access table by value: the first `count` of the entries are in use, and a count above 16
+// breaks the rules.
+pub fn receive_in<'a>(
     w: &'a [u64; WORDS],
     defaults: &'a [u8],
     edits: &mut [u8],
     state: State,
-    table: Table,
+    entries: [Entry; ENTRIES],
+    count: usize,
     subject: u64,
     message: &'a [u8],
     out: &mut [u8],
 ) -> Outcome
-    ensures { λ r. ⌜ Reacted (received (now (w .entry)) (now (defaults .entry)) (now (edits .entry)) state (tableRight table) (grantsOf (entriesOf table) subject (now (w .entry))) subject (now (message .entry)) (length (now (out .entry)))) r (now (edits .exit)) (now (out .entry)) (now (out .exit)) ⌝ }
+    ensures { λ r. ⌜ Reacted (received (now (w .entry)) (now (defaults .entry)) (now (edits .entry)) state (tableRight count entries) (grantsOf (take count entries) subject (now (w .entry))) subject (now (message .entry)) (length (now (out .entry)))) r (now (edits .exit)) (now (out .entry)) (now (out .exit)) ⌝ }
 {
-    let right = table_ok(table);
-    let g = grants(table, subject, w);
-    serve(w, defaults, edits, state, right, g, subject, message, out)
+    let access = search_in(entries, count, subject, w);
+    let grants = access.grants;
+    serve(
+        w,
+        defaults,
+        edits,
+        state,
+        access.right,
+        grants,
+        subject,
+        message,
+        out,
+    )
 }

@@ -5,8 +5,6 @@ use Prim.Native.Nat.{ℕ, _+_, _*_, _-_, _^_}
 use lib.ListN.{length, replicate}
 use Rattle.schema.specs.Layout.{clusterLimit, attributeLimit, half}
 use Rattle.acl.specs.declared.Entry.{Entry}
-use Rattle.acl.specs.declared.table.Table.{Table}
-use Rattle.acl.specs.Access.{entryLimit}
 use Rattle.values.specs.Fresh.{freshValues}
 use Rattle.server.specs.declared.State.{State}
 use Rattle.server.specs.Start.{freshRow}
@@ -61,8 +59,8 @@ operator =
       cluster = 0;
     }
 
-unfoldable pub access : Table
-access = record { entries = replicate entryLimit operator; count = 1 }
+unfoldable pub access : List Entry
+access = operator ∷ []
 
 unfoldable pub fresh : State
 fresh = record { values = freshValues words; row = freshRow }

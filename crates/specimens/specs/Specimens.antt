@@ -7,8 +7,7 @@ use lib.IntN.{negsuc}
 use lib.ListN.{getD, replicate}
 use Rattle.tlv.specs.declared.Value.{Value}
 use Rattle.tlv.specs.declared.Value.the-variants.{Signed, Float, Text}
-use Rattle.acl.specs.Access.{grantsOf}
-use Rattle.acl.specs.Table.{entriesOf, tableRight}
+use Rattle.acl.specs.Access.{grantsOf, tableOk}
 use Rattle.server.specs.declared.State.{State}
 use Rattle.server.specs.State.{signRight}
 use Rattle.server.specs.Receive.{Reaction, received}
@@ -18,7 +17,7 @@ use Rattle.specimens.specs.Messages.{request1, reply1, block2, payload3,
 
 -- a sign given a message by subject 1, with a buffer of full size
 abbrev pub given : List ℕ → State → List ℕ → Reaction
-given page s m = received words defaults page s (tableRight access) (grantsOf (entriesOf access) 1 words) 1 m 1032
+given page s m = received words defaults page s (tableOk access) (grantsOf access 1 words) 1 m 1032
 
 -- the fresh sign given a message
 abbrev pub after : List ℕ → Reaction
@@ -87,7 +86,7 @@ pub record All : Type 0 where
   -- the sign is one that `start` makes, its state keeps the rules, and so does its access table
   pub made : started words defaults ≡ record { number = 0; state = fresh }
   pub right : signRight words defaults edits fresh ≡ true
-  pub table : tableRight access ≡ true
+  pub table : tableOk access ≡ true
   -- the frames are those of S1
   pub framed : reading (asked 6 (id 0)) [] ≡ request1
   pub reported : report (block (version 5) 6 (id 0) true-data) ≡ reply1
