@@ -5,7 +5,7 @@ ghost use Prim.Native.Nat.{ℕ, _≤_, _<_, _^_};
 ghost use lib.ListN.{length, take};
 ghost use Rattle.exchange.specs.declared.Step.the-variants as steps;
 ghost use Rattle.exchange.specs.Rules.{maxTurn};
-ghost use Rattle.acl.specs.Access.{grantsOf};
+ghost use Rattle.acl.specs.Access.{grantsOf, tableOk};
 ghost use Rattle.acl.specs.Table.{tableRight};
 ghost use Rattle.replies.specs.Messages.{maxMessage};
 ghost use Rattle.server.specs.State.{signRight};
@@ -21,6 +21,7 @@ use super::sign_ok;
 use acl::ENTRIES;
 use acl::Entry;
 use acl::Grants;
+use acl::table::search;
 use acl::table::search_in;
 use envelope::Envelope;
 use envelope::Fields;
@@ -221,8 +222,34 @@ pub fn serve<'a>(
     react(w, defaults, edits, state, g, e, payload, step, out)
 }
 
-// A message from a subject: any bytes, any buffer, any state. For whoever has the access table by value: the first `count` of the entries are in use, and a count above 16
-// breaks the rules.
+// A message from a subject: any bytes, any buffer, any state, any access table.
+pub fn receive<'a>(
+    w: &'a [u64; WORDS],
+    defaults: &'a [u8],
+    edits: &mut [u8],
+    state: State,
+    table: &[Entry],
+    subject: u64,
+    message: &'a [u8],
+    out: &mut [u8],
+) -> Outcome
+    ensures { λ r. ⌜ Reacted (received (now (w .entry)) (now (defaults .entry)) (now (edits .entry)) state (tableOk (now (table .entry))) (grantsOf (now (table .entry)) subject (now (w .entry))) subject (now (message .entry)) (length (now (out .entry)))) r (now (edits .exit)) (now (out .entry)) (now (out .exit)) ⌝ }
+{
+    let access = search(table, table.len(), subject, w);
+    serve(
+        w,
+        defaults,
+        edits,
+        state,
+        access.right,
+        access.grants,
+        subject,
+        message,
+        out,
+    )
+}
+
+// The same for whoever has the access table by value: the first `count` of the entries are in use, and a count above 16 breaks the rules.
 pub fn receive_in<'a>(
     w: &'a [u64; WORDS],
     defaults: &'a [u8],
