@@ -2,22 +2,22 @@
 use mathlib.Core.Path.{_≡_, ap, subst}
 use mathlib.Core.List.{List}
 use Prim.Native.Nat.{ℕ}
-use lib.ListN.{length}
-use Rattle.acl.specs.declared.table.Table.{Table}
+use lib.ListN.{length, take}
+use Rattle.acl.specs.declared.Entry.{Entry}
 use Rattle.acl.specs.Access.{grantsOf}
-use Rattle.acl.specs.Table.{entriesOf, tableRight}
+use Rattle.acl.specs.Table.{tableRight}
 use Rattle.server.specs.declared.State.{State}
 use Rattle.server.specs.declared.Outcome.{Outcome}
 use Rattle.server.specs.Receive.{Reaction, received, Reacted}
-use Rattle.measured.specs.Sign.{openTable, called, calledAfter}
+use Rattle.measured.specs.Sign.{openEntries, called, calledAfter}
 
-module _ (w defaults : List ℕ) (subject : ℕ) {t : Table} (is-open : t ≡ openTable) where
+module _ (w defaults : List ℕ) (subject : ℕ) {t : List Entry} (is-open : t ≡ openEntries) where
   abbrev with : List ℕ → State → List ℕ → ℕ → Reaction
-  with edits s m room = received w defaults edits s (tableRight t) (grantsOf (entriesOf t) subject w) subject m room
+  with edits s m room = received w defaults edits s (tableRight 1 t) (grantsOf (take 1 t) subject w) subject m room
 
   same : (edits : List ℕ) (s : State) (m : List ℕ) (room : ℕ) → with edits s m room ≡ called w defaults edits s subject m room
   unfolding called
-  same edits s m room = ap (λ (u : Table). received w defaults edits s (tableRight u) (grantsOf (entriesOf u) subject w) subject m room) is-open
+  same edits s m room = ap (λ (u : List Entry). received w defaults edits s (tableRight 1 u) (grantsOf (take 1 u) subject w) subject m room) is-open
 
   pub one-call : (edits : List ℕ) {s k : State} (m : List ℕ) (room : ℕ) {r : Outcome} {page old new : List ℕ} → s ≡ k → Reacted (with edits s m room) r page old new → Reacted (called w defaults edits k subject m room) r page old new
   one-call edits {s} {k} m room {r} {page} {old} {new} e h =

@@ -2,16 +2,15 @@
 use mathlib.Core.Bool.{Bool, true, _&&_}
 use mathlib.Core.List.{List, [], _∷_}
 use Prim.Native.Nat.{ℕ}
-use lib.ListN.{replicate}
+use lib.ListN.{take, replicate}
 use Rattle.schema.specs.Layout.{clusterLimit}
 use Rattle.schema.specs.Check.{wellFormed}
 use Rattle.node.specs.Check.{numbersRight}
 use Rattle.interaction.specs.Read.{maxPaths, maxFilters, unwanted}
 use Rattle.acl.specs.declared.Grants.{Grants}
 use Rattle.acl.specs.declared.Entry.{Entry}
-use Rattle.acl.specs.declared.table.Table.{Table}
 use Rattle.acl.specs.Access.{entryLimit, grantsOf}
-use Rattle.acl.specs.Table.{entriesOf, tableRight}
+use Rattle.acl.specs.Table.{tableRight}
 use Rattle.values.specs.declared.Values.{Values}
 use Rattle.values.specs.Valid.{valuesRight}
 use Rattle.selection.specs.declared.asked.Asked.{Asked}
@@ -42,17 +41,17 @@ abbrev pub openEntry : Entry
 openEntry =
     record { privilege = 4; «any_subject» = true; subject = 0; «any_endpoint» = true; endpoint = 0; «any_cluster» = true; cluster = 0 }
 
-unfoldable pub openTable : Table
-openTable = record { entries = replicate entryLimit openEntry; count = 1 }
+unfoldable pub openEntries : List Entry
+openEntries = replicate entryLimit openEntry
 
 -- a sign that holds these and serves no exchange yet
 unfoldable pub idle : List ℕ → List Bool → List Bool → List ℕ → State
 idle words nulls edited versions = record { values = valuesOf words nulls edited versions; row = freshRow }
 
--- a message given to a sign, by that table
+-- a message given to a sign, with that entry alone in use
 unfoldable pub called : List ℕ → List ℕ → List ℕ → State → ℕ → List ℕ → ℕ → Reaction
 called w defaults edits s subject m room =
-    received w defaults edits s (tableRight openTable) (grantsOf (entriesOf openTable) subject w) subject m room
+    received w defaults edits s (tableRight 1 openEntries) (grantsOf (take 1 openEntries) subject w) subject m room
 
 -- and another to the sign as it was left
 unfoldable pub calledAfter : List ℕ → List ℕ → Reaction → ℕ → List ℕ → ℕ → Reaction

@@ -8,12 +8,11 @@ ghost use Rattle.schema.specs.Check.{wellFormed};
 ghost use Rattle.report.specs.Blocks.{valuesOf, viewOf, blocksFrom};
 ghost use Rattle.report.specs.Chunk.{maxPayload};
 ghost use Rattle.report.specs.Part.{Made};
-ghost use Rattle.measured.specs.Sign.{signRight, everything, allGranted, readAll, openTable, idle, called, calledAfter};
+ghost use Rattle.measured.specs.Sign.{signRight, everything, allGranted, readAll, openEntries, idle, called, calledAfter};
 use acl::ADMINISTER;
 use acl::ENTRIES;
 use acl::Entry;
 use acl::Grants;
-use acl::table::Table;
 use interaction::MAX_FILTERS;
 use interaction::MAX_PATHS;
 use interaction::Wanted;
@@ -26,7 +25,7 @@ use schema::WORDS;
 use schema::check::well_formed;
 use selection::asked::Asked;
 use server::State;
-use server::receive::receive;
+use server::receive::receive_in;
 use server::start::fresh_row;
 use values::Values;
 use values::valid::values_ok;
@@ -136,8 +135,8 @@ pub extern "C" fn sign_part<'a>(
 }
 
 // One access entry: every privilege, for anyone, everywhere.
-fn open_table() -> Table
-    ensures { λ r. ⌜ r ≡ openTable ⌝ }
+fn open_entries() -> [Entry; ENTRIES]
+    ensures { λ r. ⌜ r ≡ openEntries ⌝ }
 {
     let all = Entry {
         privilege: ADMINISTER,
@@ -148,10 +147,7 @@ fn open_table() -> Table
         any_cluster: true,
         cluster: 0,
     };
-    Table {
-        entries: [all; ENTRIES],
-        count: 1,
-    }
+    [all; ENTRIES]
 }
 
 // A sign that holds these and serves no exchange yet.
@@ -190,8 +186,8 @@ pub extern "C" fn sign_call<'a>(
     ensures { λ r. ⌜ r ≡ length (called (now (w .entry)) (now (defaults .entry)) (now (edits .entry)) (idle (now (words .entry)) (now (nulls .entry)) (now (edited .entry)) (now (versions .entry))) subject (now (message .entry)) (length (now (out .entry))) .reply) ⌝ }
 {
     let s = holding(words, nulls, edited, versions);
-    let t = open_table();
-    let o = receive(w, defaults, edits, s, t, subject, message, out);
+    let t = open_entries();
+    let o = receive_in(w, defaults, edits, s, t, 1, subject, message, out);
     o.len
 }
 
@@ -213,9 +209,9 @@ pub extern "C" fn sign_two_calls<'a>(
     ensures { λ r. ⌜ r ≡ length (calledAfter (now (w .entry)) (now (defaults .entry)) (called (now (w .entry)) (now (defaults .entry)) (now (edits .entry)) (idle (now (words .entry)) (now (nulls .entry)) (now (edited .entry)) (now (versions .entry))) subject (now (message .entry)) (length (now (out .entry)))) subject (now (next .entry)) (length (now (out .entry))) .reply) ⌝ }
 {
     let s = holding(words, nulls, edited, versions);
-    let t = open_table();
-    let o = receive(w, defaults, edits, s, t, subject, message, out);
+    let t = open_entries();
+    let o = receive_in(w, defaults, edits, s, t, 1, subject, message, out);
     let left = o.state;
-    let p = receive(w, defaults, edits, left, t, subject, next, out);
+    let p = receive_in(w, defaults, edits, left, t, 1, subject, next, out);
     p.len
 }

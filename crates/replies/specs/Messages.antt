@@ -1,6 +1,7 @@
 -- The messages that a sign sends: an envelope and a payload (document 01, Envelope).
 use mathlib.Core.List.{List, _++_}
 use Prim.Native.Nat.{ℕ, _+_}
+use Rattle.envelope.specs.Envelope as Envelope
 use Rattle.interaction_writer.specs.Envelope.{envelopeOctets}
 use Rattle.interaction_writer.specs.Spelling.{spelling}
 use Rattle.interaction_writer.specs.Message.{messageTree, statusMembers}
@@ -10,12 +11,12 @@ use Rattle.report.specs.Blocks.{Placed}
 use Rattle.report.specs.Part.{partPayload}
 use Rattle.writes.specs.Response.{responsePayload}
 
--- "Eight bytes .. Then a payload of at most 1,024 bytes"
+-- as the envelope has them
 abbrev pub envelopeLength : ℕ
-envelopeLength = 8
+envelopeLength = Envelope.envelopeLength
 
 abbrev pub maxMessage : ℕ
-maxMessage = 1032
+maxMessage = Envelope.maxMessage
 
 -- a refusal of a whole request: "a Status Response at turn 1"
 unfoldable pub statusMessage : ℕ → ℕ → List ℕ
