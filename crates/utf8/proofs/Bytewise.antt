@@ -11,7 +11,7 @@ use lib.ListN.{length, getD, drop, drop-of-length-le}
 use lib.Seq.{drop-cons}
 use Rattle.utf8.specs.WellFormed.{Range, within, table, trailing, completes, wellFormed}
 use Rattle.utf8.specs.Bytewise.{due, trails, begins, second, allowed, judged}
-use Rattle.utf8.proofs.Lines.{and-l, and-r, and-false, and-true, split, inside, low, high, under, over, line, no-line, by-line}
+use Rattle.utf8.proofs.Lines.{and-false, and-true, split, high, under, over, line, no-line, by-line}
 
 pub and-assoc : (x y z : Bool) → (x && (y && z)) ≡ ((x && y) && z)
 and-assoc true y z = refl

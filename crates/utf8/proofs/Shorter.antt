@@ -6,11 +6,11 @@ use Prim.Native.Nat.{ℕ, suc, _+_, _≤_, _<_}
 use native.Mathlib.Numerals.{add-one}
 use native.Mathlib.Omega.{arith}
 use borrow.Author.Tests.{ltb-true, le-leb, lt-leb, lt-ltb, le-ltb, ne-eqb}
-use lib.Dec.{leb, ltb, eqb}
+use lib.Dec.{ltb}
 use lib.ListN.{length, getD, drop, drop-of-length-le}
 use lib.Seq.{drop-cons}
 use Rattle.utf8.specs.WellFormed.{wellFormed}
-use Rattle.utf8.specs.Bytewise.{allBelow, due, trails, begins, second, allowed, judged, allowed3, judged3, allowed2, judged2}
+use Rattle.utf8.specs.Bytewise.{allBelow, due, begins, second, allowed, judged, allowed3, judged3, allowed2, judged2}
 use Rattle.utf8.proofs.Lines.{and-l, and-r, and-true, split}
 use Rattle.utf8.proofs.Below.{raised}
 use Rattle.utf8.proofs.Bytewise.{and-assoc, as-walked}
