@@ -1,4 +1,3 @@
 pub mod StateLaws
 pub mod ReactLaws
 pub mod BeginLaws
-pub mod KeptLaws

@@ -1,4 +1,2 @@
 pub mod AnswerLaws
 pub mod ReceiveLaws
-pub mod KeptLaws
-pub mod NeverLaws

@@ -31,12 +31,12 @@ use Rattle.cached.specs.Set.{placeFor, clusterPlace, entryPlace, countWith, wit
 use Rattle.cached.specs.Valid.{wordRight, entryRight}
 use Rattle.cached.proofs.SetLaws.{others-found, word-found}
 use Rattle.cached.proofs.ValidLaws.{text-length, RightHeld, Whole, entry-right, entry-word}
 use Rattle.cache_part.specs.declared.block.Item.{Item}
 use Rattle.cache_part.specs.declared.entry.Spot.the-variants.{At}
 use Rattle.cache_part.specs.Block.{usableIn}
 use Rattle.cache_part.specs.Entry.{Within, spotOf, kindV, withItem, textStored}
 use Rattle.cache_part.proofs.EntryLaws.{Below, spot-below}
-use Rattle.cache_part.proofs.RightLaws.{ItemRight, Goes, spot-goes, text-stays, text-set}
+use Rattle.cache_laws.proofs.RightLaws.{ItemRight, Goes, spot-goes, text-stays, text-set}
 
 never : {A : Type 0} → _≡_ {A = ℕ} 0 1 → A
 never e = absurd (omega arith)

@@ -31,8 +31,8 @@ use Rattle.cache.specs.declared.State.{State}
 use Rattle.cache.specs.declared.Outcome.{Outcome}
 use Rattle.cache.specs.State.{panelRight}
 use Rattle.cache.specs.Reaction.{Reaction}
-use Rattle.cache.proofs.KeptLaws.{ValidPanel, valid-right}
+use Rattle.cache_laws.proofs.BegunLaws.{ValidPanel, valid-right}
 use Rattle.cache_receive.specs.Receive.{forCache, awaited, endedWith, statusTaken, byStatus, ofWrite, answerTaken, byAnswer, goesOn, pastTurns, partTaken, takesPart, takes, inEnvelope, received}
 
 -- another number than 2
 abbrev Fair : ℕ → Type 0

@@ -23,9 +23,9 @@ use Rattle.exchange.specs.Rules.{statusOpcode, reportOpcode}
 use Rattle.cached.specs.declared.Cached.{Cached}
 use Rattle.cached.specs.Valid.{clustersRight, entriesRight}
 use Rattle.cache_part.specs.Part.{blocksIn, judgedAll, heldAll, pageAll}
-use Rattle.cache_part.proofs.RightLaws.{Good, part-right}
+use Rattle.cache_laws.proofs.RightLaws.{Good, part-right}
 use Rattle.cache_request.specs.Messages.{successMessage}
-use Rattle.cache_request.proofs.BoundLaws.{success-sized}
+use Rattle.cache_laws.proofs.BoundLaws.{success-sized}
 use Rattle.cache.specs.declared.Request.{Request}
 use Rattle.cache.specs.declared.State.{State}
 use Rattle.cache.specs.declared.Outcome.{Outcome}
@@ -33,8 +33,8 @@ use Rattle.cache.specs.State.{lastPart, withStatus, isOpen, panelRight}
 use Rattle.cache.specs.Reaction.{Reaction, refusal, quiet, unsent}
 use Rattle.cache.specs.Begin.{keeping}
 use Rattle.cache.proofs.StateLaws.{RightAsked}
-use Rattle.cache.proofs.KeptLaws.{ValidPanel, Holds, valid-right, keeping-right}
+use Rattle.cache_laws.proofs.BegunLaws.{ValidPanel, Holds, valid-right, keeping-right}
 use Rattle.cache_receive.specs.Receive.{forCache, awaited, endedAs, primedAs, endedWith, statusTaken, byStatus, ofWrite, answerTaken, byAnswer, nextAwaited, goesOn, ends, pastTurns, partTaken, takesPart, takes, inEnvelope, received}
 
 -- a request ended: it is open no more
 ended-right : (x : Request) (stage status : ℕ) → stage ≤ withStatus → isOpen stage ≡ false → RightAsked x → RightAsked (endedAs x stage status)

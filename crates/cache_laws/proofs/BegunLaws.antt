@@ -17,18 +17,18 @@ use Rattle.schema.proofs.BoolLaws.{both, by-test}
 use Rattle.cached.specs.Limits.{maxEntries, maxClusters, pageSize}
 use Rattle.cached.specs.Valid.{clustersRight, entriesRight}
 use Rattle.cached.proofs.ValidLaws as Held
-use Rattle.cache_part.proofs.RightLaws.{Good}
+use Rattle.cache_laws.proofs.RightLaws.{Good}
 use Rattle.cache_request.specs.Filters.{filtersOf}
 use Rattle.cache_request.specs.Messages.{readMessage, writeMessage}
-use Rattle.cache_request.proofs.BoundLaws.{Sized, filters-narrow, filters-few, read-sized, write-sized}
+use Rattle.cache_laws.proofs.BoundLaws.{Sized, filters-narrow, filters-few, read-sized, write-sized}
 use Rattle.envelope.specs.Envelope.{maxMessage}
 use Rattle.cache.specs.declared.Request.{Request}
 use Rattle.cache.specs.declared.State.{State}
 use Rattle.cache.specs.State.{reading, writing, withStatus, isOpen, askedRight, panelRight}
 use Rattle.cache.specs.Reaction.{Reaction, refusal}
 use Rattle.cache.specs.Begin.{fresh, unknownAfter, keeping, nextRequest, askedAs, sent, beginning, beginsRead, sendable, beginsWrite, resends, keptMessage}
 use Rattle.cache.proofs.StateLaws.{RightAsked}
 use Rattle.cache.proofs.BeginLaws.{sendable-fits}
 
 -- a panel that keeps the rules; its arrays have their lengths, as those of the code do
 pub record ValidPanel (page : List ℕ) (s : State) : Type 0 where
