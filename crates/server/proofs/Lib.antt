@@ -7,3 +7,4 @@ pub mod ReceiveLaws
 pub mod ReceivedLaws
 pub mod KeptLaws
 pub mod PromiseLaws
+pub mod TableLaws
