@@ -1,6 +1,7 @@
 // Numbers of a script: decimal ones, and the bits of a float in hex digits.
 ghost use mathlib.Core.Path.{_≡_};
 ghost use Prim.Native.Nat.{_≤_, _<_};
+ghost use Rattle.script.specs.Numbers.{decimalOf, hexDigit};
 use super::Scan;
 use super::failed;
 use super::next_word;
@@ -39,7 +40,9 @@ fn unread(s: Scan) -> Number
 }
 
 // One or more digits, nothing else, up to 64 bits. Zeros may stand in front.
-pub fn decimal(w: &[u8]) -> Digits {
+pub fn decimal(w: &[u8]) -> Digits
+    ensures { λ r. ⌜ r ≡ decimalOf (now (w .entry)) ⌝ }
+{
     if w.len() == 0 {
         return Digits::Unreadable;
     }
@@ -68,7 +71,8 @@ pub fn decimal(w: &[u8]) -> Digits {
 
 // The number of a hex digit in either case, 16 for a byte that is none.
 pub fn hex_digit(c: u8) -> u8
-    ensures { λ r. ⌜ r ≤ 16 ⌝ }
+    ensures { λ r. ⌜ r ≡ hexDigit c ⌝ }
+    ensures small { λ r. ⌜ r ≤ 16 ⌝ }
 {
     if c < b'0' {
         return 16;
