@@ -1,0 +1,118 @@
+// What a line leaves behind: the ends after it, and the newest messages.
+use super::message::keep;
+use super::panel::Acted;
+use super::player::Played;
+use super::player::Player;
+use super::player::Said;
+use super::player::quietly;
+use super::setup::Given;
+use super::sign::Replied;
+use replies::MAX_MESSAGE;
+use script::Scan;
+use script::is_done;
+use script::number::read_number;
+
+// The last exchange number of 40 bits.
+const LAST_EXCHANGE: u64 = 1_099_511_627_775;
+
+pub fn wrong(player: Player, fault: u8) -> Played {
+    Played {
+        player,
+        said: Said::Wrong(fault),
+    }
+}
+
+// The sign after a line; its reply, if it made one, is its newest.
+pub fn replied(p: Player, r: Replied, out: &[u8; MAX_MESSAGE]) -> Played {
+    if r.fault != 0 {
+        return wrong(p, r.fault);
+    }
+    let o = r.outcome;
+    let sign = o.state;
+    let mut player = p;
+    player.sign = sign;
+    let number = o.number;
+    let len = o.len;
+    if 0 < len {
+        let reply = keep(out, len);
+        player.replied = reply;
+        return Played {
+            player,
+            said: Said::Line { number, len },
+        };
+    }
+    Played {
+        player,
+        said: Said::Line { number, len },
+    }
+}
+
+// The panel after a line; its message, if it made one, is its newest.
+pub fn acted(p: Player, a: Acted, out: &[u8; MAX_MESSAGE]) -> Played {
+    if a.fault != 0 {
+        return wrong(p, a.fault);
+    }
+    let o = a.outcome;
+    let panel = o.state;
+    let mut player = p;
+    player.panel = panel;
+    let number = o.number;
+    let len = o.len;
+    if 0 < len {
+        let message = keep(out, len);
+        player.sent = message;
+        return Played {
+            player,
+            said: Said::Line { number, len },
+        };
+    }
+    Played {
+        player,
+        said: Said::Line { number, len },
+    }
+}
+
+// After an access line.
+pub fn given(p: Player, g: Given) -> Played {
+    let table = g.table;
+    let mut player = p;
+    player.given = table;
+    Played {
+        player,
+        said: quietly(g.ok),
+    }
+}
+
+// `buffer`: the length of the buffer lent from here on.
+pub fn buffer_line(line: &[u8], s: Scan, p: Player) -> Played {
+    let n = read_number(line, s, u64::MAX);
+    let mut player = p;
+    player.room = n.value as usize;
+    Played {
+        player,
+        said: quietly(is_done(n.next)),
+    }
+}
+
+// The panel's exchange numbers up to n count as used; that never lowers them.
+fn used_up(panel: cache::State, n: u64) -> cache::State {
+    let mut asked = panel.asked;
+    if n <= asked.used {
+        return panel;
+    }
+    asked.used = n;
+    let held = panel.held;
+    cache::State { held, asked }
+}
+
+// `used`
+pub fn used_line(line: &[u8], s: Scan, p: Player) -> Played {
+    let n = read_number(line, s, LAST_EXCHANGE);
+    let panel = used_up(p.panel, n.value);
+    let mut player = p;
+    player.panel = panel;
+    Played {
+        player,
+        said: quietly(is_done(n.next)),
+    }
+}
