@@ -1,7 +1,7 @@
 // What a script has made so far, and what a line of it says.
+use super::setup::Table;
 use acl::ENTRIES;
 use acl::Entry;
-use acl::table::Table;
 use replies::MAX_MESSAGE;
 use schema::WORDS;
 

@@ -3,7 +3,6 @@
 ghost use Prim.Native.Nat.{_≤_};
 use acl::ENTRIES;
 use acl::Entry;
-use acl::table::Table;
 use schema::CLUSTER_COUNT_WORD;
 use schema::CLUSTERS;
 use schema::HALF;
@@ -55,6 +54,12 @@ pub fn cluster_line(line: &[u8], s: Scan, setup: &mut [u64; WORDS]) -> bool {
         version.value,
     );
     true
+}
+
+// The access table: the first `count` of the entries are in use.
+pub struct Table {
+    pub entries: [Entry; ENTRIES],
+    pub count: usize,
 }
 
 // A table with one entry more; the seventeenth is counted and not kept, and the sign refuses the table.

@@ -5,8 +5,8 @@ use super::player::NOT_SENT;
 use super::player::PAGE;
 use super::player::SPELLED;
 use super::player::UNREADABLE;
+use super::setup::Table;
 use super::sizes::clip;
-use acl::table::Table;
 use kinds::stored::same_bytes;
 use replies::MAX_MESSAGE;
 use schema::WORDS;
@@ -20,7 +20,7 @@ use script::path::read_path;
 use script::value::read_value;
 use server::Outcome;
 use server::State;
-use server::receive::receive;
+use server::receive::receive_in;
 
 // What the sign answered, or what is wrong with the line.
 pub struct Replied {
@@ -58,12 +58,14 @@ fn hand<'a>(
 ) -> Outcome {
     let size = clip(edits_size(words), edits);
     let n = clip(room, out);
-    receive(
+    let entries = table.entries;
+    receive_in(
         words,
         defaults,
         &mut edits[..size],
         sign,
-        table,
+        entries,
+        table.count,
         subject,
         message,
         &mut out[..n],
