@@ -34,6 +34,15 @@ struct Turn {
     go: bool,
 }
 
+fn going_on(player: Player, number: u64, at: usize) -> Turn {
+    Turn {
+        player,
+        number,
+        at,
+        go: true,
+    }
+}
+
 // One line, its answer printed.
 fn one_line(
     line: &[u8],
@@ -49,12 +58,7 @@ fn one_line(
     out: &mut [u8; MAX_MESSAGE],
 ) -> Turn {
     if script::is_skipped(line) {
-        return Turn {
-            player: p,
-            number,
-            at: 0,
-            go: true,
-        };
+        return going_on(p, number, 0);
     }
     let done = lines::play_line(
         line,
@@ -103,12 +107,7 @@ fn whole_lines(
     while at < s.len() {
         let end = script::find(s, at, b'\n');
         if s.len() <= end {
-            return Turn {
-                player,
-                number: n,
-                at,
-                go: true,
-            };
+            return going_on(player, n, at);
         }
         n = std::num::wrapping_add_u64(n, 1);
         let line = &s[at..end];
@@ -132,12 +131,7 @@ fn whole_lines(
         player = next;
         at = end + 1;
     }
-    Turn {
-        player,
-        number: n,
-        at,
-        go: true,
-    }
+    going_on(player, n, at)
 }
 
 // The whole script. A proved loop has to end, and nothing says that the input does: so its turns are counted down from a number that no run uses up.

@@ -25,6 +25,9 @@ loop-holds c = search needs
 find-requires : tie.Need-find-requires Inv-loop μ-loop
 find-requires c κs = search needs
 
+going-on-requires : tie.Need-going-on-requires Inv-loop μ-loop
+going-on-requires c κs = search needs
+
 returns : tie.Need-returns Inv-loop μ-loop
 returns c = search needs
 
@@ -55,6 +58,9 @@ loop-less c = omega (arith, c .before .before .before .before .before .before .b
 loop-again : tie.Need-loop-again Inv-loop μ-loop
 loop-again c = omega (arith, c .before .before .before .before .before .before .before .before .before .before .before .before .before .before .if1 .left)
 
+going-on-requires-2 : tie.Need-going-on-requires-2 Inv-loop μ-loop
+going-on-requires-2 c κs = search needs
+
 returns-3 : tie.Need-returns-3 Inv-loop μ-loop
 returns-3 c = search needs
 
@@ -68,6 +74,7 @@ whole-lines-spec =
     slice-aggregate-s
     loop-holds
     find-requires
+    going-on-requires
     returns
     wrapping-add-u64-requires
     sub-line
@@ -78,4 +85,5 @@ whole-lines-spec =
     add-at
     loop-less
     loop-again
+    going-on-requires-2
     returns-3)
