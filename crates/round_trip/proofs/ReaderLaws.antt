@@ -35,7 +35,7 @@ use Rattle.round_trip.specs.Meant.{statusOctets, WantedFits, readOctets,
 use Rattle.round_trip.proofs.BackLaws.{status-back, read-back, write-back, report-back, answers-back}
 
 -- what is just something through a map is just something
-through : {A B : Type 0} (β : A → B) (o : Opt A) {b : B} → mapO β o ≡ just b → (a : A) × (o ≡ just a) × (β a ≡ b)
+pub through : {A B : Type 0} (β : A → B) (o : Opt A) {b : B} → mapO β o ≡ just b → (a : A) × (o ≡ just a) × (β a ≡ b)
 through β nothing e = never (cc)
 through β (just a) e = (a, refl, cc)
 

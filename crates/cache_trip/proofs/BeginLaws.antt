@@ -1,0 +1,154 @@
+-- WHAT THE PANEL BEGINS IS READ AS IT WAS MEANT: reads, writes and the successes between the parts of a report.
+use mathlib.Core.Path.{_≡_, refl, sym, ap, _∙_}
+use mathlib.Core.Bool.{Bool}
+use mathlib.Core.List.{List, [], _∷_, _++_}
+use Prim.Native.Nat.{ℕ, zero, suc, _+_, _^_, _≤_, _<_}
+use native.Mathlib.Omega.{arith}
+use lib.ListN.{length, getD, drop, length-append}
+use lib.Seq.{drop-at}
+use Rattle.tlv.specs.Tree.{Tree}
+use Rattle.tlv.specs.Value.{Datum, valueIn, datumIn}
+use Rattle.tlv.specs.Decode.{Opt}
+use Rattle.tlv.specs.Decode.Opt.{just, nothing}
+use Rattle.tlv_writer.specs.Meaning.{Writable}
+use Rattle.members.specs.Array.{mapO}
+use Rattle.schema.specs.declared.Found.{Found}
+use Rattle.schema.specs.declared.Found.the-variants.{At, Nothing}
+use Rattle.interaction.specs.declared.Wanted.{Wanted}
+use Rattle.interaction.specs.Status.{responseIn}
+use Rattle.interaction.specs.Read.{readIn, readRead}
+use Rattle.interaction_write.specs.Write.{writeIn, writeRead, writeTree}
+use Rattle.interaction_writer.specs.Envelope.{envelopeOctets}
+use Rattle.interaction_writer.specs.Spelling.{primitiveD, Each}
+use Rattle.interaction_writer.specs.Meaning.{PathFits}
+use Rattle.interaction_writer.proofs.EnvelopeLaws.{length-envelope}
+use Rattle.interaction_writer.proofs.SpellingLaws.{datum-back}
+use Rattle.round_trip.specs.Meant.{WantedFits, readOctets, readMeans, readAnswer, writeOctets, writeMeans, writeAnswer, statusOctets}
+use Rattle.round_trip.proofs.BackLaws.{status-back, read-back, write-back}
+use Rattle.round_trip.proofs.ReaderLaws.{read-answered, write-answered}
+use Rattle.exchange.specs.Rules.{statusOpcode, readOpcode, writeOpcode}
+use Rattle.envelope.specs.Envelope.{envelopeIn}
+use Rattle.envelope.proofs.BigLaws.{envelope-read}
+use Rattle.cached.specs.declared.Cached.{Cached}
+use Rattle.cached.specs.Coherent.{coherentAt}
+use Rattle.cached.proofs.CoherentLaws.{coherent-exactly}
+use Rattle.cache_request.specs.Filters.{leastBy, wantedIf, filterFor, onwards, filtersFrom, filtersOf}
+use Rattle.cache_request.specs.Messages.{readMessage, writeMessage, successMessage}
+use Rattle.cache_trip.specs.Begun.{Sendable, envelopeAs}
+use Rattle.cache_trip.specs.Taken.{Takable}
+use Rattle.cache_trip.proofs.EachLaws.{each-both}
+use Rattle.cache_trip.proofs.ByteLaws.{write-bytes}
+use Rattle.cache_trip.proofs.PlaceLaws.{place-means}
+
+-- what follows an envelope
+payload : (opcode exchange turn : ℕ) (q : List ℕ) → drop 8 (envelopeOctets opcode exchange turn ++ q) ≡ q
+payload opcode exchange turn q = drop-at (envelopeOctets opcode exchange turn) q 8 (length-envelope opcode exchange turn)
+
+-- THE FILTERS of a panel fit, and are no more than its clusters
+module _ (c : Cached) where
+  module _ (small : (i : ℕ) → getD (c .versions) i 0 < 2 ^ 32) where
+    -- a coherent cluster has the version of one of its entries
+    version-fits : (k v : ℕ) → coherentAt c k ≡ just v → v < 2 ^ 32
+    version-fits k v e =
+        let r = coherent-exactly c k v .0 e in
+        let some = r .1 in
+        let same : getD (c .versions) (some .0) 0 ≡ v = r .2 (some .0) (some .1) (some .2) (some .3) in
+        omega (arith, same, small (some .0))
+
+    one-fits : (k word : ℕ) → Each WantedFits (filterFor c k word)
+    unfolding filterFor Each
+    one-fits k word = go (coherentAt c k) refl
+      where
+        go : (o : Opt ℕ) → coherentAt c k ≡ o → Each WantedFits (wantedIf word o)
+        go nothing e = tt
+        go (just v) e =
+            (record { endpoint-fits = omega arith; cluster-fits = omega arith; version-fits = version-fits k v e }, tt)
+
+    from-fit : (m bound : ℕ) → Each WantedFits (filtersFrom c m bound)
+    unfolding filtersFrom Each
+    from-fit zero bound = tt
+    from-fit (suc m) bound = go (leastBy (c .clusters) bound (c .«cluster_count»)) (from-fit m)
+      where
+        go : (r : Found) → ((b : ℕ) → Each WantedFits (filtersFrom c m b)) → Each WantedFits (onwards c (λ b. filtersFrom c m b) r)
+        go Nothing rest = tt
+        go (At k) rest =
+            each-both WantedFits (filterFor c k (getD (c .clusters) k 0)) (filtersFrom c m (getD (c .clusters) k 0 + 1)) (one-fits k (getD (c .clusters) k 0)) (rest (getD (c .clusters) k 0 + 1))
+
+    pub filters-fit : Each WantedFits (filtersOf c)
+    unfolding filtersOf
+    filters-fit = from-fit (c .«cluster_count») 0
+
+  one-few : (k word : ℕ) → length (filterFor c k word) ≤ 1
+  unfolding filterFor
+  one-few k word = go (coherentAt c k)
+    where
+      go : (o : Opt ℕ) → length (wantedIf word o) ≤ 1
+      go nothing = omega arith
+      go (just v) = omega arith
+
+  from-few : (m bound : ℕ) → length (filtersFrom c m bound) ≤ m
+  unfolding filtersFrom
+  from-few zero bound = omega arith
+  from-few (suc m) bound = go (leastBy (c .clusters) bound (c .«cluster_count»)) (from-few m)
+    where
+      go : (r : Found) → ((b : ℕ) → length (filtersFrom c m b) ≤ m) → length (onwards c (λ b. filtersFrom c m b) r) ≤ suc m
+      go Nothing rest = omega arith
+      go (At k) rest =
+          omega (arith, length-append (filterFor c k (getD (c .clusters) k 0)) (filtersFrom c m (getD (c .clusters) k 0 + 1)), one-few k (getD (c .clusters) k 0), rest (getD (c .clusters) k 0 + 1))
+
+  pub filters-few : length (filtersOf c) ≤ c .«cluster_count»
+  unfolding filtersOf
+  filters-few = from-few (c .«cluster_count») 0
+
+  -- A READ
+  module _ (s : Sendable c) (exchange : ℕ) where
+    read-payload : drop 8 (readMessage exchange (filtersOf c)) ≡ readOctets (filtersOf c)
+    unfolding readMessage
+    read-payload = payload readOpcode exchange 0 (readOctets (filtersOf c))
+
+    pub read-meant : readIn (drop 8 (readMessage exchange (filtersOf c))) ≡ just (readMeans (filtersOf c))
+    read-meant = ap readIn read-payload ∙ read-back (filtersOf c) (filters-fit (s .versions))
+
+    -- with no ground to refuse it
+    pub read-taken : readRead (readIn (drop 8 (readMessage exchange (filtersOf c)))) ≡ readAnswer (filtersOf c)
+    read-taken = ap (λ (q : List ℕ). readRead (readIn q)) read-payload ∙ read-answered (filtersOf c) (filters-fit (s .versions)) (omega (arith, filters-few, s .clusters))
+
+pub read-envelope : (exchange : ℕ) (fs : List Wanted) → exchange < 2 ^ 40 → envelopeIn (readMessage exchange fs) ≡ envelopeAs readOpcode exchange 0
+unfolding readMessage
+read-envelope exchange fs h = envelope-read readOpcode exchange 0 (omega arith) h (omega arith) (readOctets fs)
+
+-- A WRITE
+module _ (exchange : ℕ) (given : Bool) (version e c a : ℕ) (d : Datum) where
+  abbrev m : List ℕ
+  m = writeMessage exchange given version e c a d
+
+  pub write-envelope : exchange < 2 ^ 40 → envelopeIn m ≡ envelopeAs writeOpcode exchange 0
+  unfolding writeMessage
+  write-envelope h = envelope-read writeOpcode exchange 0 (omega arith) h (omega arith) (writeOctets given version e c a d)
+
+  write-payload : drop 8 m ≡ writeOctets given version e c a d
+  unfolding writeMessage
+  write-payload = payload writeOpcode exchange 0 (writeOctets given version e c a d)
+
+  module _ (fv : version < 2 ^ 32) (p : PathFits e c a) (w : Writable (primitiveD d)) where
+    pub write-meant : mapO (writeTree 7 (drop 8 m)) (writeIn (drop 8 m)) ≡ just (writeMeans given version e c a d)
+    write-meant = rw write-payload (write-back given version e c a d fv p w)
+
+    -- one entry, of the path and version meant, and at its place the value meant
+    pub write-taken : Takable d → (n : ℕ) × (writeRead (writeIn (drop 8 m)) ≡ writeAnswer given version e c a n) × (datumIn (drop 8 m) (valueIn (drop 8 m) n) ≡ d)
+    write-taken h =
+        let (n, answer, tree) = write-answered given version e c a d fv p w in (
+          n,
+          rw write-payload answer,
+          rw write-payload (place-means 7 (writeOctets given version e c a d) (write-bytes given version e c a d h fv p w) n tree ∙ datum-back d),
+        )
+
+-- A SUCCESS
+module _ (exchange turn : ℕ) where
+  pub success-meant : responseIn (drop 8 (successMessage exchange turn)) ≡ just 0
+  unfolding successMessage
+  success-meant = ap responseIn (payload statusOpcode exchange turn (statusOctets 0)) ∙ status-back 0 (omega arith)
+
+  pub success-envelope : exchange < 2 ^ 40 → turn < 2 ^ 16 → envelopeIn (successMessage exchange turn) ≡ envelopeAs statusOpcode exchange turn
+  unfolding successMessage
+  success-envelope h t = envelope-read statusOpcode exchange turn (omega arith) h t (statusOctets 0)

@@ -1,0 +1,84 @@
+-- A request that a panel begins is read as it was meant, whatever the panel holds that keeps the rules.
+use mathlib.Core.Path.{_≡_, refl, sym}
+use mathlib.Core.Bool.{Bool, true, false, not}
+use mathlib.Core.List.{List}
+use Prim.Native.Nat.{ℕ, _+_, _-_, _^_, _≤_, _<_}
+use native.Mathlib.Omega.{arith}
+use borrow.Author.Tests.{ltb-true, ltb-false}
+use lib.Dec.{ltb, leb}
+use lib.ListN.{length, getD, take, drop, length-take}
+use Rattle.tlv.specs.declared.Value.{Value}
+use Rattle.tlv.specs.declared.Value.the-variants as value
+use Rattle.tlv.specs.Octet.{pick}
+use Rattle.tlv.specs.Value.{Datum, datumIn}
+use Rattle.tlv.proofs.Picks.{pick-elim}
+use Rattle.tlv_writer.specs.Meaning.{Writable}
+use Rattle.blocks.proofs.BlockLaws.{never}
+use Rattle.schema.proofs.BoolLaws.{left, right}
+use Rattle.interaction_writer.specs.Spelling.{primitiveD}
+use Rattle.interaction_writer.specs.Meaning.{PathFits}
+use Rattle.envelope.specs.Envelope.{maxMessage}
+use Rattle.cached.specs.declared.Cached.{Cached}
+use Rattle.cached.specs.Limits.{textSize}
+use Rattle.cached.specs.Valid.{heldRight}
+use Rattle.cached.proofs.ValidLaws.{held-right}
+use Rattle.cache_part.specs.Block.{insideUsable, usableIn, longV}
+use Rattle.cache_request.specs.Filters.{filtersOf}
+use Rattle.cache_request.specs.Messages.{writeMessage}
+use Rattle.cache.specs.declared.State.{State}
+use Rattle.cache.specs.State.{panelRight}
+use Rattle.cache.specs.Reaction.{Reaction}
+use Rattle.cache.specs.Begin.{sendable, beginning, beginsRead, beginsWrite}
+use Rattle.cache_trip.specs.Begun.{Sendable, ReadBegun, WriteBegun}
+use Rattle.cache_trip.specs.Taken.{Takable}
+use Rattle.cache_trip.proofs.BeginLaws.{read-envelope, read-taken, write-envelope, write-taken}
+
+-- what is begun was let through
+module _ (page : List ℕ) (s : State) (room : ℕ) where
+  began : (P : List ℕ → Type 0) (next : Reaction) → (panelRight page s ≡ true → s .asked .used < 2 ^ 40 - 1 → next .number ≡ 0 → P (next .reply)) → beginning page s room next .number ≡ 0 → P (beginning page s room next .reply)
+  began P next law =
+      let Q : Reaction → Type 0 = λ r. r .number ≡ 0 → P (r .reply) in
+      pick-elim Q (panelRight page s) _ _
+      (λ t. pick-elim Q (ltb room maxMessage) _ _ (λ _ h. absurd (omega (arith, h)))
+      (λ _. pick-elim Q (ltb (s .asked .used) (2 ^ 40 - 1)) _ _ (λ l. law t (ltb-true (s .asked .used) (2 ^ 40 - 1) l)) (λ _ h. absurd (omega (arith, h)))))
+      (λ _ h. absurd (omega (arith, h)))
+
+  -- A READ
+  pub read-begun : ((i : ℕ) → getD (s .held .versions) i 0 < 2 ^ 32) → beginsRead page s room .number ≡ 0 → ReadBegun s (beginsRead page s room .reply)
+  unfolding beginsRead panelRight
+  read-begun small = began (ReadBegun s) _ (λ t l _. record {
+    envelope = read-envelope (s .asked .used + 1) (filtersOf (s .held)) (omega (arith, l));
+    request = read-taken (s .held) (record { versions = small; clusters = held-right page (s .held) (left _ _ t) .few-clusters }) (s .asked .used + 1);
+  })
+
+  -- a value that can be sent is one that a panel can take
+  is-not : (b : Bool) → not b ≡ true → b ≡ false
+  is-not true h = sym h
+  is-not false h = refl
+
+  takable : (src : List ℕ) (v : Value) → usableIn src v ≡ true → longV v ≡ false → Takable (datumIn src v)
+  unfolding Takable usableIn insideUsable longV
+  takable src value.Null h l = tt
+  takable src (value.Boolean b) h l = tt
+  takable src (value.Unsigned n) h l = tt
+  takable src (value.Signed z) h l = tt
+  takable src (value.Float n) h l = tt
+  takable src (value.Text a n) h l =
+      (right (leb a (length src - n)) _ (right (leb n (length src)) _ h), omega (arith, length-take n (drop a src), ltb-false textSize n l))
+  takable src value.Other h l = never (cc)
+
+  -- A WRITE
+  module _ (given : Bool) (version e c a : ℕ) (src : List ℕ) (v : Value) (fv : version < 2 ^ 32) (p : PathFits e c a) (w : Writable (primitiveD (datumIn src v))) where
+    pub write-begun : beginsWrite page s e c a given version src v room .number ≡ 0 → WriteBegun s given version e c a (datumIn src v) (beginsWrite page s e c a given version src v room .reply)
+    unfolding beginsWrite sendable
+    write-begun = began (WriteBegun s given version e c a (datumIn src v)) _ (λ t l. pick-elim (λ (r : Reaction). r .number ≡ 0 → WriteBegun s given version e c a (datumIn src v) (r .reply)) (sendable src v) _ _ (λ q _. made l (takable src v (left _ _ q) (is-not (longV v) (right (usableIn src v) _ q)))) (λ _ h. absurd (omega (arith, h))))
+      where
+        made : s .asked .used < 2 ^ 40 - 1 → Takable (datumIn src v) → WriteBegun s given version e c a (datumIn src v) (writeMessage (s .asked .used + 1) given version e c a (datumIn src v))
+        made l h =
+            let r = write-taken (s .asked .used + 1) given version e c a (datumIn src v) fv p w h in
+            record {
+              place = r .0;
+              envelope = write-envelope (s .asked .used + 1) given version e c a (datumIn src v) (omega (arith, l));
+              request = r .1;
+              value = r .2;
+            }

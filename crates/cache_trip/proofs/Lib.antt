@@ -1,0 +1,9 @@
+pub mod EachLaws
+pub mod Utf8Laws
+pub mod ByteLaws
+pub mod PlaceLaws
+pub mod BeginLaws
+pub mod BegunLaws
+pub mod TakenLaws
+pub mod AnswerLaws
+pub mod ExactLaws
