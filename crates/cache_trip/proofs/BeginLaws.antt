@@ -41,8 +41,8 @@ use Rattle.cache_trip.proofs.ByteLaws.{write-bytes}
 use Rattle.cache_trip.proofs.PlaceLaws.{place-means}
 
 -- what follows an envelope
-payload : (opcode exchange turn : ℕ) (q : List ℕ) → drop 8 (envelopeOctets opcode exchange turn ++ q) ≡ q
-payload opcode exchange turn q = drop-at (envelopeOctets opcode exchange turn) q 8 (length-envelope opcode exchange turn)
+pub after-envelope : (opcode exchange turn : ℕ) (q : List ℕ) → drop 8 (envelopeOctets opcode exchange turn ++ q) ≡ q
+after-envelope opcode exchange turn q = drop-at (envelopeOctets opcode exchange turn) q 8 (length-envelope opcode exchange turn)
 
 -- THE FILTERS of a panel fit, and are no more than its clusters
 module _ (c : Cached) where
@@ -104,7 +104,7 @@ module _ (c : Cached) where
   module _ (s : Sendable c) (exchange : ℕ) where
     read-payload : drop 8 (readMessage exchange (filtersOf c)) ≡ readOctets (filtersOf c)
     unfolding readMessage
-    read-payload = payload readOpcode exchange 0 (readOctets (filtersOf c))
+    read-payload = after-envelope readOpcode exchange 0 (readOctets (filtersOf c))
 
     pub read-meant : readIn (drop 8 (readMessage exchange (filtersOf c))) ≡ just (readMeans (filtersOf c))
     read-meant = ap readIn read-payload ∙ read-back (filtersOf c) (filters-fit (s .versions))
@@ -128,7 +128,7 @@ module _ (exchange : ℕ) (given : Bool) (version e c a : ℕ) (d : Datum) where
 
   write-payload : drop 8 m ≡ writeOctets given version e c a d
   unfolding writeMessage
-  write-payload = payload writeOpcode exchange 0 (writeOctets given version e c a d)
+  write-payload = after-envelope writeOpcode exchange 0 (writeOctets given version e c a d)
 
   module _ (fv : version < 2 ^ 32) (p : PathFits e c a) (w : Writable (primitiveD d)) where
     pub write-meant : mapO (writeTree 7 (drop 8 m)) (writeIn (drop 8 m)) ≡ just (writeMeans given version e c a d)
@@ -147,7 +147,7 @@ module _ (exchange : ℕ) (given : Bool) (version e c a : ℕ) (d : Datum) where
 module _ (exchange turn : ℕ) where
   pub success-meant : responseIn (drop 8 (successMessage exchange turn)) ≡ just 0
   unfolding successMessage
-  success-meant = ap responseIn (payload statusOpcode exchange turn (statusOctets 0)) ∙ status-back 0 (omega arith)
+  success-meant = ap responseIn (after-envelope statusOpcode exchange turn (statusOctets 0)) ∙ status-back 0 (omega arith)
 
   pub success-envelope : exchange < 2 ^ 40 → turn < 2 ^ 16 → envelopeIn (successMessage exchange turn) ≡ envelopeAs statusOpcode exchange turn
   unfolding successMessage

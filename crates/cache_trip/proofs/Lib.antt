@@ -6,4 +6,5 @@ pub mod BeginLaws
 pub mod BegunLaws
 pub mod TakenLaws
 pub mod AnswerLaws
+pub mod ReceivedLaws
 pub mod ExactLaws

@@ -1,6 +1,6 @@
 -- What a panel is to make of what a sign writes: a block with a value is taken as it was meant, one with a status is not taken, and a write ends with its status.
 use mathlib.Core.Path.{_≡_}
-use mathlib.Core.Bool.{true}
+use mathlib.Core.Bool.{Bool, true, false}
 use mathlib.Core.List.{List, [], _∷_}
 use Prim.Native.Nat.{ℕ, _≤_}
 use lib.ListN.{length}
@@ -49,6 +49,12 @@ unfoldable pub TakenAs : List ℕ → Block → ReportOf ℕ → Type 0
 TakenAs s (value version endpoint cluster attribute d) r =
     (x : Item) × (fateIn s r ≡ Taken x) × Says s version endpoint cluster attribute d x
 TakenAs s (status endpoint cluster attribute code) r = fateIn s r ≡ Unusable
+
+-- a status among blocks
+unfoldable pub anyStatus : List Block → Bool
+anyStatus [] = false
+anyStatus (value version endpoint cluster attribute d ∷ l) = anyStatus l
+anyStatus (status endpoint cluster attribute code ∷ l) = true
 
 -- two lists in step: one as long as the other, and what stands at one place belongs together
 unfoldable pub InStep : {A B : Type 0} → (A → B → Type 0) → List A → List B → Type 0

@@ -1,0 +1,131 @@
+-- Whole messages of the sign, received: the reply awaited is taken; a report with a status block is refused whole, one without is never refused as unusable.
+use mathlib.Core.Path.{_≡_, refl, sym, ap, _∙_}
+use mathlib.Core.Bool.{Bool, true, false}
+use mathlib.Core.List.{List, [], _∷_, _++_}
+use Prim.Native.Nat.{ℕ, _^_, _≤_, _<_}
+use native.Mathlib.Omega.{arith}
+use borrow.Author.Tests.{eq-eqb, ne-eqb, leb-true, ltb-true}
+use lib.Dec.{eqb, leb, ltb}
+use lib.ListN.{length, length-append}
+use Rattle.tlv.specs.Octet.{pick}
+use Rattle.tlv.proofs.Picks.{pick-elim}
+use Rattle.blocks.specs.Data.{ReportOf}
+use Rattle.blocks.proofs.BlockLaws.{never}
+use Rattle.schema.proofs.BoolLaws.{left, right, by-test}
+use Rattle.interaction_writer.specs.Envelope.{envelopeOctets}
+use Rattle.interaction_writer.specs.Spelling.{Each}
+use Rattle.interaction_writer.specs.Block.{Block}
+use Rattle.interaction_writer.proofs.EnvelopeLaws.{length-envelope}
+use Rattle.round_trip.specs.Meant.{reportOctets, Outcome, OutcomeFits, outcomesOctets}
+use Rattle.exchange.specs.Rules.{reportOpcode, writeResponseOpcode}
+use Rattle.envelope.specs.Envelope.{maxMessage}
+use Rattle.envelope.proofs.BigLaws.{envelope-read}
+use Rattle.cached.specs.declared.Cached.{Cached}
+use Rattle.cached.specs.Valid.{heldRight}
+use Rattle.cache_part.specs.declared.block.Item.{Item}
+use Rattle.cache_part.specs.declared.block.Fate.the-variants.{Taken}
+use Rattle.cache_part.specs.declared.entry.Spot.{Spot}
+use Rattle.cache_part.specs.declared.entry.Spot.the-variants.{At, Full}
+use Rattle.cache_part.specs.declared.entry.Judged.{Judged}
+use Rattle.cache_part.specs.Entry.{spotOf, spotNumber, numberFor, worse}
+use Rattle.cache_part.specs.Part.{blocksIn, fateIn, judgedNext, judgedAll}
+use Rattle.cache.specs.declared.State.{State}
+use Rattle.cache.specs.State.{reading, writing, isOpen, askedRight, panelRight}
+use Rattle.cache.specs.Reaction.{Reaction, refusal, unsent}
+use Rattle.cache_receive.specs.Receive.{forCache, opcodeAwaited, awaited, byAnswer, pastTurns, partTaken, takesPart, takes, received}
+use Rattle.cache_receive.proofs.ReceiveLaws.{taken-as}
+use Rattle.cache_trip.specs.Taken.{Sent, TakenAs, InStep, anyStatus, OfPath, endedBy}
+use Rattle.cache_trip.proofs.BeginLaws.{after-envelope}
+use Rattle.cache_trip.proofs.TakenLaws.{report-taken}
+use Rattle.cache_trip.proofs.AnswerLaws.{answer-taken}
+
+-- THE NUMBER of blocks: 6 once one of them gets 6
+six-first : (a b : ℕ) → a ≡ 6 → worse a b ≡ 6
+unfolding worse
+six-first a b e = rw (eq-eqb a 6 e) refl
+
+six-last : (a b : ℕ) → b ≡ 6 → worse a b ≡ 6
+unfolding worse
+six-last a b e = by-test (eqb a 6) (λ t. rw t refl) (λ f. rw (f, eq-eqb b 6 e) refl)
+
+not-six : (a b : ℕ) → (a ≡ 6 → ⊥) → (b ≡ 6 → ⊥) → worse a b ≡ 6 → ⊥
+unfolding worse
+not-six a b na nb h =
+    pick-elim (λ (x : ℕ). x ≡ 6 → ⊥) (eqb a 7) 7 b (λ _ q. omega (arith, q)) (λ _ q. nb q) (rw (ne-eqb a 6 na, ne-eqb b 6 nb) at h)
+
+taken-not-six : (c : Cached) (x : Item) → numberFor c (Taken x) ≡ 6 → ⊥
+unfolding numberFor
+taken-not-six c x = go (spotOf c x)
+  where
+    go : (r : Spot) → spotNumber r ≡ 6 → ⊥
+    go (At k i) q = omega (arith, q)
+    go Full q = omega (arith, q)
+
+module _ (s : List ℕ) where
+  six-stays : (m : List (ReportOf ℕ)) (j : Judged) → j .number ≡ 6 → judgedAll s j m .number ≡ 6
+  unfolding judgedAll
+  six-stays [] j e = e
+  six-stays (r ∷ m) j e = six-stays m (judgedNext s j r) (six-first (j .number) (numberFor (j .held) (fateIn s r)) e)
+
+  judged-six : (l : List Block) (m : List (ReportOf ℕ)) → InStep (TakenAs s) l m → (j : Judged) → anyStatus l ≡ true → judgedAll s j m .number ≡ 6
+  unfolding InStep TakenAs anyStatus judgedAll numberFor
+  judged-six [] [] h j t = never (cc)
+  judged-six [] (r ∷ m) h j t = absurd h
+  judged-six (b ∷ l) [] h j t = absurd h
+  judged-six (Block.value version e c a d ∷ l) (r ∷ m) h j t = judged-six l m (h .1) (judgedNext s j r) t
+  judged-six (Block.status e c a code ∷ l) (r ∷ m) h j t =
+      six-stays m (judgedNext s j r) (six-last (j .number) (numberFor (j .held) (fateIn s r)) (ap (numberFor (j .held)) (h .0)))
+
+  judged-not-six : (l : List Block) (m : List (ReportOf ℕ)) → InStep (TakenAs s) l m → (j : Judged) → (j .number ≡ 6 → ⊥) → anyStatus l ≡ false → judgedAll s j m .number ≡ 6 → ⊥
+  unfolding InStep TakenAs anyStatus judgedAll
+  judged-not-six [] [] h j n t = n
+  judged-not-six [] (r ∷ m) h j n t = absurd h
+  judged-not-six (b ∷ l) [] h j n t = absurd h
+  judged-not-six (Block.value version e c a d ∷ l) (r ∷ m) h j n t =
+      judged-not-six l m (h .1) (judgedNext s j r) (not-six (j .number) (numberFor (j .held) (fateIn s r)) n (λ q. taken-not-six (j .held) (h .0 .0) (sym (ap (numberFor (j .held)) (h .0 .1)) ∙ q))) t
+  judged-not-six (Block.status e c a code ∷ l) (r ∷ m) h j n t = never (cc)
+
+-- A REPORT with a status block is refused whole, and leaves everything as it was
+module _ (l : List Block) (m : Bool) (h : Each Sent l) (page : List ℕ) (s : State) where
+  abbrev judged : ℕ
+  judged = judgedAll (reportOctets l m) (record { number = 0; held = s .held }) (blocksIn (reportOctets l m)) .number
+
+  pub status-refused : anyStatus l ≡ true → takesPart page s (reportOctets l m) ≡ refusal 6 s page
+  unfolding takesPart
+  status-refused t =
+      let (p, here, more, step) = report-taken l m h in
+      let six : judged ≡ 6 = judged-six (reportOctets l m) l (blocksIn (reportOctets l m)) step (record { number = 0; held = s .held }) t in
+      ap (partTaken page s (reportOctets l m)) here
+      ∙ pick-elim (λ (r : Reaction). r ≡ refusal 6 s page) (pastTurns (p .part .more) (s .asked .turn)) _ _ (λ _. refl) (λ _. rw six refl)
+
+  -- one without is never refused for a block that can't be used: all of it is taken, or there is no room (7)
+  pub values-usable : anyStatus l ≡ false → judged ≡ 6 → ⊥
+  values-usable t =
+      let (p, here, more, step) = report-taken l m h in
+      judged-not-six (reportOctets l m) l (blocksIn (reportOctets l m)) step (record { number = 0; held = s .held }) (λ q. omega (arith, q)) t
+
+-- THE REPLY AWAITED, in its envelope
+module _ (page : List ℕ) (s : State) (room : ℕ) (valid : panelRight page s ≡ true) (large : maxMessage ≤ room) (turn-fits : s .asked .turn < 2 ^ 16) (payload : List ℕ) (short : length payload ≤ 1024) where
+  abbrev reply : ℕ → List ℕ
+  reply opcode = envelopeOctets opcode (s .asked .exchange) (s .asked .turn) ++ payload
+
+  exchange-fits : s .asked .exchange < 2 ^ 40
+  unfolding panelRight askedRight
+  exchange-fits =
+      let a = right (heldRight page (s .held)) _ valid in
+      let b = right (ltb (s .asked .used) (2 ^ 40)) _ a in
+      omega (arith, ltb-true (s .asked .used) (2 ^ 40) (left (ltb (s .asked .used) (2 ^ 40)) _ a), leb-true (s .asked .exchange) (s .asked .used) (left (leb (s .asked .exchange) (s .asked .used)) _ b))
+
+  replied : (opcode : ℕ) → opcode < 16 → forCache opcode ≡ true → awaited (s .asked) (record { edition = 0; opcode = opcode; exchange = s .asked .exchange; turn = s .asked .turn }) ≡ true → received page s (reply opcode) room ≡ takes page s opcode payload
+  replied opcode small for a =
+      taken-as page s (reply opcode) room valid large (envelope-read opcode (s .asked .exchange) (s .asked .turn) small exchange-fits turn-fits payload) (omega (arith, short, length-append (envelopeOctets opcode (s .asked .exchange) (s .asked .turn)) payload, length-envelope opcode (s .asked .exchange) (s .asked .turn))) refl for a (sym (after-envelope opcode (s .asked .exchange) (s .asked .turn) payload))
+
+  pub report-received : s .asked .stage ≡ reading → received page s (reply reportOpcode) room ≡ takesPart page s payload
+  unfolding takes forCache awaited opcodeAwaited isOpen
+  report-received e =
+      replied reportOpcode (omega arith) refl (rw (e, eq-eqb (s .asked .exchange) (s .asked .exchange) refl, eq-eqb (s .asked .turn) (s .asked .turn) refl) refl)
+
+  pub response-received : s .asked .stage ≡ writing → received page s (reply writeResponseOpcode) room ≡ unsent (byAnswer s payload) page
+  unfolding takes forCache awaited opcodeAwaited isOpen
+  response-received e =
+      replied writeResponseOpcode (omega arith) refl (rw (e, eq-eqb (s .asked .exchange) (s .asked .exchange) refl, eq-eqb (s .asked .turn) (s .asked .turn) refl) refl)
