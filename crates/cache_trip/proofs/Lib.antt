@@ -7,4 +7,5 @@ pub mod BegunLaws
 pub mod TakenLaws
 pub mod AnswerLaws
 pub mod ReceivedLaws
+pub mod HeldLaws
 pub mod ExactLaws

@@ -1,3 +1,4 @@
 pub mod Begun
 pub mod Exact
 pub mod Taken
+pub mod Held
