@@ -1,0 +1,13 @@
+pub mod VersionLaws
+pub mod SmallLaws
+pub mod Invariant
+pub mod ChangeLaws
+pub mod ServeLaws
+pub mod CacheLaws
+pub mod Inductive
+pub mod OpenLaws
+pub mod RunLaws
+pub mod ProgressLaws
+pub mod RoomLaws
+pub mod FilterLaws
+pub mod Main

@@ -1,0 +1,90 @@
+-- DEMAND 3, proved: the statements stand in specs/Claims.antt.
+use mathlib.Core.Path.{_≡_, refl, sym, _∙_, ap, subst}
+use mathlib.Core.Bool.{false}
+use mathlib.Core.List.{List·Memᴰ}
+use Prim.Native.Nat.{ℕ, _^_, _<_}
+use native.Mathlib.Omega.{arith}
+use lib.Dec.{T, eqb→eq}
+use Rattle.protocol.specs.Model.{Place, Entry, Node, Cluster, Part, System, awaited, receive, CoherentIn}
+use Rattle.protocol.specs.Steps.{Reach, Visits}
+use Rattle.protocol.specs.Claims.{Exact, FirstHalf, Progress, Settled}
+use Rattle.protocol.proofs.VersionLaws.{wrap-inj}
+use Rattle.protocol.proofs.SmallLaws.{and-l, and-r, T-true}
+use Rattle.protocol.proofs.Invariant.{versionAfter}
+use Rattle.protocol.proofs.ChangeLaws.{still}
+use Rattle.protocol.proofs.CacheLaws.{coherent-then}
+use Rattle.protocol.proofs.Inductive.{reach-inv}
+use Rattle.protocol.proofs.RunLaws.{visits-grow, visits-same, visits-reach, passes-visits, Source, Birth, trail}
+use Rattle.protocol.proofs.ProgressLaws.{read-ends}
+
+module _ {Value : Type 0} (node : Node Value) {s : System Value} (run : Reach node s) where
+  counted : (u : System Value) → Visits run u → (c : ℕ) → u .clusters c .version ≡ versionAfter node c (u .clusters c .changes)
+  counted u v c = reach-inv node (visits-reach node run u v) .clusters c
+
+  -- the state that an entry comes from had its version
+  source-version : (e : Entry Value) (k : Source node run e) (c version : ℕ) → e .place .cluster ≡ c → e .version ≡ version → k .at .clusters c .version ≡ version
+  source-version e k c version ec ev = ap (λ (c : ℕ). k .at .clusters c .version) (sym ec) ∙ sym (ap (λ (d : Entry Value). d .version) (k .is)) ∙ ev
+
+  -- and, with fewer than 2^32 changes, its value is what any state with that version had
+  source-value : (e : Entry Value) (k : Source node run e) (c : ℕ) → s .clusters c .changes < 2 ^ 32 → e .place .cluster ≡ c
+      → (u : System Value) → Visits run u → u .clusters c .version ≡ e .version → e .value ≡ u .clusters c .values (e .place .attribute)
+  source-value e k c few ec u v z =
+      ap (λ (d : Entry Value). d .value) (k .is) ∙ ap (λ (c : ℕ). k .at .clusters c .values (e .place .attribute)) ec
+      ∙ ap (λ (d : Cluster Value). d .values (e .place .attribute)) (visits-same node run (k .at) u (k .visits) v c same)
+    where
+      same : k .at .clusters c .changes ≡ u .clusters c .changes
+      same =
+          wrap-inj (node .firstVersion c) (k .at .clusters c .changes) (u .clusters c .changes)
+          (omega (arith, visits-grow node run (k .at) (k .visits) .rise c)) (omega (arith, visits-grow node run u v .rise c))
+          (sym (counted (k .at) (k .visits) c) ∙ source-version e k c (e .version) ec refl ∙ sym z ∙ counted u v c)
+
+pub first-half : FirstHalf
+first-half Value node s run cluster version few w = (held (w .some), λ u v z. exact u v z)
+  where
+    held : (e : Entry Value) × List·Memᴰ e (s .cache .entries) × (e .place .cluster ≡ cluster) → (u : System Value) × Visits run u × (u .clusters cluster .version ≡ version)
+    held t =
+        let k : Source node run (t .0) = trail node run .entries (t .0) (t .1) in
+        (k .at, k .visits, source-version node run (t .0) k cluster version (t .2) (w .same (t .0) (t .1) (t .2)))
+
+    exact : (u : System Value) → Visits run u → u .clusters cluster .version ≡ version → Exact node cluster version (u .clusters cluster .values) (s .cache .entries)
+    exact u v z =
+        record {
+          only = λ e i ec. (reach-inv node run .cache .on e i, w .same e i ec, source-value node run e (trail node run .entries e i) cluster few ec u v (z ∙ sym (w .same e i ec)));
+          all = λ p i pc. reach-inv node run .cache .full (w .primed-is) p i;
+        }
+
+pub progress : Progress
+progress =
+    record {
+      ends = λ Value node s t reach reading run calm arrived. read-ends node reach reading run calm arrived;
+      bound = λ Value node s reach m i. reach-inv node reach .parts m i .few;
+    }
+
+module _ {Value : Type 0} (node : Node Value) (s : System Value) (run : Reach node s) (m : Part Value) (i : List·Memᴰ m (s .parts)) (t : T (awaited (s .cache) m)) (e : m .more ≡ false) where
+  settles : (p : Place) → List·Memᴰ p (node .readable) → m .since (p .cluster) ≡ m .made (p .cluster)
+      → CoherentIn ((receive s m) .cache) (p .cluster) (versionAfter node (p .cluster) (m .since (p .cluster)))
+  unfolding receive
+  settles p j q =
+      rw (T-true (awaited (s .cache) m) t)
+      (coherent-then node s m (reach-inv node run) i (search (and-l, and-r, eqb→eq)) (search (and-l, and-r, eqb→eq)) (search (and-r, T-true)) e p j q)
+
+pub settled : Settled
+settled Value node s run m i t e = (b .taking, b .making, λ p j q. go p j q)
+  where
+    b : Birth node run m
+    b = trail node run .parts m i
+
+    go : (p : Place) → List·Memᴰ p (node .readable) → b .taking .at .clusters (p .cluster) .changes ≡ b .making .at .clusters (p .cluster) .changes
+        → CoherentIn ((receive s m) .cache) (p .cluster) (b .making .at .clusters (p .cluster) .version)
+    go p j q = subst (λ (n : ℕ). CoherentIn ((receive s m) .cache) (p .cluster) n) version (settles node s run m i t e p j still)
+      where
+        made : m .made (p .cluster) ≡ b .making .at .clusters (p .cluster) .changes
+        made = ap (λ (f : ℕ → ℕ). f (p .cluster)) (b .made)
+
+        still : m .since (p .cluster) ≡ m .made (p .cluster)
+        still = ap (λ (f : ℕ → ℕ). f (p .cluster)) (b .since) ∙ q ∙ sym made
+
+        version : versionAfter node (p .cluster) (m .since (p .cluster)) ≡ b .making .at .clusters (p .cluster) .version
+        version =
+            ap (λ (n : ℕ). versionAfter node (p .cluster) n) (still ∙ made)
+            ∙ sym (reach-inv node (visits-reach node run (b .making .at) (passes-visits node run (b .making .at) (b .making .next) (b .making .passes))) .clusters (p .cluster))
