@@ -11,3 +11,5 @@ pub mod ProgressLaws
 pub mod RoomLaws
 pub mod FilterLaws
 pub mod Main
+pub mod Example
+pub mod Counter

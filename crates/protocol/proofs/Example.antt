@@ -1,0 +1,148 @@
+-- A run in which the theorems say something: a read in three parts, the first lost and then taken twice, a change between the second and the third; one
+-- cluster ends coherent and one not. A second read, with a filter, mends it.
+use mathlib.Core.Path.{_≡_, refl, sym, _∙_}
+use mathlib.Core.Logic.{_⊎_, inl, inr}
+use mathlib.Core.Bool.{Bool, true, false, cond, not, _&&_, _||_, true≢false}
+use mathlib.Core.List.{List, [], _∷_, map, List·Memᴰ, List·Memᴰ·head, List·Memᴰ·tail, List·Memᴰ·not-nil}
+use Prim.Native.Nat.{ℕ, zero, suc, _+_, _%_, _^_, _≤_, _<_}
+use native.Mathlib.Omega.{arith}
+use lib.Dec.{T, eqb, ltb}
+use Rattle.protocol.specs.Model.{Place, Entry, Filter, Node, Message, read, write, success, failure, Part, System, exchangeOf, start, change, beginRead, serve, send, sendAgain, partOf, reported, remaining, skips, changesOf, receive, accept, awaited, setEntry, setEntries, CoherentIn, FiltersFor}
+use Rattle.protocol.specs.Steps.{Step, changes, beginsRead, serves, receives, Run, none, then, Reach, Visits, Passes, Calm, Heard, Got}
+use Rattle.protocol.specs.Claims.{Arrived, Ended}
+use Rattle.protocol.proofs.SmallLaws.{all-cons}
+use Rattle.protocol.proofs.FilterLaws.{alike, coherents, filtersOf, filters-are}
+use Rattle.protocol.proofs.Main.{progress}
+
+unfoldable pub entry : ℕ → ℕ → ℕ → ℕ → Entry ℕ
+entry c a v w = record { place = record { cluster = c; attribute = a }; version = v; value = w }
+
+abbrev pub node : Node ℕ
+node =
+    record {
+      firstVersion = λ c. 4294967295;
+      firstValue = λ c a. 7;
+      readable = record { cluster = 0; attribute = 0 } ∷ record { cluster = 0; attribute = 1 } ∷ record { cluster = 1; attribute = 0 } ∷ record { cluster = 1; attribute = 1 } ∷ [];
+    }
+
+-- cluster 0 changes, its version going from 2^32 - 1 to 0; the read begins
+abbrev pub begun : System ℕ
+begun = beginRead (change (start node) 0 1 9) []
+
+-- the first part, of two entries, is lost; the request arrives again and gets the same part
+abbrev pub first : Part ℕ
+first = partOf (begun .clusters) 1 1 (node .readable) [] (changesOf (begun .clusters)) 1
+
+abbrev pub answered : System ℕ
+answered = serve node (serve node begun (read 1 []) 1 []) (read 1 []) 0 []
+
+-- it is taken, and once more refused
+abbrev pub taken : System ℕ
+taken = receive (receive answered first) first
+
+-- the second part, of one entry, is taken
+abbrev pub second : Part ℕ
+second = partOf (taken .clusters) 1 2 (taken .row .ahead) [] (taken .row .since) 0
+
+abbrev pub further : System ℕ
+further = receive (serve node taken (success 1 1) 0 []) second
+
+-- cluster 1 changes; the third part is the last
+abbrev pub altered : System ℕ
+altered = change further 1 0 8
+
+abbrev pub third : Part ℕ
+third = partOf (altered .clusters) 1 3 (altered .row .ahead) [] (altered .row .since) 5
+
+abbrev pub ended : System ℕ
+ended = receive (serve node altered (success 1 2) 5 []) third
+
+holds : ended .cache .entries ≡ entry 1 1 0 7 ∷ entry 1 0 4294967295 7 ∷ entry 0 1 0 9 ∷ entry 0 0 0 7 ∷ []
+unfolding entry change beginRead serve send sendAgain partOf reported remaining skips receive accept setEntry setEntries
+holds = refl
+
+primed : ended .cache .primed ≡ true
+unfolding change beginRead serve send sendAgain partOf reported remaining skips receive accept setEntry setEntries
+primed = refl
+
+-- cluster 0 is coherent, at the version that wrapped; cluster 1 is not, at any
+pub coherent : CoherentIn (ended .cache) 0 0
+unfolding entry
+coherent =
+    record {
+      primed-is = primed;
+      same =
+          rw holds
+          (all-cons (λ (e : Entry ℕ). e .place .cluster ≡ 0 → e .version ≡ 0) (λ q. refl)
+          (all-cons (λ (e : Entry ℕ). e .place .cluster ≡ 0 → e .version ≡ 0) (λ q. absurd (omega arith))
+          (all-cons (λ (e : Entry ℕ). e .place .cluster ≡ 0 → e .version ≡ 0) (λ q. refl)
+          (all-cons (λ (e : Entry ℕ). e .place .cluster ≡ 0 → e .version ≡ 0) (λ q. refl) (λ e i. absurd (List·Memᴰ·not-nil i))))));
+      some = rw holds (entry 0 1 0 9, List·Memᴰ·tail (List·Memᴰ·tail (List·Memᴰ·head refl)), refl);
+    }
+
+pub torn : (version : ℕ) → CoherentIn (ended .cache) 1 version → ⊥
+unfolding entry
+torn version w = absurd (omega (arith, a, b))
+  where
+    a : 0 ≡ version
+    a = (rw holds at (w .same)) (entry 1 1 0 7) (List·Memᴰ·head refl) refl
+
+    b : 4294967295 ≡ version
+    b = (rw holds at (w .same)) (entry 1 0 4294967295 7) (List·Memᴰ·tail (List·Memᴰ·head refl)) refl
+
+-- all that happened since the read began is a run, calm, in which each message and each reply arrived
+no-filters : FiltersFor ((change (start node) 0 1 9) .cache) []
+unfolding change
+no-filters = record { only = λ f i. absurd (List·Memᴰ·not-nil i); all = λ c v w. absurd (true≢false (sym (w .primed-is))) }
+
+abbrev reach : Reach node begun
+reach = then (then none (changes 0 1 9)) (beginsRead [] no-filters)
+
+abbrev pub run : Run node begun ended
+unfolding change beginRead serve send sendAgain partOf reported remaining skips receive accept setEntry setEntries
+run =
+    then
+    (then
+    (then
+    (then
+    (then
+    (then (then (then (then none (serves (read 1 []) 1 [] (List·Memᴰ·head refl))) (serves (read 1 []) 0 [] (List·Memᴰ·head refl))) (receives first (List·Memᴰ·head refl))) (receives first (List·Memᴰ·head refl)))
+    (serves (success 1 1) 0 [] (List·Memᴰ·head refl)))
+    (receives second (List·Memᴰ·head refl)))
+    (changes 1 0 8))
+    (serves (success 1 2) 5 [] (List·Memᴰ·head refl)))
+    (receives third (List·Memᴰ·head refl))
+
+arrived : Arrived run
+unfolding change beginRead serve send sendAgain partOf reported remaining skips receive accept setEntry setEntries
+arrived =
+    record {
+      messages =
+          all-cons (λ (m : Message). exchangeOf m ≡ 1 → Heard m run) (λ e. inl (inr refl))
+          (all-cons (λ (m : Message). exchangeOf m ≡ 1 → Heard m run) (λ e. inl (inl (inl (inl (inr refl)))))
+          (all-cons (λ (m : Message). exchangeOf m ≡ 1 → Heard m run) (λ e. inl (inl (inl (inl (inl (inl (inl (inr refl)))))))) (λ m i. absurd (List·Memᴰ·not-nil i))));
+      parts =
+          all-cons (λ (m : Part ℕ). m .exchange ≡ 1 → Got m run) (λ e. inr refl)
+          (all-cons (λ (m : Part ℕ). m .exchange ≡ 1 → Got m run) (λ e. inl (inl (inl (inr refl))))
+          (all-cons (λ (m : Part ℕ). m .exchange ≡ 1 → Got m run) (λ e. inl (inl (inl (inl (inl (inr refl))))))
+          (all-cons (λ (m : Part ℕ). m .exchange ≡ 1 → Got m run) (λ e. inl (inl (inl (inl (inl (inr refl)))))) (λ m i. absurd (List·Memᴰ·not-nil i)))));
+    }
+
+-- so the read has ended, by the theorem
+pub ends : Ended run
+unfolding beginRead run
+ends = progress .ends ℕ node begun ended reach refl run (((((((((tt, tt), tt), tt), tt), tt), tt), tt), tt), tt) arrived
+
+-- the second read: cluster 0 is passed over by its filter, cluster 1 comes again
+abbrev pub renewed : System ℕ
+renewed = beginRead ended (filtersOf (ended .cache))
+
+pub may-begin : Step node ended renewed
+may-begin = beginsRead (filtersOf (ended .cache)) (filters-are (ended .cache))
+
+abbrev pub fourth : Part ℕ
+fourth = partOf (renewed .clusters) 2 1 (node .readable) (filtersOf (ended .cache)) (changesOf (renewed .clusters)) 5
+
+pub mended : (receive (serve node renewed (read 2 (filtersOf (ended .cache))) 5 []) fourth) .cache .entries ≡ entry 1 1 0 7 ∷ entry 1 0 0 8 ∷ entry 0 1 0 9 ∷ entry 0 0 0 7 ∷ []
+unfolding entry change beginRead serve send sendAgain partOf reported remaining skips receive accept setEntry setEntries filtersOf coherents
+mended = refl
