@@ -50,7 +50,7 @@ module _ {Value : Type 0} where
     part-grows u m h =
         record {
           on = h .on;
-          vers = h .vers;
+          versions = h .versions;
           cover = h .cover;
           last = h .last;
           rise = h .rise;

@@ -35,7 +35,7 @@ module _ {Value : Type 0} where
   coherents-only l [] g = λ f i. absurd (List·Memᴰ·not-nil i)
   coherents-only l (e ∷ es) g =
       let below = coherents-only l es (λ d i. g d (List·Memᴰ·tail i)) in
-      by-cond (λ (fs : List Filter). (f : Filter) → List·Memᴰ f fs → T (alike l (f .cluster) (f .version)) × ((e : Entry Value) × List·Memᴰ e l × (e .place .cluster ≡ f .cluster)))
+      by-cond (λ (filters : List Filter). (f : Filter) → List·Memᴰ f filters → T (alike l (f .cluster) (f .version)) × ((e : Entry Value) × List·Memᴰ e l × (e .place .cluster ≡ f .cluster)))
       (alike l (e .place .cluster) (e .version))
       (λ t. all-cons (λ (f : Filter). T (alike l (f .cluster) (f .version)) × ((e : Entry Value) × List·Memᴰ e l × (e .place .cluster ≡ f .cluster))) (t, (e, g e (List·Memᴰ·head refl), refl)) below)
       (λ t. below)
@@ -45,7 +45,7 @@ module _ {Value : Type 0} where
   coherents-all l [] e i t = absurd (List·Memᴰ·not-nil i)
   coherents-all l (d ∷ es) e (List·Memᴰ·head q) t = subst (λ (d : Entry Value). List·Memᴰ (record { cluster = e .place .cluster; version = e .version }) (coherents l (d ∷ es))) q (rw (T-true (alike l (e .place .cluster) (e .version)) t) (List·Memᴰ·head refl))
   coherents-all l (d ∷ es) e (List·Memᴰ·tail i) t =
-      by-cond (λ (fs : List Filter). List·Memᴰ (record { cluster = e .place .cluster; version = e .version }) fs) (alike l (d .place .cluster) (d .version)) (λ u. List·Memᴰ·tail (coherents-all l es e i t)) (λ u. coherents-all l es e i t)
+      by-cond (λ (filters : List Filter). List·Memᴰ (record { cluster = e .place .cluster; version = e .version }) filters) (alike l (d .place .cluster) (d .version)) (λ u. List·Memᴰ·tail (coherents-all l es e i t)) (λ u. coherents-all l es e i t)
 
   pub filters-are : (c : Cache Value) → FiltersFor c (filtersOf c)
   unfolding filtersOf

@@ -11,10 +11,10 @@ use Rattle.protocol.proofs.SmallLaws.{Has}
 
 -- a read of this exchange carries these filters
 abbrev pub Mine : ℕ → List Filter → Message → Type 0
-Mine ex fs (read x gs) = x ≡ ex → gs ≡ fs
-Mine ex fs (write x) = Unit {0}
-Mine ex fs (success x k) = Unit {0}
-Mine ex fs (failure x k) = Unit {0}
+Mine ex filters (read x gs) = x ≡ ex → gs ≡ filters
+Mine ex filters (write x) = Unit {0}
+Mine ex filters (success x k) = Unit {0}
+Mine ex filters (failure x k) = Unit {0}
 
 module _ {Value : Type 0} where
   -- the version after so many changes
@@ -26,9 +26,9 @@ module _ {Value : Type 0} where
   Counted node clusters = (c : ℕ) → clusters c .version ≡ versionAfter node c (clusters c .changes)
 
   -- the filters pass over w after n changes
-  pub record Skipped (node : Node Value) (fs : List Filter) (n : ℕ → ℕ) (w : Place) : Type 0 where
-    pub some : (f : Filter) × List·Memᴰ f fs × (f .cluster ≡ w .cluster)
-    pub all : (f : Filter) → List·Memᴰ f fs → f .cluster ≡ w .cluster → f .version ≡ versionAfter node (w .cluster) (n (w .cluster))
+  pub record Skipped (node : Node Value) (filters : List Filter) (n : ℕ → ℕ) (w : Place) : Type 0 where
+    pub some : (f : Filter) × List·Memᴰ f filters × (f .cluster ≡ w .cluster)
+    pub all : (f : Filter) → List·Memᴰ f filters → f .cluster ≡ w .cluster → f .version ≡ versionAfter node (w .cluster) (n (w .cluster))
 
   pub data Gone (node : Node Value) (m : Part Value) (w : Place) : Type 0 where
     told : Has w (m .entries) → Gone node m w
@@ -36,15 +36,15 @@ module _ {Value : Type 0} where
     passed : Skipped node (m .filters) (m .made) w → Gone node m w
 
   -- what holds of a part ever after
-  pub record PartOk (node : Node Value) (clusters : ℕ → Cluster Value) (ups : List Message) (m : Part Value) : Type 0 where
+  pub record PartOk (node : Node Value) (clusters : ℕ → Cluster Value) (messages : List Message) (m : Part Value) : Type 0 where
     pub on : (e : Entry Value) → List·Memᴰ e (m .entries) → List·Memᴰ (e .place) (node .readable)
-    pub vers : (e : Entry Value) → List·Memᴰ e (m .entries) → e .version ≡ versionAfter node (e .place .cluster) (m .made (e .place .cluster))
+    pub versions : (e : Entry Value) → List·Memᴰ e (m .entries) → e .version ≡ versionAfter node (e .place .cluster) (m .made (e .place .cluster))
     pub cover : (w : Place) → List·Memᴰ w (m .before) → Gone node m w
     pub last : m .more ≡ false → (w : Place) → List·Memᴰ w (m .after) → Skipped node (m .filters) (m .made) w
     pub rise : (c : ℕ) → m .since c ≤ m .made c
     pub now : (c : ℕ) → m .made c ≤ clusters c .changes
     pub first : m .turn ≡ 1 → m .before ≡ node .readable
-    pub asked : List·Memᴰ (read (m .exchange) (m .filters)) ups
+    pub asked : List·Memᴰ (read (m .exchange) (m .filters)) messages
     pub short : m .more ≡ true → m .turn < length (node .readable)
     pub turn : 1 ≤ m .turn
     pub few : m .turn ≤ mostParts (node .readable)
@@ -57,9 +57,9 @@ module _ {Value : Type 0} where
     pub joins : m .exchange ≡ s .exchange → m .turn ≡ s .turn → m .after ≡ s .ahead
     pub goes : m .exchange ≡ s .exchange → m .turn ≡ s .turn → m .more ≡ s .more
 
-  pub record RowOk (node : Node Value) (clusters : ℕ → Cluster Value) (ups : List Message) (parts : List (Part Value)) (s : Row Value) : Type 0 where
+  pub record RowOk (node : Node Value) (clusters : ℕ → Cluster Value) (messages : List Message) (parts : List (Part Value)) (s : Row Value) : Type 0 where
     pub ahead : (w : Place) → List·Memᴰ w (s .ahead) → List·Memᴰ w (node .readable)
-    pub asked : s .more ≡ true → List·Memᴰ (read (s .exchange) (s .filters)) ups
+    pub asked : s .more ≡ true → List·Memᴰ (read (s .exchange) (s .filters)) messages
     pub size : s .more ≡ true → s .turn + length (s .ahead) ≤ length (node .readable)
     pub turn : s .more ≡ true → 1 ≤ s .turn
     pub some : s .more ≡ true → 1 ≤ length (s .ahead)
@@ -82,8 +82,8 @@ module _ {Value : Type 0} where
 
   -- what a filter vouches for
   abbrev pub Vouched : Node Value → Part Value → List Filter → List (Entry Value) → Type 0
-  Vouched node m fs l =
-      (f : Filter) → List·Memᴰ f fs → m .since (f .cluster) ≡ m .made (f .cluster) → (e : Entry Value) → List·Memᴰ e l → e .place .cluster ≡ f .cluster → (e .version ≡ f .version) ⊎ (e .version ≡ versionAfter node (f .cluster) (m .since (f .cluster)))
+  Vouched node m filters l =
+      (f : Filter) → List·Memᴰ f filters → m .since (f .cluster) ≡ m .made (f .cluster) → (e : Entry Value) → List·Memᴰ e l → e .place .cluster ≡ f .cluster → (e .version ≡ f .version) ⊎ (e .version ≡ versionAfter node (f .cluster) (m .since (f .cluster)))
 
   -- where the cache is in a read: before any part, or just behind a part that was sent
   pub data Reading (node : Node Value) (parts : List (Part Value)) (c : Cache Value) : Type 0 where
@@ -91,12 +91,12 @@ module _ {Value : Type 0} where
     behind : (m : Part Value) → List·Memᴰ m parts → m .exchange ≡ c .exchange → c .next ≡ suc (m .turn) → m .more ≡ true
         → ((w : Place) → List·Memᴰ w (node .readable) → List·Memᴰ w (m .after) ⊎ Holding node m (c .entries) w) → Vouched node m (c .filters) (c .entries) → Reading node parts c
 
-  pub record CacheOk (node : Node Value) (clusters : ℕ → Cluster Value) (ups : List Message) (parts : List (Part Value)) (c : Cache Value) : Type 0 where
+  pub record CacheOk (node : Node Value) (clusters : ℕ → Cluster Value) (messages : List Message) (parts : List (Part Value)) (c : Cache Value) : Type 0 where
     pub on : (e : Entry Value) → List·Memᴰ e (c .entries) → List·Memᴰ (e .place) (node .readable)
     pub full : c .primed ≡ true → (w : Place) → List·Memᴰ w (node .readable) → Has w (c .entries)
     pub bare : (f : Filter) → List·Memᴰ f (c .filters) → c .primed ≡ true
-    pub ids : (u : Message) → List·Memᴰ u ups → exchangeOf u ≤ c .exchange
-    pub own : (u : Message) → List·Memᴰ u ups → Mine (c .exchange) (c .filters) u
+    pub ids : (u : Message) → List·Memᴰ u messages → exchangeOf u ≤ c .exchange
+    pub own : (u : Message) → List·Memᴰ u messages → Mine (c .exchange) (c .filters) u
     pub at : c .reading ≡ true → Reading node parts c
 
   pub record Inv (node : Node Value) (s : System Value) : Type 0 where

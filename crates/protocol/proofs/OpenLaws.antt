@@ -15,7 +15,7 @@ use Rattle.protocol.proofs.Inductive.{reach-inv}
 module _ {Value : Type 0} where
   -- what the server does with a message
   pub data Served (node : Node Value) (s : System Value) : System Value → Type 0 where
-    begin : (x : ℕ) (fs : List Filter) (n : ℕ) → s .row .exchange < x → List·Memᴰ (read x fs) (s .messages) → Served node s (send s (partOf (s .clusters) x 1 (node .readable) fs (changesOf (s .clusters)) n))
+    begin : (x : ℕ) (filters : List Filter) (n : ℕ) → s .row .exchange < x → List·Memᴰ (read x filters) (s .messages) → Served node s (send s (partOf (s .clusters) x 1 (node .readable) filters (changesOf (s .clusters)) n))
     next : (x n : ℕ) → x ≡ s .row .exchange → List·Memᴰ (success x (s .row .turn)) (s .messages) → s .row .more ≡ true → Served node s (send s (partOf (s .clusters) x (suc (s .row .turn)) (s .row .ahead) (s .row .filters) (s .row .since) n))
     again : Served node s (sendAgain s)
     storing : (x : ℕ) (stores : List (Store Value)) → s .row .exchange < x → List·Memᴰ (write x) (s .messages) → Served node s (written (storeAll s stores) x)
@@ -24,8 +24,8 @@ module _ {Value : Type 0} where
 
   pub served : (node : Node Value) (s : System Value) (m : Message) (n : ℕ) (stores : List (Store Value)) → List·Memᴰ m (s .messages) → Served node s (serve node s m n stores)
   unfolding serve
-  served node s (read x fs) n stores i =
-      by-cond (Served node s) (ltb (s .row .exchange) x) (λ t. begin x fs n (ltb→lt (s .row .exchange) x t) i)
+  served node s (read x filters) n stores i =
+      by-cond (Served node s) (ltb (s .row .exchange) x) (λ t. begin x filters n (ltb→lt (s .row .exchange) x t) i)
       (λ t. by-cond (Served node s) (eqb x (s .row .exchange) && eqb (s .row .turn) 1 && not (s .row .closed)) (λ u. again) (λ u. silent))
   served node s (write x) n stores i =
       by-cond (Served node s) (ltb (s .row .exchange) x) (λ t. storing x stores (ltb→lt (s .row .exchange) x t) i)
@@ -38,21 +38,21 @@ module _ {Value : Type 0} where
   served node s (failure x t) n stores i = by-cond (Served node s) (eqb x (s .row .exchange) && eqb t (s .row .turn) && s .row .more) (λ a. shuts x t i) (λ a. silent)
 
   abbrev pub Fine : Cache Value → Message → Type 0
-  Fine c (read x fs) = Unit {0}
+  Fine c (read x filters) = Unit {0}
   Fine c (write x) = c .reading ≡ true → x < c .exchange
   Fine c (success x t) = (x ≡ c .exchange → t < c .next) × (1 ≤ t)
   Fine c (failure x t) = ⊥
 
   -- what the server keeps
-  pub data Holds (ups : List Message) (s : Row Value) : Type 0 where
-    unused : s .exchange ≡ 0 → Holds ups s
-    report : (p : Part Value) → s .kept ≡ p ∷ [] → p .exchange ≡ s .exchange → p .turn ≡ s .turn → 1 ≤ s .turn → Holds ups s
-    stored : List·Memᴰ (write (s .exchange)) ups → Holds ups s
+  pub data Holds (messages : List Message) (s : Row Value) : Type 0 where
+    unused : s .exchange ≡ 0 → Holds messages s
+    report : (p : Part Value) → s .kept ≡ p ∷ [] → p .exchange ≡ s .exchange → p .turn ≡ s .turn → 1 ≤ s .turn → Holds messages s
+    stored : List·Memᴰ (write (s .exchange)) messages → Holds messages s
 
   -- the cache's newest message
-  pub data Head (c : Cache Value) (ups : List Message) : Type 0 where
-    first : (us : List Message) → c .next ≡ 1 → ups ≡ read (c .exchange) (c .filters) ∷ us → Head c ups
-    later : (us : List Message) (t : ℕ) → c .next ≡ suc t → 1 ≤ t → ups ≡ success (c .exchange) t ∷ us → Head c ups
+  pub data Head (c : Cache Value) (messages : List Message) : Type 0 where
+    first : (us : List Message) → c .next ≡ 1 → messages ≡ read (c .exchange) (c .filters) ∷ us → Head c messages
+    later : (us : List Message) (t : ℕ) → c .next ≡ suc t → 1 ≤ t → messages ≡ success (c .exchange) t ∷ us → Head c messages
 
   pub record Open (s : System Value) : Type 0 where
     pub last : s .row .exchange ≤ s .cache .exchange
@@ -71,9 +71,9 @@ module _ {Value : Type 0} where
 
   pub open-served : (node : Node Value) {s t : System Value} → Inv node s → Served node s t → Open s → Open t
   unfolding send partOf sendAgain written close
-  open-served node {s} h (begin x fs n l i) v =
+  open-served node {s} h (begin x filters n l i) v =
       record {
-        last = h .cache .ids (read x fs) i;
+        last = h .cache .ids (read x filters) i;
         opened = refl;
         one = v .one;
         exchange = v .exchange;
@@ -109,20 +109,20 @@ module _ {Value : Type 0} where
   open-served node {s} h silent v = v
 
   begun-fine : (c c′ : Cache Value) → c′ .exchange ≡ suc (c .exchange) → (u : Message) → exchangeOf u ≤ c .exchange → Fine c u → Fine c′ u
-  begun-fine c d e (read x fs) l f = tt
+  begun-fine c d e (read x filters) l f = tt
   begun-fine c d e (write x) l f = λ r. omega arith
   begun-fine c d e (success x t) l f = (λ q. absurd (omega arith), f .1)
   begun-fine c d e (failure x t) l f = f
 
   accept-fine : (c c′ : Cache Value) → c′ .exchange ≡ c .exchange → c .next ≤ c′ .next → c .reading ≡ true → (u : Message) → Fine c u → Fine c′ u
-  accept-fine c d e l r (read x fs) f = tt
+  accept-fine c d e l r (read x filters) f = tt
   accept-fine c d e l r (write x) f = λ q. omega (arith, f r)
   accept-fine c d e l r (success x t) f = (λ q. omega (arith, f .0 (q ∙ e)), f .1)
   accept-fine c d e l r (failure x t) f = f
 
-  open-read : (node : Node Value) (s : System Value) (fs : List Filter) → Inv node s → Open s → Open (beginRead s fs)
+  open-read : (node : Node Value) (s : System Value) (filters : List Filter) → Inv node s → Open s → Open (beginRead s filters)
   unfolding beginRead
-  open-read node s fs h v =
+  open-read node s filters h v =
       record {
         last = omega (arith, v .last);
         opened = v .opened;
@@ -171,7 +171,7 @@ module _ {Value : Type 0} where
   open-step : (node : Node Value) {s t : System Value} → Inv node s → Step node s t → Open s → Open t
   unfolding change receive
   open-step node {s} h (changes c a w) v = record { last = v .last; opened = v .opened; one = v .one; exchange = v .exchange; messages = v .messages; turn = v .turn; keeps = v .keeps; newest = v .newest }
-  open-step node {s} h (beginsRead fs w) v = open-read node s fs h v
+  open-step node {s} h (beginsRead filters w) v = open-read node s filters h v
   open-step node {s} h beginsWrite v = open-write node s h v
   open-step node {s} h (serves m n stores i) v = open-served node h (served node s m n stores i) v
   open-step node {s} h (receives m i) v = by-cond Open (awaited (s .cache) m) (λ t. open-accept node s m (search (and-l, and-r, eqb→eq)) (search (and-l, and-r, eqb→eq)) (search (and-r, T-true)) v) (λ t. v)

@@ -62,7 +62,7 @@ module _ {Value : Type 0} where
 
   goes-served : (node : Node Value) {s t : System Value} → Served node s t → Goes s t
   unfolding send sendAgain written close
-  goes-served node {s} (begin x fs n l i) = goes-same s _ refl (λ m i. List·Memᴰ·tail i) (λ u i. i)
+  goes-served node {s} (begin x filters n l i) = goes-same s _ refl (λ m i. List·Memᴰ·tail i) (λ u i. i)
   goes-served node {s} (next x n e i g) = goes-same s _ refl (λ m i. List·Memᴰ·tail i) (λ u i. i)
   goes-served node {s} again = goes-same s _ refl (λ m i. Memᴰ·append-right (s .row .kept) i) (λ u i. i)
   goes-served node {s} (storing x stores l i) = goes-same s _ (stores-cache s stores) (λ m i. rw (stores-parts s stores) i) (λ u i. rw (stores-messages s stores) i)
@@ -142,10 +142,10 @@ module _ {Value : Type 0} where
 
   -- what the server says to the newest message of a read
   record Answer (s t : System Value) : Type 0 where
-    p : Part Value
-    says : t .parts ≡ p ∷ s .parts
-    exchange : p .exchange ≡ s .cache .exchange
-    turn : p .turn ≡ s .cache .next
+    part : Part Value
+    says : t .parts ≡ part ∷ s .parts
+    exchange : part .exchange ≡ s .cache .exchange
+    turn : part .turn ≡ s .cache .next
 
   module _ (node : Node Value) (s : System Value) (h : Inv node s) (v : Open s) (er : s .cache .reading ≡ true) (n : ℕ) (stores : List (Store Value)) where
     -- the server is in the cache's exchange: the kept reply is a report
@@ -155,13 +155,13 @@ module _ {Value : Type 0} where
       where
         go : Holds (s .messages) (s .row) → Answer s (sendAgain s)
         go (unused z) = absurd (omega (arith, v .exchange er))
-        go (report p a b c d) = record { p = p; says = rw a; exchange = b ∙ e; turn = c ∙ k }
+        go (report p a b c d) = record { part = p; says = rw a; exchange = b ∙ e; turn = c ∙ k }
         go (stored i) = absurd (omega (arith, v .messages _ i er))
 
     first-says : (filters : List Filter) → s .cache .next ≡ 1 → Answer s (serve node s (read (s .cache .exchange) filters) n stores)
     unfolding serve send partOf
     first-says filters z =
-        by-cond (Answer s) (ltb (s .row .exchange) (s .cache .exchange)) (λ t. record { p = _; says = refl; exchange = refl; turn = sym z }) (λ t. old (nltb→le (s .row .exchange) (s .cache .exchange) t))
+        by-cond (Answer s) (ltb (s .row .exchange) (s .cache .exchange)) (λ t. record { part = _; says = refl; exchange = refl; turn = sym z }) (λ t. old (nltb→le (s .row .exchange) (s .cache .exchange) t))
       where
         old : s .cache .exchange ≤ s .row .exchange → Answer s (repeated s (s .cache .exchange))
         old l =
@@ -197,7 +197,7 @@ module _ {Value : Type 0} where
             by-yes (Answer s) (eqb (s .cache .exchange) (s .row .exchange) && not (s .row .closed)) _ _ (T-and (eqb (s .cache .exchange) (s .row .exchange)) (not (s .row .closed)) (eqb-of (s .cache .exchange) (s .row .exchange) (sym e)) (not-closed (s .row .closed) (v .opened)))
             (by-cond (Answer s) (eqb (suc t) (s .row .turn) && ltb 0 t)
             (λ a. again-says e (sym (eqb→eq (suc t) (s .row .turn) (and-l (eqb (suc t) (s .row .turn)) (ltb 0 t) a)) ∙ sym z))
-            (λ a. by-yes (Answer s) (eqb t (s .row .turn) && s .row .more) _ _ (T-and (eqb t (s .row .turn)) (s .row .more) (eqb-of t (s .row .turn) (sym (same a))) (more a)) record { p = _; says = refl; exchange = refl; turn = omega (arith, same a) }))
+            (λ a. by-yes (Answer s) (eqb t (s .row .turn) && s .row .more) _ _ (T-and (eqb t (s .row .turn)) (s .row .more) (eqb-of t (s .row .turn) (sym (same a))) (more a)) record { part = _; says = refl; exchange = refl; turn = omega (arith, same a) }))
           where
             e : s .row .exchange ≡ s .cache .exchange
             e = omega (arith, v .last, h .sent m i .begun)
@@ -223,13 +223,13 @@ module _ {Value : Type 0} where
 
   -- the message asks for the part that the cache awaits
   abbrev Wants : Cache Value → Message → Type 0
-  Wants c (read x fs) = (x ≡ c .exchange) × (c .next ≡ 1)
+  Wants c (read x filters) = (x ≡ c .exchange) × (c .next ≡ 1)
   Wants c (write x) = ⊥
   Wants c (success x k) = (x ≡ c .exchange) × (c .next ≡ suc k)
   Wants c (failure x k) = ⊥
 
   wants-same : (c d : Cache Value) → c .exchange ≡ d .exchange → c .next ≡ d .next → (m : Message) → Wants c m → Wants d m
-  wants-same c d e f (read x fs) w = (w .0 ∙ e, sym f ∙ w .1)
+  wants-same c d e f (read x filters) w = (w .0 ∙ e, sym f ∙ w .1)
   wants-same c d e f (write x) w = w
   wants-same c d e f (success x k) w = (w .0 ∙ e, sym f ∙ w .1)
   wants-same c d e f (failure x k) w = w
@@ -254,7 +254,7 @@ module _ {Value : Type 0} where
       go r (inr b) = hears-sent node p m b
 
   of-answer : (s t : System Value) → Answer s t → Answered (s .cache) t
-  of-answer s t a = (a .p, subst (λ (ps : List (Part Value)). List·Memᴰ (a .p) ps) (sym (a .says)) (List·Memᴰ·head refl), a .exchange, a .turn)
+  of-answer s t a = (a .part, subst (λ (ps : List (Part Value)). List·Memᴰ (a .part) ps) (sym (a .says)) (List·Memᴰ·head refl), a .exchange, a .turn)
 
   -- the message that the cache waits on gets the part it awaits
   hears-answered : (node : Node Value) {s t : System Value} → Reach node s → s .cache .reading ≡ true → (p : Step node s t) (m : Message) → Hears m p → Wants (s .cache) m → Answered (s .cache) t
@@ -264,7 +264,7 @@ module _ {Value : Type 0} where
   hears-answered node {s} r er (serves m′ n stores i) m h wanted = of-answer s (serve node s m′ n stores) (go m′ i (subst (λ (u : Message). Wants (s .cache) u) (sym h) wanted))
     where
       go : (u : Message) → List·Memᴰ u (s .messages) → Wants (s .cache) u → Answer s (serve node s u n stores)
-      go (read x fs) j w = subst (λ (x : ℕ). Answer s (serve node s (read x fs) n stores)) (sym (w .0)) (first-says node s (reach-inv node r) (reach-open node r) er n stores fs (w .1))
+      go (read x filters) j w = subst (λ (x : ℕ). Answer s (serve node s (read x filters) n stores)) (sym (w .0)) (first-says node s (reach-inv node r) (reach-open node r) er n stores filters (w .1))
       go (write x) j w = absurd w
       go (success x k) j w =
           subst (λ (x : ℕ). Answer s (serve node s (success x k) n stores)) (sym (w .0))
@@ -274,7 +274,7 @@ module _ {Value : Type 0} where
 
   -- a message that was sent and asks for a part later on asks for it now
   same-next : (s : System Value) → Open s → (c : Cache Value) → c .exchange ≡ s .cache .exchange → s .cache .next ≤ c .next → (m : Message) → List·Memᴰ m (s .messages) → Wants c m → c .next ≡ s .cache .next
-  same-next s v c e l (read x fs) i w = omega (arith, w .1, v .one)
+  same-next s v c e l (read x filters) i w = omega (arith, w .1, v .one)
   same-next s v c e l (write x) i w = absurd w
   same-next s v c e l (success x k) i w = omega (arith, w .1, v .messages (success x k) i .0 (w .0 ∙ e))
   same-next s v c e l (failure x k) i w = absurd w

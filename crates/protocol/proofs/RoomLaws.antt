@@ -53,7 +53,7 @@ module _ {Value : Type 0} where
 
   served-cache : (node : Node Value) {s t : System Value} → Served node s t → t .cache ≡ s .cache
   unfolding send sendAgain written close
-  served-cache node (begin x fs n l i) = refl
+  served-cache node (begin x filters n l i) = refl
   served-cache node (next x n e i g) = refl
   served-cache node again = refl
   served-cache node {s} (storing x stores l i) = stores-cache s stores
@@ -63,7 +63,7 @@ module _ {Value : Type 0} where
   step-unique : (node : Node Value) {s t : System Value} → Step node s t → Unique (s .cache .entries) → Unique (t .cache .entries)
   unfolding change beginRead beginWrite receive accept
   step-unique node (changes c a w) u = u
-  step-unique node (beginsRead fs f) u = u
+  step-unique node (beginsRead filters f) u = u
   step-unique node beginsWrite u = u
   step-unique node {s} (serves m n stores i) u = rw (served-cache node (served node s m n stores i)) u
   step-unique node {s} (receives m i) u = by-cond (λ (t : System Value). Unique (t .cache .entries)) (awaited (s .cache) m) (λ t. set-unique (m .entries) (s .cache .entries) u) (λ t. u)

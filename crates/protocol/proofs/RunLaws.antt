@@ -17,7 +17,7 @@ use Rattle.protocol.proofs.OpenLaws.{Served, served, begin, next, again
 module _ {Value : Type 0} where
   served-grows : (node : Node Value) {s t : System Value} → Served node s t → Grown (s .clusters) (t .clusters)
   unfolding send sendAgain written close
-  served-grows node {s} (begin x fs n l i) = still (s .clusters)
+  served-grows node {s} (begin x filters n l i) = still (s .clusters)
   served-grows node {s} (next x n e i g) = still (s .clusters)
   served-grows node {s} again = still (s .clusters)
   served-grows node {s} (storing x stores l i) = stores-grow s stores
@@ -137,10 +137,10 @@ module _ {Value : Type 0} where
       }
 
   -- a part shows what is held when it is made
-  part-shows : (clusters : ℕ → Cluster Value) (x k : ℕ) (l : List Place) (fs : List Filter) (since : ℕ → ℕ) (n : ℕ) (e : Entry Value)
-      → List·Memᴰ e ((partOf clusters x k l fs since n) .entries) → e ≡ entryAt clusters (e .place)
+  part-shows : (clusters : ℕ → Cluster Value) (x k : ℕ) (l : List Place) (filters : List Filter) (since : ℕ → ℕ) (n : ℕ) (e : Entry Value)
+      → List·Memᴰ e ((partOf clusters x k l filters since n) .entries) → e ≡ entryAt clusters (e .place)
   unfolding partOf
-  part-shows clusters x k l fs since n = all-map (λ (e : Entry Value). e ≡ entryAt clusters (e .place)) (entryAt clusters) (reported (skips fs clusters) n l) (λ w. refl)
+  part-shows clusters x k l filters since n = all-map (λ (e : Entry Value). e ≡ entryAt clusters (e .place)) (entryAt clusters) (reported (skips filters clusters) n l) (λ w. refl)
 
   -- a part that fits was not sent before
   fits-new : (node : Node Value) (s : System Value) (m : Part Value) → Fits node s m → List·Memᴰ m (s .parts) → ⊥
@@ -148,10 +148,10 @@ module _ {Value : Type 0} where
 
   trail-served : (node : Node Value) {s t : System Value} (run : Reach node s) (p : Step node s t) → Served node s t → Trail node run → Trail node (then run p)
   unfolding send sendAgain written close partOf
-  trail-served node {s} run p (begin x fs n l i) h =
+  trail-served node {s} run p (begin x filters n l i) h =
       makes node run _ p record { at = s; next = _; passes = inr (refl, refl); before = l; after = refl } refl refl
-      (part-shows (s .clusters) x 1 (node .readable) fs (changesOf (s .clusters)) n)
-      (fits-new node s _ (new-fits node s x fs n (reach-inv node run) i l)) h
+      (part-shows (s .clusters) x 1 (node .readable) filters (changesOf (s .clusters)) n)
+      (fits-new node s _ (new-fits node s x filters n (reach-inv node run) i l)) h
   trail-served node {s} run p (next x n e i g) h =
       let k : (t : Taking run x) × (s .row .since ≡ changesOf (t .at .clusters)) = rw e (h .row g) in
       makes node run _ p (later-taking node run p x (k .0)) (k .1) refl

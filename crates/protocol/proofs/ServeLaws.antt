@@ -25,9 +25,9 @@ mem-length {ℓ} : {A : Type ℓ} (l : List A) (x : A) → List·Memᴰ x l → 
 mem-length [] x i = absurd (List·Memᴰ·not-nil i)
 mem-length (y ∷ l) x i = omega arith
 
-remaining-size : (sk : Place → Bool) (n : ℕ) (l : List Place) (w : Place) → List·Memᴰ w (remaining sk n l) → suc (length (remaining sk n l)) ≤ length l
-remaining-size sk n [] w i = absurd (List·Memᴰ·not-nil (remaining-in sk n [] w i))
-remaining-size sk n (v ∷ l) w i = omega (arith, remaining-short sk n v l)
+remaining-size : (skip : Place → Bool) (n : ℕ) (l : List Place) (w : Place) → List·Memᴰ w (remaining skip n l) → suc (length (remaining skip n l)) ≤ length l
+remaining-size skip n [] w i = absurd (List·Memᴰ·not-nil (remaining-in skip n [] w i))
+remaining-size skip n (v ∷ l) w i = omega (arith, remaining-short skip n v l)
 
 most-one : (l : List Place) → 1 ≤ mostParts l
 most-one [] = omega arith
@@ -38,12 +38,12 @@ most-all [] = omega arith
 most-all (p ∷ l) = omega arith
 
 module _ {Value : Type 0} where
-  skips-means : (node : Node Value) (clusters : ℕ → Cluster Value) (fs : List Filter) (w : Place) → Counted node clusters → T (skips fs clusters w) → Skipped node fs (changesOf clusters) w
+  skips-means : (node : Node Value) (clusters : ℕ → Cluster Value) (filters : List Filter) (w : Place) → Counted node clusters → T (skips filters clusters w) → Skipped node filters (changesOf clusters) w
   unfolding skips
-  skips-means node clusters fs w h t =
+  skips-means node clusters filters w h t =
       record {
-        some = let q = any-mem has fs (and-l (any has fs) (every fits fs) t) in (q .0, q .1, eqb→eq (q .0 .cluster) (w .cluster) (q .2));
-        all = λ f i e. eqb→eq (f .version) (clusters (w .cluster) .version) (or-not (eqb (f .cluster) (w .cluster)) (eqb (f .version) (clusters (w .cluster) .version)) (every-mem fits fs (and-r (any has fs) (every fits fs) t) f i) (rw e (eqb-refl (w .cluster)))) ∙ h (w .cluster);
+        some = let q = any-mem has filters (and-l (any has filters) (every fits filters) t) in (q .0, q .1, eqb→eq (q .0 .cluster) (w .cluster) (q .2));
+        all = λ f i e. eqb→eq (f .version) (clusters (w .cluster) .version) (or-not (eqb (f .cluster) (w .cluster)) (eqb (f .version) (clusters (w .cluster) .version)) (every-mem fits filters (and-r (any has filters) (every fits filters) t) f i) (rw e (eqb-refl (w .cluster)))) ∙ h (w .cluster);
       }
     where
       has : Filter → Bool
@@ -52,31 +52,31 @@ module _ {Value : Type 0} where
       fits : Filter → Bool
       fits f = not (eqb (f .cluster) (w .cluster)) || eqb (f .version) (clusters (w .cluster) .version)
 
-  pub record Fit (node : Node Value) (clusters : ℕ → Cluster Value) (ups : List Message) (x k : ℕ) (l : List Place) (fs : List Filter) (c0 : ℕ → ℕ) : Type 0 where
+  pub record Fit (node : Node Value) (clusters : ℕ → Cluster Value) (messages : List Message) (x k : ℕ) (l : List Place) (filters : List Filter) (since : ℕ → ℕ) : Type 0 where
     pub on : (w : Place) → List·Memᴰ w l → List·Memᴰ w (node .readable)
-    pub rise : (c : ℕ) → c0 c ≤ clusters c .changes
+    pub rise : (c : ℕ) → since c ≤ clusters c .changes
     pub first : k ≡ 1 → l ≡ node .readable
-    pub asked : List·Memᴰ (read x fs) ups
+    pub asked : List·Memᴰ (read x filters) messages
     pub size : k + length l ≤ suc (length (node .readable))
     pub turn : 1 ≤ k
     pub few : k ≤ mostParts (node .readable)
 
-  module _ (node : Node Value) (clusters : ℕ → Cluster Value) (ups : List Message) (x k : ℕ) (l : List Place) (fs : List Filter) (c0 : ℕ → ℕ) (n : ℕ) (h : Counted node clusters) (f : Fit node clusters ups x k l fs c0) where
-    part-size : (partOf clusters x k l fs c0 n) .more ≡ true → (k + length (remaining (skips fs clusters) n l) ≤ length (node .readable)) × (1 ≤ length (remaining (skips fs clusters) n l))
+  module _ (node : Node Value) (clusters : ℕ → Cluster Value) (messages : List Message) (x k : ℕ) (l : List Place) (filters : List Filter) (since : ℕ → ℕ) (n : ℕ) (h : Counted node clusters) (f : Fit node clusters messages x k l filters since) where
+    part-size : (partOf clusters x k l filters since n) .more ≡ true → (k + length (remaining (skips filters clusters) n l) ≤ length (node .readable)) × (1 ≤ length (remaining (skips filters clusters) n l))
     unfolding partOf
     part-size e =
-        let q = any-mem (λ w. not (skips fs clusters w)) (remaining (skips fs clusters) n l) (T-of _ e) in
-        let z : suc (length (remaining (skips fs clusters) n l)) ≤ length l = remaining-size (skips fs clusters) n l (q .0) (q .1) in
+        let q = any-mem (λ w. not (skips filters clusters w)) (remaining (skips filters clusters) n l) (T-of _ e) in
+        let z : suc (length (remaining (skips filters clusters) n l)) ≤ length l = remaining-size (skips filters clusters) n l (q .0) (q .1) in
         (omega (arith, f .size), mem-length _ (q .0) (q .1))
 
-    part-ok : PartOk node clusters ups (partOf clusters x k l fs c0 n)
+    part-ok : PartOk node clusters messages (partOf clusters x k l filters since n)
     unfolding partOf
     part-ok =
         record {
-          on = map-from (λ (e : Entry Value). List·Memᴰ (e .place) (node .readable)) (entryAt clusters) (reported sk n l) (λ w i. f .on w (reported-in sk n l w i));
-          vers = all-map (λ (e : Entry Value). e .version ≡ versionAfter node (e .place .cluster) (clusters (e .place .cluster) .changes)) (entryAt clusters) (reported sk n l) (λ w. h (w .cluster));
-          cover = λ w i. go w (fate sk n l w i);
-          last = λ e w i. skips-means node clusters fs w h (not-not (sk w) (none-mem (λ v. not (sk v)) (remaining sk n l) (not-of _ e) w i));
+          on = map-from (λ (e : Entry Value). List·Memᴰ (e .place) (node .readable)) (entryAt clusters) (reported skip n l) (λ w i. f .on w (reported-in skip n l w i));
+          versions = all-map (λ (e : Entry Value). e .version ≡ versionAfter node (e .place .cluster) (clusters (e .place .cluster) .changes)) (entryAt clusters) (reported skip n l) (λ w. h (w .cluster));
+          cover = λ w i. go w (fate skip n l w i);
+          last = λ e w i. skips-means node clusters filters w h (not-not (skip w) (none-mem (λ v. not (skip v)) (remaining skip n l) (not-of _ e) w i));
           rise = f .rise;
           now = λ c. omega arith;
           first = f .first;
@@ -86,13 +86,13 @@ module _ {Value : Type 0} where
           few = f .few;
         }
       where
-        sk : Place → Bool
-        sk = skips fs clusters
+        skip : Place → Bool
+        skip = skips filters clusters
 
-        go : (w : Place) → Fate sk n l w → Gone node (partOf clusters x k l fs c0 n) w
-        go w (went i) = told (entryAt clusters w, map-mem (entryAt clusters) (reported sk n l) w i, refl)
+        go : (w : Place) → Fate skip n l w → Gone node (partOf clusters x k l filters since n) w
+        go w (went i) = told (entryAt clusters w, map-mem (entryAt clusters) (reported skip n l) w i, refl)
         go w (stays i) = waits i
-        go w (skipped t) = passed (skips-means node clusters fs w h t)
+        go w (skipped t) = passed (skips-means node clusters filters w h t)
 
   -- the part m goes on from what was sent
   pub record Fits (node : Node Value) (s : System Value) (m : Part Value) : Type 0 where
@@ -198,23 +198,23 @@ module _ {Value : Type 0} where
   repeated-keeps : (node : Node Value) (s : System Value) (x : ℕ) → Inv node s → Inv node (repeated s x)
   repeated-keeps node s x h = by-cond (Inv node) (eqb x (s .row .exchange) && eqb (s .row .turn) 1 && not (s .row .closed)) (λ t. again-keeps node s h) (λ t. h)
 
-  pub new-fits : (node : Node Value) (s : System Value) (x : ℕ) (fs : List Filter) (n : ℕ) → Inv node s → List·Memᴰ (read x fs) (s .messages) → s .row .exchange < x → Fits node s (partOf (s .clusters) x 1 (node .readable) fs (changesOf (s .clusters)) n)
+  pub new-fits : (node : Node Value) (s : System Value) (x : ℕ) (filters : List Filter) (n : ℕ) → Inv node s → List·Memᴰ (read x filters) (s .messages) → s .row .exchange < x → Fits node s (partOf (s .clusters) x 1 (node .readable) filters (changesOf (s .clusters)) n)
   unfolding partOf
-  new-fits node s x fs n h i l =
+  new-fits node s x filters n h i l =
       record {
-        ok = part-ok node (s .clusters) (s .messages) x 1 (node .readable) fs (changesOf (s .clusters)) n (h .clusters) fit;
+        ok = part-ok node (s .clusters) (s .messages) x 1 (node .readable) filters (changesOf (s .clusters)) n (h .clusters) fit;
         newer = omega arith;
         before = λ m i e. absurd (omega (arith, h .sent m i .begun));
         follows = λ m i e. absurd (omega (arith, h .sent m i .begun));
         since = λ m i e. absurd (omega (arith, h .sent m i .begun));
-        ahead = remaining-in (skips fs (s .clusters)) n (node .readable);
-        size = λ e. part-size node (s .clusters) (s .messages) x 1 (node .readable) fs (changesOf (s .clusters)) n (h .clusters) fit e .0;
+        ahead = remaining-in (skips filters (s .clusters)) n (node .readable);
+        size = λ e. part-size node (s .clusters) (s .messages) x 1 (node .readable) filters (changesOf (s .clusters)) n (h .clusters) fit e .0;
         turn = omega arith;
-        some = λ e. part-size node (s .clusters) (s .messages) x 1 (node .readable) fs (changesOf (s .clusters)) n (h .clusters) fit e .1;
+        some = λ e. part-size node (s .clusters) (s .messages) x 1 (node .readable) filters (changesOf (s .clusters)) n (h .clusters) fit e .1;
         rise = λ c. omega arith;
       }
     where
-      fit : Fit node (s .clusters) (s .messages) x 1 (node .readable) fs (changesOf (s .clusters))
+      fit : Fit node (s .clusters) (s .messages) x 1 (node .readable) filters (changesOf (s .clusters))
       fit = record { on = λ w i. i; rise = λ c. omega arith; first = λ e. refl; asked = i; size = omega arith; turn = omega arith; few = most-one (node .readable) }
 
   pub next-fits : (node : Node Value) (s : System Value) (x n : ℕ) → Inv node s → x ≡ s .row .exchange → s .row .more ≡ true
@@ -239,8 +239,8 @@ module _ {Value : Type 0} where
 
   pub serve-keeps : (node : Node Value) (s : System Value) (m : Message) (n : ℕ) (stores : List (Store Value)) → List·Memᴰ m (s .messages) → Inv node s → Inv node (serve node s m n stores)
   unfolding serve
-  serve-keeps node s (read x fs) n stores i h =
-      by-cond (Inv node) (ltb (s .row .exchange) x) (λ t. send-keeps node s _ h (new-fits node s x fs n h i (ltb→lt (s .row .exchange) x t))) (λ t. repeated-keeps node s x h)
+  serve-keeps node s (read x filters) n stores i h =
+      by-cond (Inv node) (ltb (s .row .exchange) x) (λ t. send-keeps node s _ h (new-fits node s x filters n h i (ltb→lt (s .row .exchange) x t))) (λ t. repeated-keeps node s x h)
   serve-keeps node s (write x) n stores i h =
       by-cond (Inv node) (ltb (s .row .exchange) x) (λ t. written-keeps node (storeAll s stores) x (rw stores-row (ltb→lt (s .row .exchange) x t)) (stores-keep node s stores h)) (λ t. repeated-keeps node s x h)
   serve-keeps node s (success x t) n stores i h =

@@ -89,62 +89,62 @@ none-mem f [] t = λ x i. absurd (List·Memᴰ·not-nil i)
 none-mem f (y ∷ ys) t = all-cons (λ x. T (not (f x))) (not-or (f y) (any f ys) t .0) (none-mem f ys (not-or (f y) (any f ys) t .1))
 
 -- what a part reports and leaves ahead
-module _ (sk : Place → Bool) where
-  pub reported-in : (n : ℕ) (l : List Place) (w : Place) → List·Memᴰ w (reported sk n l) → List·Memᴰ w l
+module _ (skip : Place → Bool) where
+  pub reported-in : (n : ℕ) (l : List Place) (w : Place) → List·Memᴰ w (reported skip n l) → List·Memᴰ w l
   unfolding reported
   reported-in n [] w i = i
-  reported-in zero (v ∷ ws) w i = bool-cases (sk v) (λ t. List·Memᴰ·tail (reported-in zero ws w (rw (T-true (sk v) t) at i))) (λ t. one (rw (T-false (sk v) t) at i))
+  reported-in zero (v ∷ ws) w i = bool-cases (skip v) (λ t. List·Memᴰ·tail (reported-in zero ws w (rw (T-true (skip v) t) at i))) (λ t. one (rw (T-false (skip v) t) at i))
     where
       one : List·Memᴰ w (v ∷ []) → List·Memᴰ w (v ∷ ws)
       one (List·Memᴰ·head e) = List·Memᴰ·head e
       one (List·Memᴰ·tail j) = absurd (List·Memᴰ·not-nil j)
-  reported-in (suc n) (v ∷ ws) w i = bool-cases (sk v) (λ t. List·Memᴰ·tail (reported-in (suc n) ws w (rw (T-true (sk v) t) at i))) (λ t. go (reported-in n ws w) (rw (T-false (sk v) t) at i))
+  reported-in (suc n) (v ∷ ws) w i = bool-cases (skip v) (λ t. List·Memᴰ·tail (reported-in (suc n) ws w (rw (T-true (skip v) t) at i))) (λ t. go (reported-in n ws w) (rw (T-false (skip v) t) at i))
     where
-      go : (List·Memᴰ w (reported sk n ws) → List·Memᴰ w ws) → List·Memᴰ w (v ∷ reported sk n ws) → List·Memᴰ w (v ∷ ws)
+      go : (List·Memᴰ w (reported skip n ws) → List·Memᴰ w ws) → List·Memᴰ w (v ∷ reported skip n ws) → List·Memᴰ w (v ∷ ws)
       go r (List·Memᴰ·head e) = List·Memᴰ·head e
       go r (List·Memᴰ·tail j) = List·Memᴰ·tail (r j)
 
-  pub remaining-in : (n : ℕ) (l : List Place) (w : Place) → List·Memᴰ w (remaining sk n l) → List·Memᴰ w l
+  pub remaining-in : (n : ℕ) (l : List Place) (w : Place) → List·Memᴰ w (remaining skip n l) → List·Memᴰ w l
   unfolding remaining
   remaining-in n [] w i = i
-  remaining-in zero (v ∷ ws) w i = bool-cases (sk v) (λ t. List·Memᴰ·tail (remaining-in zero ws w (rw (T-true (sk v) t) at i))) (λ t. List·Memᴰ·tail (rw (T-false (sk v) t) at i))
-  remaining-in (suc n) (v ∷ ws) w i = bool-cases (sk v) (λ t. List·Memᴰ·tail (remaining-in (suc n) ws w (rw (T-true (sk v) t) at i))) (λ t. List·Memᴰ·tail (remaining-in n ws w (rw (T-false (sk v) t) at i)))
+  remaining-in zero (v ∷ ws) w i = bool-cases (skip v) (λ t. List·Memᴰ·tail (remaining-in zero ws w (rw (T-true (skip v) t) at i))) (λ t. List·Memᴰ·tail (rw (T-false (skip v) t) at i))
+  remaining-in (suc n) (v ∷ ws) w i = bool-cases (skip v) (λ t. List·Memᴰ·tail (remaining-in (suc n) ws w (rw (T-true (skip v) t) at i))) (λ t. List·Memᴰ·tail (remaining-in n ws w (rw (T-false (skip v) t) at i)))
 
-  pub remaining-short : (n : ℕ) (w : Place) (ws : List Place) → length (remaining sk n (w ∷ ws)) ≤ length ws
+  pub remaining-short : (n : ℕ) (w : Place) (ws : List Place) → length (remaining skip n (w ∷ ws)) ≤ length ws
   unfolding remaining
-  remaining-short zero w [] = by-cond (λ (l : List Place). length l ≤ 0) (sk w) (λ t. omega arith) (λ t. omega arith)
-  remaining-short (suc n) w [] = by-cond (λ (l : List Place). length l ≤ 0) (sk w) (λ t. omega arith) (λ t. omega arith)
-  remaining-short zero w (v ∷ ws) = by-cond (λ (l : List Place). length l ≤ suc (length ws)) (sk w) (λ t. omega (arith, remaining-short zero v ws)) (λ t. omega arith)
-  remaining-short (suc n) w (v ∷ ws) = by-cond (λ (l : List Place). length l ≤ suc (length ws)) (sk w) (λ t. omega (arith, remaining-short (suc n) v ws)) (λ t. omega (arith, remaining-short n v ws))
+  remaining-short zero w [] = by-cond (λ (l : List Place). length l ≤ 0) (skip w) (λ t. omega arith) (λ t. omega arith)
+  remaining-short (suc n) w [] = by-cond (λ (l : List Place). length l ≤ 0) (skip w) (λ t. omega arith) (λ t. omega arith)
+  remaining-short zero w (v ∷ ws) = by-cond (λ (l : List Place). length l ≤ suc (length ws)) (skip w) (λ t. omega (arith, remaining-short zero v ws)) (λ t. omega arith)
+  remaining-short (suc n) w (v ∷ ws) = by-cond (λ (l : List Place). length l ≤ suc (length ws)) (skip w) (λ t. omega (arith, remaining-short (suc n) v ws)) (λ t. omega (arith, remaining-short n v ws))
 
   pub data Fate (n : ℕ) (l : List Place) (w : Place) : Type 0 where
-    went : List·Memᴰ w (reported sk n l) → Fate n l w
-    stays : List·Memᴰ w (remaining sk n l) → Fate n l w
-    skipped : T (sk w) → Fate n l w
+    went : List·Memᴰ w (reported skip n l) → Fate n l w
+    stays : List·Memᴰ w (remaining skip n l) → Fate n l w
+    skipped : T (skip w) → Fate n l w
 
   pub fate : (n : ℕ) (l : List Place) (w : Place) → List·Memᴰ w l → Fate n l w
   unfolding reported remaining
   fate n [] w i = absurd (List·Memᴰ·not-nil i)
   fate zero (v ∷ ws) w (List·Memᴰ·head e) =
-      bool-cases (sk v) (λ t. skipped (rw e t)) (λ t. went (rw (T-false (sk v) t) (List·Memᴰ·head e)))
+      bool-cases (skip v) (λ t. skipped (rw e t)) (λ t. went (rw (T-false (skip v) t) (List·Memᴰ·head e)))
   fate zero (v ∷ ws) w (List·Memᴰ·tail i) =
-      bool-cases (sk v) (λ t. go (T-true (sk v) t) (fate zero ws w i)) (λ t. stays (rw (T-false (sk v) t) i))
+      bool-cases (skip v) (λ t. go (T-true (skip v) t) (fate zero ws w i)) (λ t. stays (rw (T-false (skip v) t) i))
     where
-      go : sk v ≡ true → Fate zero ws w → Fate zero (v ∷ ws) w
+      go : skip v ≡ true → Fate zero ws w → Fate zero (v ∷ ws) w
       go e (went j) = went (rw e j)
       go e (stays j) = stays (rw e j)
       go e (skipped t) = skipped t
   fate (suc n) (v ∷ ws) w (List·Memᴰ·head e) =
-      bool-cases (sk v) (λ t. skipped (rw e t)) (λ t. went (rw (T-false (sk v) t) (List·Memᴰ·head e)))
+      bool-cases (skip v) (λ t. skipped (rw e t)) (λ t. went (rw (T-false (skip v) t) (List·Memᴰ·head e)))
   fate (suc n) (v ∷ ws) w (List·Memᴰ·tail i) =
-      bool-cases (sk v) (λ t. go (T-true (sk v) t) (fate (suc n) ws w i)) (λ t. on (T-false (sk v) t) (fate n ws w i))
+      bool-cases (skip v) (λ t. go (T-true (skip v) t) (fate (suc n) ws w i)) (λ t. on (T-false (skip v) t) (fate n ws w i))
     where
-      go : sk v ≡ true → Fate (suc n) ws w → Fate (suc n) (v ∷ ws) w
+      go : skip v ≡ true → Fate (suc n) ws w → Fate (suc n) (v ∷ ws) w
       go e (went j) = went (rw e j)
       go e (stays j) = stays (rw e j)
       go e (skipped t) = skipped t
 
-      on : sk v ≡ false → Fate n ws w → Fate (suc n) (v ∷ ws) w
+      on : skip v ≡ false → Fate n ws w → Fate (suc n) (v ∷ ws) w
       on e (went j) = went (rw e (List·Memᴰ·tail j))
       on e (stays j) = stays (rw e j)
       on e (skipped t) = skipped t
