@@ -5,17 +5,16 @@ use mathlib.Core.List.{List·Memᴰ}
 use Prim.Native.Nat.{ℕ, _^_, _<_}
 use native.Mathlib.Omega.{arith}
 use lib.Dec.{T, eqb→eq}
-use Rattle.protocol.specs.Model.{Place, Entry, Node, Cluster, Part, System, awaited, receive, CoherentIn}
-use Rattle.protocol.specs.Steps.{Reach, Visits}
-use Rattle.protocol.specs.Claims.{Exact, FirstHalf, Progress, Settled}
+use Rattle.protocol.specs.Model.{Place, Entry, Node, Cluster, Part, Cache, System, awaited, receive, CoherentIn}
+use Rattle.protocol.specs.Steps.{Reach, join, Visits}
+use Rattle.protocol.specs.Claims.{Exact, FirstHalf, Ended, Progress, Settled, SecondHalf}
 use Rattle.protocol.proofs.VersionLaws.{wrap-inj}
 use Rattle.protocol.proofs.SmallLaws.{and-l, and-r, T-true}
 use Rattle.protocol.proofs.Invariant.{versionAfter}
-use Rattle.protocol.proofs.ChangeLaws.{still}
 use Rattle.protocol.proofs.CacheLaws.{coherent-then}
 use Rattle.protocol.proofs.Inductive.{reach-inv}
 use Rattle.protocol.proofs.RunLaws.{visits-grow, visits-same, visits-reach, passes-visits, Source, Birth, trail}
-use Rattle.protocol.proofs.ProgressLaws.{read-ends}
+use Rattle.protocol.proofs.ProgressLaws.{run-reach, calm-parts, read-ends}
 
 module _ {Value : Type 0} (node : Node Value) {s : System Value} (run : Reach node s) where
   counted : (u : System Value) → Visits run u → (c : ℕ) → u .clusters c .version ≡ versionAfter node c (u .clusters c .changes)
@@ -68,6 +67,19 @@ module _ {Value : Type 0} (node : Node Value) (s : System Value) (run : Reach no
       rw (T-true (awaited (s .cache) m) t)
       (coherent-then node s m (reach-inv node run) i (search (and-l, and-r, eqb→eq)) (search (and-l, and-r, eqb→eq)) (search (and-r, T-true)) e p j q)
 
+-- a cluster that did not change between the taking and the making, by the part's own counts; and its version
+module _ {Value : Type 0} (node : Node Value) {s : System Value} (run : Reach node s) (m : Part Value) (b : Birth node run m) (c : ℕ) (q : b .taking .at .clusters c .changes ≡ b .making .at .clusters c .changes) where
+  birth-made : m .made c ≡ b .making .at .clusters c .changes
+  birth-made = ap (λ (f : ℕ → ℕ). f c) (b .made)
+
+  birth-still : m .since c ≡ m .made c
+  birth-still = ap (λ (f : ℕ → ℕ). f c) (b .since) ∙ q ∙ sym birth-made
+
+  birth-version : versionAfter node c (m .since c) ≡ b .making .at .clusters c .version
+  birth-version =
+      ap (λ (n : ℕ). versionAfter node c n) (birth-still ∙ birth-made)
+      ∙ sym (reach-inv node (visits-reach node run (b .making .at) (passes-visits node run (b .making .at) (b .making .next) (b .making .passes))) .clusters c)
+
 pub settled : Settled
 settled Value node s run m i t e = (b .taking, b .making, λ p j q. go p j q)
   where
@@ -76,15 +88,26 @@ settled Value node s run m i t e = (b .taking, b .making, λ p j q. go p j q)
 
     go : (p : Place) → List·Memᴰ p (node .readable) → b .taking .at .clusters (p .cluster) .changes ≡ b .making .at .clusters (p .cluster) .changes
         → CoherentIn ((receive s m) .cache) (p .cluster) (b .making .at .clusters (p .cluster) .version)
-    go p j q = subst (λ (n : ℕ). CoherentIn ((receive s m) .cache) (p .cluster) n) version (settles node s run m i t e p j still)
-      where
-        made : m .made (p .cluster) ≡ b .making .at .clusters (p .cluster) .changes
-        made = ap (λ (f : ℕ → ℕ). f (p .cluster)) (b .made)
+    go p j q =
+        subst (λ (n : ℕ). CoherentIn ((receive s m) .cache) (p .cluster) n) (birth-version node run m b (p .cluster) q)
+        (settles node s run m i t e p j (birth-still node run m b (p .cluster) q))
 
-        still : m .since (p .cluster) ≡ m .made (p .cluster)
-        still = ap (λ (f : ℕ → ℕ). f (p .cluster)) (b .since) ∙ q ∙ sym made
+-- the two halves of the second half, joined at the part that was taken
+pub second-half : SecondHalf
+second-half Value node s t reach reading run calm arrived = (k .part, k .own, k .last, b .taking, b .making, λ p j q. go p j q)
+  where
+    k : Ended run
+    k = read-ends node reach reading run calm arrived
 
-        version : versionAfter node (p .cluster) (m .since (p .cluster)) ≡ b .making .at .clusters (p .cluster) .version
-        version =
-            ap (λ (n : ℕ). versionAfter node (p .cluster) n) (still ∙ made)
-            ∙ sym (reach-inv node (visits-reach node run (b .making .at) (passes-visits node run (b .making .at) (b .making .next) (b .making .passes))) .clusters (p .cluster))
+    seen : Visits run (k .at)
+    seen = passes-visits node run (k .at) (receive (k .at) (k .part)) (k .passes)
+
+    b : Birth node (join reach run) (k .part)
+    b = trail node (join reach run) .parts (k .part) (calm-parts node run calm (k .at) seen (k .part) (k .sent))
+
+    go : (p : Place) → List·Memᴰ p (node .readable) → b .taking .at .clusters (p .cluster) .changes ≡ b .making .at .clusters (p .cluster) .changes
+        → CoherentIn (t .cache) (p .cluster) (b .making .at .clusters (p .cluster) .version)
+    go p j q =
+        subst (λ (c : Cache Value). CoherentIn c (p .cluster) (b .making .at .clusters (p .cluster) .version)) (sym (k .stays))
+        (subst (λ (n : ℕ). CoherentIn ((receive (k .at) (k .part)) .cache) (p .cluster) n) (birth-version node (join reach run) (k .part) b (p .cluster) q)
+        (settles node (k .at) (run-reach node reach run (k .at) seen) (k .part) (k .sent) (k .wanted) (k .last) p j (birth-still node (join reach run) (k .part) b (p .cluster) q)))

@@ -7,7 +7,7 @@ use Prim.Native.Nat.{ℕ, suc, _≤_, _<_}
 use native.Mathlib.Omega.{arith}
 use lib.Dec.{T, T-not, eqb, ltb, eqb→eq, eqb-refl, lt→ltb, nltb→le}
 use Rattle.protocol.specs.Model.{Filter, Node, Message, read, write, success, failure, Part, Cache, System, Store, exchangeOf, partOf, send, sendAgain, close, change, written, repeated, serve, accept, awaited, receive}
-use Rattle.protocol.specs.Steps.{Step, changes, beginsRead, beginsWrite, serves, receives, Run, none, then, Reach, Quiet, Calm, Hears, Heard, Gets, Got}
+use Rattle.protocol.specs.Steps.{Step, changes, beginsRead, beginsWrite, serves, receives, Run, none, then, Reach, join, Visits, Quiet, Calm, Hears, Heard, Gets, Got}
 use Rattle.protocol.specs.Claims.{Arrived, Ended}
 use Rattle.protocol.proofs.SmallLaws.{by-cond, and-l, and-r, T-true, T-of, stays}
 use Rattle.protocol.proofs.Invariant.{Reading, Inv, fresh, behind}
@@ -136,9 +136,22 @@ module _ {Value : Type 0} where
   on-run node none c = record { exchange = refl; ended = λ a b. absurd (true≢false (sym a ∙ b)) }
   on-run node (then run p) c = on-then node run p (on-run node run (c .0)) (goes-step node p (c .1))
 
-  pub reach-run : (node : Node Value) {s t : System Value} → Reach node s → Run node s t → Reach node t
-  reach-run node r none = r
-  reach-run node r (then run p) = then (reach-run node r run) p
+  -- each state of a run can be reached, and what it has sent stays sent
+  pub run-reach : (node : Node Value) {s t : System Value} → Reach node s → (run : Run node s t) (u : System Value) → Visits run u → Reach node u
+  run-reach node r none u e = subst (λ (x : System Value). Reach node x) (sym e) r
+  run-reach node {s} {t} r (then run p) u v = go (run-reach node r run u) v
+    where
+      go : (Visits run u → Reach node u) → Visits run u ⊎ (u ≡ t) → Reach node u
+      go known (inl a) = known a
+      go known (inr e) = subst (λ (x : System Value). Reach node x) (sym e) (then (join r run) p)
+
+  pub calm-parts : (node : Node Value) {s t : System Value} (run : Run node s t) → Calm run → (u : System Value) → Visits run u → More (u .parts) (t .parts)
+  calm-parts node {s} none c u e = subst (λ (x : System Value). More (x .parts) (s .parts)) (sym e) (λ m i. i)
+  calm-parts node {s} {t} (then {t = t′} run p) c u v = go (calm-parts node run (c .0) u) v
+    where
+      go : (Visits run u → More (u .parts) (t′ .parts)) → Visits run u ⊎ (u ≡ t) → More (u .parts) (t .parts)
+      go known (inl a) = λ m i. goes-step node p (c .1) .parts m (known a m i)
+      go known (inr e) = subst (λ (x : System Value). More (x .parts) (t .parts)) (sym e) (λ m i. i)
 
   -- what the server says to the newest message of a read
   record Answer (s t : System Value) : Type 0 where
@@ -290,7 +303,7 @@ module _ {Value : Type 0} where
       b = g .back er
 
       r′ : Reach node t′
-      r′ = reach-run node r run
+      r′ = join r run
 
       on : List·Memᴰ m (t′ .messages) → t .cache .next ≡ t′ .cache .next
       on i = same-next t′ (reach-open node r′) (t .cache) (g .exchange) (b .1) m i w
@@ -337,7 +350,7 @@ module _ {Value : Type 0} where
 
       go : (Got q run → q .exchange ≡ t′ .cache .exchange → q .turn < t′ .cache .next) → Got q run ⊎ Gets q p → q .turn < t .cache .next
       go old (inl a) = omega (arith, old a (e ∙ g .exchange), b .1)
-      go old (inr a) = gets-moves node (reach-run node r run) (b .0) p q a (e ∙ g .exchange)
+      go old (inr a) = gets-moves node (join r run) (b .0) p q a (e ∙ g .exchange)
 
   pub read-ends : (node : Node Value) {s t : System Value} → Reach node s → s .cache .reading ≡ true → (run : Run node s t) → Calm run → Arrived run → Ended run
   read-ends node {s} {t} r er run c a = go (t .cache .reading) refl
@@ -346,7 +359,7 @@ module _ {Value : Type 0} where
       o = on-run node run c
 
       open-still : t .cache .reading ≡ true → ⊥
-      open-still e = head (reach-open node (reach-run node r run) .newest e)
+      open-still e = head (reach-open node (join r run) .newest e)
         where
           left : (m : Message) → List·Memᴰ m (t .messages) → exchangeOf m ≡ t .cache .exchange → Wants (t .cache) m → ⊥
           left m i x w =

@@ -1,4 +1,4 @@
--- DEMAND 3, as three statements on every run; `proofs/Main.antt` proves them.
+-- DEMAND 3, as statements on every run; `proofs/Main.antt` proves them.
 use mathlib.Core.Path.{_≡_}
 use mathlib.Core.Bool.{Bool, true, false}
 use mathlib.Core.List.{List, [], _∷_, List·Memᴰ}
@@ -6,7 +6,7 @@ use Prim.Native.Nat.{ℕ, zero, suc, _^_, _<_, _≤_}
 use lib.Dec.{T}
 use lib.ListN.{length}
 use Rattle.protocol.specs.Model.{Place, Entry, Message, exchangeOf, Node, Part, Cache, System, awaited, receive, CoherentIn}
-use Rattle.protocol.specs.Steps.{Run, Reach, Visits, Passes, Calm, Heard, Got}
+use Rattle.protocol.specs.Steps.{Run, Reach, join, Visits, Passes, Calm, Heard, Got}
 
 -- THE FIRST HALF
 
@@ -82,3 +82,14 @@ Settled =
     × ((p : Place) → List·Memᴰ p (node .readable)
     → taking .at .clusters (p .cluster) .changes ≡ making .at .clusters (p .cluster) .changes
     → CoherentIn ((receive s part) .cache) (p .cluster) (making .at .clusters (p .cluster) .version))
+
+-- Both together: once each message and each reply of the read has arrived, every such cluster is coherent.
+abbrev pub SecondHalf : Type 1
+SecondHalf =
+    (Value : Type 0) (node : Node Value) (s t : System Value) (reach : Reach node s) → s .cache .reading ≡ true
+    → (run : Run node s t) → Calm run → Arrived run
+    → (part : Part Value) × (part .exchange ≡ s .cache .exchange) × (part .more ≡ false)
+    × (taking : Taking (join reach run) (part .exchange)) × (making : Making (join reach run) part)
+    × ((p : Place) → List·Memᴰ p (node .readable)
+    → taking .at .clusters (p .cluster) .changes ≡ making .at .clusters (p .cluster) .changes
+    → CoherentIn (t .cache) (p .cluster) (making .at .clusters (p .cluster) .version))

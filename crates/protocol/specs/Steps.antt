@@ -24,6 +24,11 @@ module _ {Value : Type 0} (node : Node Value) where
   Reach s = Run (start node) s
 
 module _ {Value : Type 0} {node : Node Value} where
+  -- one run after another
+  abbrev pub join : {s t u : System Value} → Run node s t → Run node t u → Run node s u
+  join before none = before
+  join before (then run p) = then (join before run) p
+
   -- u is a state of the run
   abbrev pub Visits : {s t : System Value} → Run node s t → System Value → Type 0
   Visits {s} none u = u ≡ s
