@@ -8,16 +8,21 @@ use borrow.Author.Tests.{eq-eqb, ne-eqb, leb-true, ltb-true}
 use lib.Dec.{eqb, leb, ltb}
 use lib.ListN.{length, length-append}
 use Rattle.tlv.specs.Octet.{pick}
+use Rattle.tlv.specs.Decode.Opt.{just}
 use Rattle.tlv.proofs.Picks.{pick-elim}
+use Rattle.members.specs.Scalar.{ABSENT}
+use Rattle.interaction_report.specs.Report.{PartAt}
 use Rattle.blocks.specs.Data.{ReportOf}
 use Rattle.blocks.proofs.BlockLaws.{never}
 use Rattle.schema.proofs.BoolLaws.{left, right, by-test}
 use Rattle.interaction_writer.specs.Envelope.{envelopeOctets}
-use Rattle.interaction_writer.specs.Spelling.{Each}
+use Rattle.interaction_writer.specs.Spelling.{Each, spelling, joined}
 use Rattle.interaction_writer.specs.Block.{Block}
 use Rattle.interaction_writer.proofs.EnvelopeLaws.{length-envelope}
-use Rattle.round_trip.specs.Meant.{reportOctets, Outcome, OutcomeFits, outcomesOctets}
-use Rattle.exchange.specs.Rules.{reportOpcode, writeResponseOpcode}
+use Rattle.interaction_writer.proofs.LengthLaws.{write-status-bound}
+use Rattle.interaction_writer.proofs.MessageLaws.{length-response}
+use Rattle.round_trip.specs.Meant.{reportOctets, Outcome, OutcomeFits, outcomeTree, outcomesOctets}
+use Rattle.exchange.specs.Rules.{reportOpcode, writeResponseOpcode, maxTurn}
 use Rattle.envelope.specs.Envelope.{maxMessage}
 use Rattle.envelope.proofs.BigLaws.{envelope-read}
 use Rattle.cached.specs.declared.Cached.{Cached}
@@ -28,11 +33,11 @@ use Rattle.cache_part.specs.declared.entry.Spot.{Spot}
 use Rattle.cache_part.specs.declared.entry.Spot.the-variants.{At, Full}
 use Rattle.cache_part.specs.declared.entry.Judged.{Judged}
 use Rattle.cache_part.specs.Entry.{spotOf, spotNumber, numberFor, worse}
-use Rattle.cache_part.specs.Part.{blocksIn, fateIn, judgedNext, judgedAll}
+use Rattle.cache_part.specs.Part.{blocksIn, fateIn, judgedNext, judgedAll, heldAll, pageAll}
 use Rattle.cache.specs.declared.State.{State}
 use Rattle.cache.specs.State.{reading, writing, isOpen, askedRight, panelRight}
 use Rattle.cache.specs.Reaction.{Reaction, refusal, unsent}
-use Rattle.cache_receive.specs.Receive.{forCache, opcodeAwaited, awaited, byAnswer, pastTurns, partTaken, takesPart, takes, received}
+use Rattle.cache_receive.specs.Receive.{forCache, opcodeAwaited, awaited, byAnswer, goesOn, ends, pastTurns, partTaken, takesPart, takes, received}
 use Rattle.cache_receive.proofs.ReceiveLaws.{taken-as}
 use Rattle.cache_trip.specs.Taken.{Sent, TakenAs, InStep, anyStatus, OfPath, endedBy}
 use Rattle.cache_trip.proofs.BeginLaws.{after-envelope}
@@ -104,6 +109,24 @@ module _ (l : List Block) (m : Bool) (h : Each Sent l) (page : List ℕ) (s : St
       let (p, here, more, step) = report-taken l m h in
       judged-not-six (reportOctets l m) l (blocksIn (reportOctets l m)) step (record { number = 0; held = s .held }) (λ q. omega (arith, q)) t
 
+  -- where there is room it is taken: with more promised a success is sent, and on the last part the read has ended
+  abbrev held : Cached
+  held = heldAll (reportOctets l m) (s .held) (blocksIn (reportOctets l m))
+
+  abbrev texts : List ℕ
+  texts = pageAll (reportOctets l m) (s .held) page (blocksIn (reportOctets l m))
+
+  part-as : (p : PartAt) (b : Bool) → p .part .more ≡ pick b 1 ABSENT → (b ≡ true → s .asked .turn ≡ maxTurn → ⊥) → judged ≡ 0 → partTaken page s (reportOctets l m) (just p) ≡ pick b (goesOn held (s .asked) texts) (ends held (s .asked) texts)
+  unfolding pastTurns
+  part-as p true e n z = rw (e, ne-eqb (s .asked .turn) maxTurn (n refl), z) refl
+  part-as p false e n z = rw (e, z) refl
+
+  pub part-taken : (m ≡ true → s .asked .turn ≡ maxTurn → ⊥) → judged ≡ 0 → takesPart page s (reportOctets l m) ≡ pick m (goesOn held (s .asked) texts) (ends held (s .asked) texts)
+  unfolding takesPart
+  part-taken n z =
+      let (p, here, more, step) = report-taken l m h in
+      ap (partTaken page s (reportOctets l m)) here ∙ part-as p m more n z
+
 -- THE REPLY AWAITED, in its envelope
 module _ (page : List ℕ) (s : State) (room : ℕ) (valid : panelRight page s ≡ true) (large : maxMessage ≤ room) (turn-fits : s .asked .turn < 2 ^ 16) (payload : List ℕ) (short : length payload ≤ 1024) where
   abbrev reply : ℕ → List ℕ
@@ -129,3 +152,15 @@ module _ (page : List ℕ) (s : State) (room : ℕ) (valid : panelRight page s �
   unfolding takes forCache awaited opcodeAwaited isOpen
   response-received e =
       replied writeResponseOpcode (omega arith) refl (rw (e, eq-eqb (s .asked .exchange) (s .asked .exchange) refl, eq-eqb (s .asked .turn) (s .asked .turn) refl) refl)
+
+-- one status is short
+outcome-short : (o : Outcome) → OutcomeFits o → length (outcomesOctets (o ∷ [])) ≤ 1024
+unfolding joined
+outcome-short o f =
+    let p = f .path-fits in
+    omega (arith, length-response (outcomeTree o ∷ []), length-append (spelling (outcomeTree o)) [], write-status-bound (o .endpoint) (o .cluster) (o .attribute) (p .endpoint-fits) (p .cluster-fits) (p .attribute-fits) (o .code) (f .code-fits))
+
+-- so a write ends with the status that the sign wrote, and nothing else changes
+pub write-ended : (page : List ℕ) (s : State) (room : ℕ) → panelRight page s ≡ true → maxMessage ≤ room → s .asked .turn < 2 ^ 16 → s .asked .stage ≡ writing → (o : Outcome) → OutcomeFits o → OfPath (s .asked) o → received page s (envelopeOctets writeResponseOpcode (s .asked .exchange) (s .asked .turn) ++ outcomesOctets (o ∷ [])) room ≡ unsent (endedBy s (o .code)) page
+write-ended page s room valid large turn-fits e o f p =
+    response-received page s room valid large turn-fits (outcomesOctets (o ∷ [])) (outcome-short o f) e ∙ ap (λ r. unsent r page) (answer-taken s o f p)
