@@ -1,10 +1,9 @@
 -- Runs of wrong ends, which break what is promised: each ends with the cache primed and cluster 0 at one version, though its entries are not what was held.
 use mathlib.Core.Path.{_≡_, refl}
-use mathlib.Core.Bool.{Bool, true, false, cond, not, _&&_}
+use mathlib.Core.Bool.{true}
 use mathlib.Core.List.{List, [], _∷_, map}
-use Prim.Native.Nat.{ℕ, zero, suc, _+_, _%_, _^_}
-use lib.Dec.{eqb, ltb}
-use Rattle.protocol.specs.Model.{Place, Entry, Filter, Node, Message, read, success, Part, System, start, change, beginRead, serve, send, partOf, reported, remaining, skips, changesOf, receive, accept, setEntry, setEntries}
+use Prim.Native.Nat.{ℕ}
+use Rattle.protocol.specs.Model.{Entry, Filter, Node, read, success, Part, System, start, change, beginRead, serve, send, partOf, reported, remaining, skips, changesOf, receive, accept, setEntry, setEntries}
 
 abbrev node : Node ℕ
 node =

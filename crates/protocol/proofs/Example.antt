@@ -1,17 +1,16 @@
 -- A run in which the theorems say something: a read in three parts, the first lost and then taken twice, a change between the second and the third; one
 -- cluster ends coherent and one not. A second read, with a filter, mends it.
-use mathlib.Core.Path.{_≡_, refl, sym, _∙_}
-use mathlib.Core.Logic.{_⊎_, inl, inr}
-use mathlib.Core.Bool.{Bool, true, false, cond, not, _&&_, _||_, true≢false}
-use mathlib.Core.List.{List, [], _∷_, map, List·Memᴰ, List·Memᴰ·head, List·Memᴰ·tail, List·Memᴰ·not-nil}
-use Prim.Native.Nat.{ℕ, zero, suc, _+_, _%_, _^_, _≤_, _<_}
+use mathlib.Core.Path.{_≡_, refl, sym}
+use mathlib.Core.Logic.{inl, inr}
+use mathlib.Core.Bool.{true, true≢false}
+use mathlib.Core.List.{[], _∷_, List·Memᴰ·head, List·Memᴰ·tail, List·Memᴰ·not-nil}
+use Prim.Native.Nat.{ℕ}
 use native.Mathlib.Omega.{arith}
-use lib.Dec.{T, eqb, ltb}
-use Rattle.protocol.specs.Model.{Place, Entry, Filter, Node, Message, read, write, success, failure, Part, System, exchangeOf, start, change, beginRead, serve, send, sendAgain, partOf, reported, remaining, skips, changesOf, receive, accept, awaited, setEntry, setEntries, CoherentIn, FiltersFor}
-use Rattle.protocol.specs.Steps.{Step, changes, beginsRead, serves, receives, Run, none, then, Reach, Visits, Passes, Calm, Heard, Got}
+use Rattle.protocol.specs.Model.{Entry, Node, Message, read, success, Part, System, exchangeOf, start, change, beginRead, serve, send, sendAgain, partOf, reported, remaining, skips, changesOf, receive, accept, setEntry, setEntries, CoherentIn, FiltersFor}
+use Rattle.protocol.specs.Steps.{Step, changes, beginsRead, serves, receives, Run, none, then, Reach, Heard, Got}
 use Rattle.protocol.specs.Claims.{Arrived, Ended}
 use Rattle.protocol.proofs.SmallLaws.{all-cons}
-use Rattle.protocol.proofs.FilterLaws.{alike, coherents, filtersOf, filters-are}
+use Rattle.protocol.proofs.FilterLaws.{coherents, filtersOf, filters-are}
 use Rattle.protocol.proofs.Main.{progress}
 
 unfoldable pub entry : ℕ → ℕ → ℕ → ℕ → Entry ℕ

@@ -5,7 +5,7 @@ use mathlib.Core.List.{List, [], _∷_, List·Memᴰ, List·Memᴰ·tail, List·
 use Prim.Native.Nat.{ℕ, suc, _≤_, _<_}
 use native.Mathlib.Omega.{arith}
 use lib.Dec.{eqb, ltb, eqb→eq, ltb→lt}
-use Rattle.protocol.specs.Model.{Filter, Node, Message, read, write, success, failure, Part, Row, Cache, System, Store, exchangeOf, changesOf, partOf, send, sendAgain, close, change, storeAll, written, serve, beginRead, beginWrite, accept, awaited, receive}
+use Rattle.protocol.specs.Model.{Filter, Node, Message, read, write, success, failure, Part, Row, Cache, System, Store, exchangeOf, changesOf, partOf, send, sendAgain, close, change, storeAll, written, starts, missed, serve, beginRead, beginWrite, accept, awaited, receive}
 use Rattle.protocol.specs.Steps.{Step, changes, beginsRead, beginsWrite, serves, receives, none, then, Reach}
 use Rattle.protocol.proofs.SmallLaws.{by-cond, and-l, and-r, T-true, all-cons}
 use Rattle.protocol.proofs.Invariant.{Inv}
@@ -25,14 +25,14 @@ module _ {Value : Type 0} where
   pub served : (node : Node Value) (s : System Value) (m : Message) (n : ℕ) (stores : List (Store Value)) → List·Memᴰ m (s .messages) → Served node s (serve node s m n stores)
   unfolding serve
   served node s (read x filters) n stores i =
-      by-cond (Served node s) (ltb (s .row .exchange) x) (λ t. begin x filters n (ltb→lt (s .row .exchange) x t) i)
+      by-cond (Served node s) (starts (s .row) x) (λ t. begin x filters n (ltb→lt (s .row .exchange) x t) i)
       (λ t. by-cond (Served node s) (eqb x (s .row .exchange) && eqb (s .row .turn) 1 && not (s .row .closed)) (λ u. again) (λ u. silent))
   served node s (write x) n stores i =
-      by-cond (Served node s) (ltb (s .row .exchange) x) (λ t. storing x stores (ltb→lt (s .row .exchange) x t) i)
+      by-cond (Served node s) (starts (s .row) x) (λ t. storing x stores (ltb→lt (s .row .exchange) x t) i)
       (λ t. by-cond (Served node s) (eqb x (s .row .exchange) && eqb (s .row .turn) 1 && not (s .row .closed)) (λ u. again) (λ u. silent))
   served node s (success x t) n stores i =
       by-cond (Served node s) (eqb x (s .row .exchange) && not (s .row .closed))
-      (λ a. by-cond (Served node s) (eqb (suc t) (s .row .turn) && ltb 0 t) (λ b. again)
+      (λ a. by-cond (Served node s) (missed (s .row) t) (λ b. again)
       (λ b. by-cond (Served node s) (eqb t (s .row .turn) && s .row .more) (λ c. next x n (eqb→eq x (s .row .exchange) (and-l (eqb x (s .row .exchange)) (not (s .row .closed)) a)) (rw (eqb→eq t (s .row .turn) (and-l (eqb t (s .row .turn)) (s .row .more) c)) at i) (T-true (s .row .more) (and-r (eqb t (s .row .turn)) (s .row .more) c))) (λ c. silent)))
       (λ a. silent)
   served node s (failure x t) n stores i = by-cond (Served node s) (eqb x (s .row .exchange) && eqb t (s .row .turn) && s .row .more) (λ a. shuts x t i) (λ a. silent)

@@ -6,7 +6,7 @@ use mathlib.Core.List.{List, _∷_, List·Memᴰ, List·Memᴰ·head, List·Mem�
 use Prim.Native.Nat.{ℕ, suc, _≤_, _<_}
 use native.Mathlib.Omega.{arith}
 use lib.Dec.{T, T-not, eqb, ltb, eqb→eq, eqb-refl, lt→ltb, nltb→le}
-use Rattle.protocol.specs.Model.{Filter, Node, Message, read, write, success, failure, Part, Cache, System, Store, exchangeOf, partOf, send, sendAgain, close, change, written, repeated, serve, accept, awaited, receive}
+use Rattle.protocol.specs.Model.{Filter, Node, Message, read, write, success, failure, Part, Cache, System, Store, exchangeOf, partOf, send, sendAgain, close, change, written, starts, missed, repeated, serve, accept, awaited, receive}
 use Rattle.protocol.specs.Steps.{Step, changes, beginsRead, beginsWrite, serves, receives, Run, none, then, Reach, join, Visits, Quiet, Calm, Hears, Heard, Gets, Got}
 use Rattle.protocol.specs.Claims.{Arrived, Ended}
 use Rattle.protocol.proofs.SmallLaws.{by-cond, and-l, and-r, T-true, T-of, stays}
@@ -174,7 +174,7 @@ module _ {Value : Type 0} where
     first-says : (filters : List Filter) → s .cache .next ≡ 1 → Answer s (serve node s (read (s .cache .exchange) filters) n stores)
     unfolding serve send partOf
     first-says filters z =
-        by-cond (Answer s) (ltb (s .row .exchange) (s .cache .exchange)) (λ t. record { part = _; says = refl; exchange = refl; turn = sym z }) (λ t. old (nltb→le (s .row .exchange) (s .cache .exchange) t))
+        by-cond (Answer s) (starts (s .row) (s .cache .exchange)) (λ t. record { part = _; says = refl; exchange = refl; turn = sym z }) (λ t. old (nltb→le (s .row .exchange) (s .cache .exchange) t))
       where
         old : s .cache .exchange ≤ s .row .exchange → Answer s (repeated s (s .cache .exchange))
         old l =
@@ -208,7 +208,7 @@ module _ {Value : Type 0} where
         go (fresh y f) = absurd (omega arith)
         go (behind m i x y g cov vou) =
             by-yes (Answer s) (eqb (s .cache .exchange) (s .row .exchange) && not (s .row .closed)) _ _ (T-and (eqb (s .cache .exchange) (s .row .exchange)) (not (s .row .closed)) (eqb-of (s .cache .exchange) (s .row .exchange) (sym e)) (not-closed (s .row .closed) (v .opened)))
-            (by-cond (Answer s) (eqb (suc t) (s .row .turn) && ltb 0 t)
+            (by-cond (Answer s) (missed (s .row) t)
             (λ a. again-says e (sym (eqb→eq (suc t) (s .row .turn) (and-l (eqb (suc t) (s .row .turn)) (ltb 0 t) a)) ∙ sym z))
             (λ a. by-yes (Answer s) (eqb t (s .row .turn) && s .row .more) _ _ (T-and (eqb t (s .row .turn)) (s .row .more) (eqb-of t (s .row .turn) (sym (same a))) (more a)) record { part = _; says = refl; exchange = refl; turn = omega (arith, same a) }))
           where

@@ -6,7 +6,7 @@ use Prim.Native.Nat.{ℕ, suc, _+_, _≤_, _<_}
 use native.Mathlib.Omega.{arith}
 use lib.Dec.{T, eqb, ltb, eqb→eq, eqb-refl, ltb→lt}
 use lib.ListN.{length}
-use Rattle.protocol.specs.Model.{Place, Entry, Filter, Node, Cluster, Message, read, write, success, failure, Part, System, Store, every, any, reported, remaining, entryAt, changesOf, skips, partOf, rowAfter, send, sendAgain, close, storeAll, written, repeated, serve}
+use Rattle.protocol.specs.Model.{Place, Entry, Filter, Node, Cluster, Message, read, write, success, failure, Part, System, Store, every, any, reported, remaining, entryAt, changesOf, skips, partOf, rowAfter, send, sendAgain, close, storeAll, written, starts, missed, repeated, serve}
 use Rattle.protocol.specs.Claims.{mostParts}
 use Rattle.protocol.proofs.SmallLaws.{by-cond, and-l, and-r, T-true, all-cons, all-append, all-map, T-of, not-of, or-not, every-mem, any-mem, not-not, none-mem, reported-in, remaining-in, remaining-short, Fate, fate, went, stays, skipped}
 use Rattle.protocol.proofs.Invariant.{versionAfter, Counted, Skipped, Gone, PartOk, Sent, Follows, Joined, Inv, told, waits, passed}
@@ -240,12 +240,12 @@ module _ {Value : Type 0} where
   pub serve-keeps : (node : Node Value) (s : System Value) (m : Message) (n : ℕ) (stores : List (Store Value)) → List·Memᴰ m (s .messages) → Inv node s → Inv node (serve node s m n stores)
   unfolding serve
   serve-keeps node s (read x filters) n stores i h =
-      by-cond (Inv node) (ltb (s .row .exchange) x) (λ t. send-keeps node s _ h (new-fits node s x filters n h i (ltb→lt (s .row .exchange) x t))) (λ t. repeated-keeps node s x h)
+      by-cond (Inv node) (starts (s .row) x) (λ t. send-keeps node s _ h (new-fits node s x filters n h i (ltb→lt (s .row .exchange) x t))) (λ t. repeated-keeps node s x h)
   serve-keeps node s (write x) n stores i h =
-      by-cond (Inv node) (ltb (s .row .exchange) x) (λ t. written-keeps node (storeAll s stores) x (rw stores-row (ltb→lt (s .row .exchange) x t)) (stores-keep node s stores h)) (λ t. repeated-keeps node s x h)
+      by-cond (Inv node) (starts (s .row) x) (λ t. written-keeps node (storeAll s stores) x (rw stores-row (ltb→lt (s .row .exchange) x t)) (stores-keep node s stores h)) (λ t. repeated-keeps node s x h)
   serve-keeps node s (success x t) n stores i h =
       by-cond (Inv node) (eqb x (s .row .exchange) && not (s .row .closed))
-      (λ a. by-cond (Inv node) (eqb (suc t) (s .row .turn) && ltb 0 t) (λ b. again-keeps node s h)
+      (λ a. by-cond (Inv node) (missed (s .row) t) (λ b. again-keeps node s h)
       (λ b. by-cond (Inv node) (eqb t (s .row .turn) && s .row .more)
       (λ c. send-keeps node s _ h (next-fits node s x n h (eqb→eq x (s .row .exchange) (and-l (eqb x (s .row .exchange)) (not (s .row .closed)) a)) (more (and-r (eqb t (s .row .turn)) (s .row .more) c))))
       (λ c. h)))

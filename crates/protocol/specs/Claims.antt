@@ -1,11 +1,11 @@
 -- DEMAND 3, as statements on every run; `proofs/Main.antt` proves them.
 use mathlib.Core.Path.{_≡_}
-use mathlib.Core.Bool.{Bool, true, false}
+use mathlib.Core.Bool.{true, false}
 use mathlib.Core.List.{List, [], _∷_, List·Memᴰ}
-use Prim.Native.Nat.{ℕ, zero, suc, _^_, _<_, _≤_}
+use Prim.Native.Nat.{ℕ, suc, _^_, _<_, _≤_}
 use lib.Dec.{T}
 use lib.ListN.{length}
-use Rattle.protocol.specs.Model.{Place, Entry, Message, exchangeOf, Node, Part, Cache, System, awaited, receive, CoherentIn}
+use Rattle.protocol.specs.Model.{Place, Entry, Message, exchangeOf, Node, Part, System, awaited, receive, CoherentIn}
 use Rattle.protocol.specs.Steps.{Run, Reach, join, Visits, Passes, Calm, Heard, Got}
 
 -- THE FIRST HALF

@@ -197,6 +197,14 @@ module _ {Value : Type 0} where
         parts = s .parts;
       }
 
+  -- "opcode 2 or 6, turn 0, exchange above `last`: ends the old exchange, becomes `last`"
+  abbrev pub starts : Row Value → ℕ → Bool
+  starts r exchange = ltb (r .exchange) exchange
+
+  -- "success: turn k - 1 (at least 1) gets the kept reply again"
+  abbrev pub missed : Row Value → ℕ → Bool
+  missed r turn = eqb (suc turn) (r .turn) && ltb 0 turn
+
   -- "exchange `last`, k = 1: the kept reply again"
   abbrev pub repeated : System Value → ℕ → System Value
   repeated s exchange = cond (eqb exchange (s .row .exchange) && eqb (s .row .turn) 1 && not (s .row .closed)) (sendAgain s) s
@@ -204,11 +212,11 @@ module _ {Value : Type 0} where
   -- a message handed to the sign: the exchange rules
   unfoldable pub serve : Node Value → System Value → Message → ℕ → List (Store Value) → System Value
   serve node s (read exchange filters) size stores =
-      cond (ltb (s .row .exchange) exchange) (send s (partOf (s .clusters) exchange 1 (node .readable) filters (changesOf (s .clusters)) size)) (repeated s exchange)
-  serve node s (write exchange) size stores = cond (ltb (s .row .exchange) exchange) (written (storeAll s stores) exchange) (repeated s exchange)
+      cond (starts (s .row) exchange) (send s (partOf (s .clusters) exchange 1 (node .readable) filters (changesOf (s .clusters)) size)) (repeated s exchange)
+  serve node s (write exchange) size stores = cond (starts (s .row) exchange) (written (storeAll s stores) exchange) (repeated s exchange)
   serve node s (success exchange turn) size stores =
       cond (eqb exchange (s .row .exchange) && not (s .row .closed))
-      (cond (eqb (suc turn) (s .row .turn) && ltb 0 turn) (sendAgain s)
+      (cond (missed (s .row) turn) (sendAgain s)
       (cond (eqb turn (s .row .turn) && s .row .more)
       (send s (partOf (s .clusters) exchange (suc (s .row .turn)) (s .row .ahead) (s .row .filters) (s .row .since) size))
       s))

@@ -7,7 +7,7 @@ use Rattle.protocol.specs.Model.{Filter, Message, Node, Part, Store, Sys
 
 module _ {Value : Type 0} (node : Node Value) where
   -- a local change; the cache begins a read or a write; any message ever sent is handed to the server, any part ever sent to the cache. To resend a message is no
-  -- step, as it is still there to arrive; nor is a reply to a write, which touches no entry, nor a message of another subject, which gets silence
+  -- step, as it is still there to arrive; nor is a reply to a write, which touches no entry, nor a message of another subject, which gets silence, nor a change to what is held
   pub data Step (s : System Value) : System Value → Type 0 where
     changes : (cluster attribute : ℕ) (value : Value) → Step s (change s cluster attribute value)
     beginsRead : (filters : List Filter) → FiltersFor (s .cache) filters → Step s (beginRead s filters)
