@@ -8,6 +8,7 @@ pub mod Inductive
 pub mod OpenLaws
 pub mod RunLaws
 pub mod ProgressLaws
+pub mod ArriveLaws
 pub mod RoomLaws
 pub mod FilterLaws
 pub mod Main

@@ -15,11 +15,11 @@ use Rattle.protocol.proofs.ChangeLaws.{More, stores-cache, stores-messa
 use Rattle.protocol.proofs.Inductive.{reach-inv}
 use Rattle.protocol.proofs.OpenLaws.{Served, served, Holds, Head, Open, reach-open, begin, next, again, storing, shuts, silent, unused, report, stored, first, later}
 
-T-and : (a b : Bool) → T a → T b → T (a && b)
+pub T-and : (a b : Bool) → T a → T b → T (a && b)
 T-and true b s t = t
 T-and false b s t = absurd s
 
-eqb-of : (a b : ℕ) → a ≡ b → T (eqb a b)
+pub eqb-of : (a b : ℕ) → a ≡ b → T (eqb a b)
 eqb-of a b e = rw e (eqb-refl b)
 
 -- by the branch that a test takes
@@ -154,11 +154,11 @@ module _ {Value : Type 0} where
       go known (inr e) = subst (λ (x : System Value). More (x .parts) (t .parts)) (sym e) (λ m i. i)
 
   -- what the server says to the newest message of a read
-  record Answer (s t : System Value) : Type 0 where
-    part : Part Value
-    says : t .parts ≡ part ∷ s .parts
-    exchange : part .exchange ≡ s .cache .exchange
-    turn : part .turn ≡ s .cache .next
+  pub record Answer (s t : System Value) : Type 0 where
+    pub part : Part Value
+    pub says : t .parts ≡ part ∷ s .parts
+    pub exchange : part .exchange ≡ s .cache .exchange
+    pub turn : part .turn ≡ s .cache .next
 
   module _ (node : Node Value) (s : System Value) (h : Inv node s) (v : Open s) (er : s .cache .reading ≡ true) (n : ℕ) (stores : List (Store Value)) where
     -- the server is in the cache's exchange: the kept reply is a report
@@ -235,7 +235,7 @@ module _ {Value : Type 0} where
       away far = omega (arith, far)
 
   -- the message asks for the part that the cache awaits
-  abbrev Wants : Cache Value → Message → Type 0
+  abbrev pub Wants : Cache Value → Message → Type 0
   Wants c (read x filters) = (x ≡ c .exchange) × (c .next ≡ 1)
   Wants c (write x) = ⊥
   Wants c (success x k) = (x ≡ c .exchange) × (c .next ≡ suc k)
@@ -270,19 +270,22 @@ module _ {Value : Type 0} where
   of-answer s t a = (a .part, subst (λ (ps : List (Part Value)). List·Memᴰ (a .part) ps) (sym (a .says)) (List·Memᴰ·head refl), a .exchange, a .turn)
 
   -- the message that the cache waits on gets the part it awaits
+  pub says : (node : Node Value) (s : System Value) → Reach node s → s .cache .reading ≡ true → (n : ℕ) (stores : List (Store Value)) (u : Message) → List·Memᴰ u (s .messages) → Wants (s .cache) u
+      → Answer s (serve node s u n stores)
+  says node s r er n stores (read x filters) j w =
+      subst (λ (x : ℕ). Answer s (serve node s (read x filters) n stores)) (sym (w .0)) (first-says node s (reach-inv node r) (reach-open node r) er n stores filters (w .1))
+  says node s r er n stores (write x) j w = absurd w
+  says node s r er n stores (success x k) j w =
+      subst (λ (x : ℕ). Answer s (serve node s (success x k) n stores)) (sym (w .0))
+      (later-says node s (reach-inv node r) (reach-open node r) er n stores k (w .1) (reach-open node r .messages (success x k) j .1))
+  says node s r er n stores (failure x k) j w = absurd w
+
   hears-answered : (node : Node Value) {s t : System Value} → Reach node s → s .cache .reading ≡ true → (p : Step node s t) (m : Message) → Hears m p → Wants (s .cache) m → Answered (s .cache) t
   hears-answered node r er (changes c a w) m h wanted = absurd h
   hears-answered node r er (beginsRead filters f) m h wanted = absurd h
   hears-answered node r er beginsWrite m h wanted = absurd h
-  hears-answered node {s} r er (serves m′ n stores i) m h wanted = of-answer s (serve node s m′ n stores) (go m′ i (subst (λ (u : Message). Wants (s .cache) u) (sym h) wanted))
-    where
-      go : (u : Message) → List·Memᴰ u (s .messages) → Wants (s .cache) u → Answer s (serve node s u n stores)
-      go (read x filters) j w = subst (λ (x : ℕ). Answer s (serve node s (read x filters) n stores)) (sym (w .0)) (first-says node s (reach-inv node r) (reach-open node r) er n stores filters (w .1))
-      go (write x) j w = absurd w
-      go (success x k) j w =
-          subst (λ (x : ℕ). Answer s (serve node s (success x k) n stores)) (sym (w .0))
-          (later-says node s (reach-inv node r) (reach-open node r) er n stores k (w .1) (reach-open node r .messages (success x k) j .1))
-      go (failure x k) j w = absurd w
+  hears-answered node {s} r er (serves u n stores i) m h wanted =
+      of-answer s (serve node s u n stores) (says node s r er n stores u i (subst (λ (u : Message). Wants (s .cache) u) (sym h) wanted))
   hears-answered node r er (receives q i) m h wanted = absurd h
 
   -- a message that was sent and asks for a part later on asks for it now

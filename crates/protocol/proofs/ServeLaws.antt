@@ -29,11 +29,11 @@ remaining-size : (skip : Place → Bool) (n : ℕ) (l : List Place) (w : Place) 
 remaining-size skip n [] w i = absurd (List·Memᴰ·not-nil (remaining-in skip n [] w i))
 remaining-size skip n (v ∷ l) w i = omega (arith, remaining-short skip n v l)
 
-most-one : (l : List Place) → 1 ≤ mostParts l
+pub most-one : (l : List Place) → 1 ≤ mostParts l
 most-one [] = omega arith
 most-one (p ∷ l) = omega arith
 
-most-all : (l : List Place) → length l ≤ mostParts l
+pub most-all : (l : List Place) → length l ≤ mostParts l
 most-all [] = omega arith
 most-all (p ∷ l) = omega arith
 

@@ -5,7 +5,7 @@ use mathlib.Core.List.{List, [], _∷_, List·Memᴰ}
 use Prim.Native.Nat.{ℕ, suc, _^_, _<_, _≤_}
 use lib.Dec.{T}
 use lib.ListN.{length}
-use Rattle.protocol.specs.Model.{Place, Entry, Message, exchangeOf, Node, Part, System, awaited, receive, CoherentIn}
+use Rattle.protocol.specs.Model.{Place, Entry, Filter, Message, exchangeOf, Node, Part, System, beginRead, awaited, receive, CoherentIn, FiltersFor}
 use Rattle.protocol.specs.Steps.{Run, Reach, join, Visits, Passes, Calm, Heard, Got}
 
 -- THE FIRST HALF
@@ -33,6 +33,13 @@ pub record Arrived {Value : Type 0} {node : Node Value} {s t : System Value} (ru
   pub messages : (m : Message) → List·Memᴰ m (t .messages) → exchangeOf m ≡ s .cache .exchange → Heard m run
   pub parts : (m : Part Value) → List·Memᴰ m (t .parts) → m .exchange ≡ s .cache .exchange → Got m run
 
+-- a run from s in which all of that has arrived
+pub record Complete {Value : Type 0} (node : Node Value) (s : System Value) : Type 0 where
+  pub end : System Value
+  pub run : Run node s end
+  pub calm : Calm run
+  pub arrived : Arrived run
+
 -- in the run a last part of that exchange was taken, and the cache is still as that left it
 pub record Ended {Value : Type 0} {node : Node Value} {s t : System Value} (run : Run node s t) : Type 0 where
   pub at : System Value
@@ -49,12 +56,13 @@ abbrev pub mostParts : List Place → ℕ
 mostParts [] = 1
 mostParts (p ∷ l) = suc (length l)
 
--- A read is open. If each of its messages and each reply has arrived before the cache begins anything else, whatever else happens, its last part was taken; and no
--- read has more parts than the bound.
+-- A read is open. If each of its messages and each reply has arrived before the cache begins anything else, whatever else happens, its last part was taken; no
+-- read has more parts than the bound; and for every read that begins, all can arrive.
 pub record Progress : Type 1 where
   pub ends : (Value : Type 0) (node : Node Value) (s t : System Value) → Reach node s → s .cache .reading ≡ true
       → (run : Run node s t) → Calm run → Arrived run → Ended run
   pub bound : (Value : Type 0) (node : Node Value) (s : System Value) → Reach node s → (m : Part Value) → List·Memᴰ m (s .parts) → m .turn ≤ mostParts (node .readable)
+  pub possible : (Value : Type 0) (node : Node Value) (s : System Value) → Reach node s → (filters : List Filter) → FiltersFor (s .cache) filters → Complete node (beginRead s filters)
 
 -- the step in which the server takes the request of this exchange
 pub record Taking {Value : Type 0} {node : Node Value} {s t : System Value} (run : Run node s t) (exchange : ℕ) : Type 0 where
