@@ -1,5 +1,5 @@
--- A run in which the theorems say something: a read in three parts, the first lost and then taken twice, a change between the second and the third; one
--- cluster ends coherent and one not. A second read, with a filter, mends it.
+-- A run in which the theorems say something: a read in three parts, the first lost, sent again and arriving twice, a change between the second and the third;
+-- one cluster ends coherent and one not. A second read, with a filter, mends it.
 use mathlib.Core.Path.{_≡_, refl, sym}
 use mathlib.Core.Logic.{inl, inr}
 use mathlib.Core.Bool.{true, true≢false}
