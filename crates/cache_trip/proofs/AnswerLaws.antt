@@ -1,22 +1,19 @@
 -- A WRITE ENDS WITH THE STATUS THAT THE SIGN WROTE, if it is of the path that was written; a status of another path is refused.
 use mathlib.Core.Path.{_≡_, refl, sym, ap, _∙_}
-use mathlib.Core.Bool.{true, false}
-use mathlib.Core.List.{List, [], _∷_}
+use mathlib.Core.Bool.{true}
+use mathlib.Core.List.{[], _∷_}
 use Prim.Native.Nat.{ℕ, _^_, _<_}
 use borrow.Author.Tests.{eq-eqb, lt-ltb}
 use Rattle.tlv.specs.Decode.Opt.{just}
 use Rattle.interaction_answer.specs.Answered.{answeredIn}
 use Rattle.interaction_writer.specs.Spelling.{Each}
 use Rattle.interaction_writer.specs.Meaning.{exactPath}
-use Rattle.interaction.specs.Status.{responseIn}
 use Rattle.schema.proofs.BoolLaws.{both}
 use Rattle.round_trip.specs.Meant.{Outcome, OutcomeFits, outcomesOctets, outcomeMeans, statusOctets}
 use Rattle.round_trip.proofs.BackLaws.{answers-back, status-back}
 use Rattle.cache.specs.declared.Request.{Request}
 use Rattle.cache.specs.declared.State.{State}
-use Rattle.cache.specs.State.{withStatus}
-use Rattle.cache.specs.Reaction.{quiet}
-use Rattle.cache_receive.specs.Receive.{endedAs, endedWith, ofWrite, answerTaken, byAnswer, statusTaken, byStatus}
+use Rattle.cache_receive.specs.Receive.{endedWith, ofWrite, answerTaken, byAnswer, statusTaken, byStatus}
 use Rattle.cache_trip.specs.Taken.{OfPath, endedBy}
 use Rattle.cache_trip.proofs.TakenLaws.{path-exact}
 

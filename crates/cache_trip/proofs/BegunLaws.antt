@@ -2,15 +2,14 @@
 use mathlib.Core.Path.{_≡_, refl, sym}
 use mathlib.Core.Bool.{Bool, true, false, not}
 use mathlib.Core.List.{List}
-use Prim.Native.Nat.{ℕ, _+_, _-_, _^_, _≤_, _<_}
+use Prim.Native.Nat.{ℕ, _+_, _-_, _^_, _<_}
 use native.Mathlib.Omega.{arith}
 use borrow.Author.Tests.{ltb-true, ltb-false}
 use lib.Dec.{ltb, leb}
-use lib.ListN.{length, getD, take, drop, length-take}
+use lib.ListN.{length, getD, drop, length-take}
 use Rattle.tlv.specs.declared.Value.{Value}
 use Rattle.tlv.specs.declared.Value.the-variants as value
-use Rattle.tlv.specs.Octet.{pick}
-use Rattle.tlv.specs.Value.{Datum, datumIn}
+use Rattle.tlv.specs.Value.{datumIn}
 use Rattle.tlv.proofs.Picks.{pick-elim}
 use Rattle.tlv_writer.specs.Meaning.{Writable}
 use Rattle.blocks.proofs.BlockLaws.{never}
@@ -18,9 +17,7 @@ use Rattle.schema.proofs.BoolLaws.{left, right}
 use Rattle.interaction_writer.specs.Spelling.{primitiveD}
 use Rattle.interaction_writer.specs.Meaning.{PathFits}
 use Rattle.envelope.specs.Envelope.{maxMessage}
-use Rattle.cached.specs.declared.Cached.{Cached}
 use Rattle.cached.specs.Limits.{textSize}
-use Rattle.cached.specs.Valid.{heldRight}
 use Rattle.cached.proofs.ValidLaws.{held-right}
 use Rattle.cache_part.specs.Block.{insideUsable, usableIn, longV}
 use Rattle.cache_request.specs.Filters.{filtersOf}
@@ -29,7 +26,7 @@ use Rattle.cache.specs.declared.State.{State}
 use Rattle.cache.specs.State.{panelRight}
 use Rattle.cache.specs.Reaction.{Reaction}
 use Rattle.cache.specs.Begin.{sendable, beginning, beginsRead, beginsWrite}
-use Rattle.cache_trip.specs.Begun.{Sendable, ReadBegun, WriteBegun}
+use Rattle.cache_trip.specs.Begun.{ReadBegun, WriteBegun}
 use Rattle.cache_trip.specs.Taken.{Takable}
 use Rattle.cache_trip.proofs.BeginLaws.{read-envelope, read-taken, write-envelope, write-taken}
 

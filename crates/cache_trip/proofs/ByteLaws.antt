@@ -1,7 +1,7 @@
 -- What is spelled is of bytes, if the strings in it are.
-use mathlib.Core.Path.{_≡_, refl, sym, subst}
+use mathlib.Core.Path.{_≡_, sym, subst}
 use mathlib.Core.Bool.{Bool, true, false}
-use mathlib.Core.List.{List, [], _∷_, _++_, map}
+use mathlib.Core.List.{List, [], _∷_, map}
 use Prim.Native.Nat.{ℕ, zero, suc, _/_, _^_, _<_}
 use native.Mathlib.Omega.{arith}
 use lib.Dec.{ltb}
@@ -24,7 +24,6 @@ use Rattle.request_writer.specs.Request.{writeMembers, entryTree, versioned}
 use Rattle.request_writer.proofs.RequestLaws.{write-spells}
 use Rattle.round_trip.specs.Meant.{reportOctets, writeOctets}
 use Rattle.round_trip.proofs.ListLaws.{each-map}
-use Rattle.blocks.proofs.BlockLaws.{never}
 use Rattle.cache_trip.specs.Taken.{Takable, Sent}
 use Rattle.cache_trip.proofs.EachLaws.{each-both}
 use Rattle.cache_trip.proofs.Utf8Laws.{Byte, utf8-bytes}

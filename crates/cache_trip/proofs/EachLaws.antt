@@ -1,7 +1,6 @@
 -- What holds of each of a list, and two lists in step.
 use mathlib.Core.Path.{_≡_}
 use mathlib.Core.List.{List, [], _∷_, _++_, map}
-use Prim.Native.Nat.{ℕ}
 use Rattle.blocks.proofs.BlockLaws.{never}
 use Rattle.interaction_writer.specs.Spelling.{Each}
 use Rattle.cache_trip.specs.Taken.{InStep}

@@ -45,11 +45,11 @@ use Rattle.cache_trip.proofs.TakenLaws.{report-taken}
 use Rattle.cache_trip.proofs.AnswerLaws.{answer-taken}
 
 -- THE NUMBER of blocks: 6 once one of them gets 6
-six-first : (a b : ℕ) → a ≡ 6 → worse a b ≡ 6
+pub six-first : (a b : ℕ) → a ≡ 6 → worse a b ≡ 6
 unfolding worse
 six-first a b e = rw (eq-eqb a 6 e) refl
 
-six-last : (a b : ℕ) → b ≡ 6 → worse a b ≡ 6
+pub six-last : (a b : ℕ) → b ≡ 6 → worse a b ≡ 6
 unfolding worse
 six-last a b e = by-test (eqb a 6) (λ t. rw t refl) (λ f. rw (f, eq-eqb b 6 e) refl)
 

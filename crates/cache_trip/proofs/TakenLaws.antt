@@ -12,12 +12,10 @@ use Rattle.tlv.specs.declared.Value.{Value}
 use Rattle.tlv.specs.declared.Value.the-variants as value
 use Rattle.tlv.specs.Octet.{pick}
 use Rattle.tlv.specs.Tree.{Tree}
-use Rattle.tlv.specs.Value.{Datum, valueIn, datumIn}
-use Rattle.tlv.specs.Decode.{Opt}
+use Rattle.tlv.specs.Value.{valueIn, datumIn}
 use Rattle.tlv.specs.Decode.Opt.{just}
 use Rattle.tlv_writer.specs.Element.{InPage}
 use Rattle.members.specs.Scalar.{ABSENT}
-use Rattle.utf8.specs.WellFormed.{wellFormed}
 use Rattle.blocks.specs.declared.Path.{Path}
 use Rattle.blocks.specs.Path.{banned, exactP}
 use Rattle.blocks.specs.Data.{DataOf, ReportOf, shown, refused, dataTree, reportTree}
@@ -34,7 +32,7 @@ use Rattle.round_trip.proofs.ReaderLaws.{through}
 use Rattle.cached.specs.Limits.{textSize}
 use Rattle.cache_part.specs.declared.block.Fate.the-variants.{Taken}
 use Rattle.cache_part.specs.Block.{concreteP, insideUsable, usableIn, longV, itemOf, fateBy, fateOf}
-use Rattle.cache_part.specs.Part.{blocksOf, blocksIn}
+use Rattle.cache_part.specs.Part.{blocksIn}
 use Rattle.cache_trip.specs.Taken.{Takable, Sent, TakenAs, InStep}
 use Rattle.cache_trip.proofs.EachLaws.{in-step}
 use Rattle.cache_trip.proofs.ByteLaws.{all-fit, report-bytes}

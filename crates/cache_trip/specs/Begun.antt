@@ -9,7 +9,6 @@ use Rattle.interaction.specs.Read.{readIn, readRead}
 use Rattle.interaction_write.specs.Write.{writeIn, writeRead}
 use Rattle.round_trip.specs.Meant.{readAnswer, writeAnswer}
 use Rattle.exchange.specs.Rules.{readOpcode, writeOpcode}
-use Rattle.envelope.specs.declared.Fields.{Fields}
 use Rattle.envelope.specs.declared.Envelope.{Envelope}
 use Rattle.envelope.specs.declared.Envelope.the-variants.{Whole}
 use Rattle.envelope.specs.Envelope.{envelopeIn, envelopeLength}

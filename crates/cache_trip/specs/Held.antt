@@ -1,23 +1,24 @@
--- What a panel is to hold of a block that it took.
-use mathlib.Core.List.{List}
-use Prim.Native.Nat.{ℕ, _≤_}
-use lib.ListN.{length}
+-- What a panel is to hold after a report that it took.
+use mathlib.Core.Bool.{Bool, _&&_}
+use mathlib.Core.List.{List, [], _∷_}
+use Prim.Native.Nat.{ℕ}
+use lib.Dec.{eqb}
+use Rattle.tlv.specs.Octet.{pick}
 use Rattle.tlv.specs.Value.{Datum}
 use Rattle.tlv.specs.Decode.{Opt}
 use Rattle.tlv.specs.Decode.Opt.{just}
-use Rattle.cached.specs.declared.Cached.{Cached}
-use Rattle.cached.specs.Limits.{maxEntries, maxClusters, pageSize}
 use Rattle.cached.specs.Entries.{Entry}
-
--- arrays and page have the lengths that the code gives them
-pub record Roomy (c : Cached) (page : List ℕ) : Type 0 where
-  pub clusters : maxClusters ≤ length (c .clusters)
-  pub keys : maxEntries ≤ length (c .keys)
-  pub versions : maxEntries ≤ length (c .versions)
-  pub kinds : maxEntries ≤ length (c .kinds)
-  pub words : maxEntries ≤ length (c .words)
-  pub texts : pageSize ≤ length page
+use Rattle.interaction_writer.specs.Block.{Block, value, status}
 
 -- an entry with this version and this value
 abbrev pub holding : ℕ → Datum → Opt Entry
 holding version d = just (record { version = version; value = d })
+
+abbrev pub samePath : ℕ → ℕ → ℕ → ℕ → ℕ → ℕ → Bool
+samePath endpoint cluster attribute e c a = eqb endpoint e && (eqb cluster c && eqb attribute a)
+
+-- THE ENTRY after blocks: of a path, what the last block of that path says, else what was held before
+unfoldable pub after : ℕ → ℕ → ℕ → Opt Entry → List Block → Opt Entry
+after e c a o [] = o
+after e c a o (value version endpoint cluster attribute d ∷ l) = after e c a (pick (samePath endpoint cluster attribute e c a) (holding version d) o) l
+after e c a o (status endpoint cluster attribute code ∷ l) = after e c a o l
