@@ -1,0 +1,58 @@
+-- A panel's state as it stands for the protocol's.
+use mathlib.Core.Path.{_≡_}
+use mathlib.Core.Bool.{true}
+use mathlib.Core.List.{List, List·Memᴰ}
+use Prim.Native.Nat.{ℕ, _^_, _<_}
+use lib.Dec.{eqb}
+use lib.ListN.{getD}
+use Rattle.tlv.specs.Value.{Datum}
+use Rattle.tlv.specs.Decode.Opt.{just}
+use Rattle.schema.specs.Rules.{path, pathAt}
+use Rattle.cached.specs.declared.Cached.{Cached}
+use Rattle.cached.specs.Entries as cached
+use Rattle.cached.specs.Entries.{lookup}
+use Rattle.cache.specs.declared.State.{State}
+use Rattle.cache.specs.State.{reading, writing, isOpen}
+use Rattle.cache.specs.Begin.{keptMessage}
+use Rattle.cache_laws.proofs.BegunLaws.{ValidPanel}
+use Rattle.cache_trip.specs.Exact.{Distinct}
+use Rattle.protocol.specs.Model.{Entry, Cache}
+use Rattle.refinement.proofs.Bytes.{EntryRight, Wrote}
+
+-- no entry twice
+abbrev pub DistinctKeys : Cached → Type 0
+DistinctKeys c = (i j : ℕ) → i < c .count → j < c .count → getD (c .keys) i 0 ≡ getD (c .keys) j 0 → i ≡ j
+
+-- the protocol has an entry for this path, with this version and value
+pub record Found (w : List ℕ) (entries : List (Entry Datum)) (endpoint cluster attribute : ℕ) (x : cached.Entry) : Type 0 where
+  pub entry : Entry Datum
+  pub there : List·Memᴰ entry entries
+  pub same : pathAt w (entry .place .attribute) ≡ path endpoint cluster attribute
+  pub version : entry .version ≡ x .version
+  pub value : entry .value ≡ x .value
+
+-- WHAT IS HELD: the same entries, path by path
+pub record HeldAs (w page : List ℕ) (c : Cached) (entries : List (Entry Datum)) : Type 0 where
+  pub clusters-once : Distinct c
+  pub keys-once : DistinctKeys c
+  pub versions-fit : (i : ℕ) → getD (c .versions) i 0 < 2 ^ 32
+  pub right : (e : Entry Datum) → List·Memᴰ e entries → EntryRight w e
+  pub has : (e : Entry Datum) → List·Memᴰ e entries → let q = pathAt w (e .place .attribute) in lookup c page (q .endpoint) (q .cluster) (q .attribute) ≡ just (record { version = e .version; value = e .value })
+  pub only : (endpoint cluster attribute : ℕ) → endpoint < 2 ^ 16 → cluster < 2 ^ 32 → attribute < 2 ^ 32 → (x : cached.Entry) → lookup c page endpoint cluster attribute ≡ just x → Found w entries endpoint cluster attribute x
+
+-- the open write is of this path: no other write has its exchange
+pub record Writing (sent : List (List ℕ)) (s : State) : Type 0 where
+  pub first : s .asked .turn ≡ 1
+  pub own : (e c a : ℕ) → Wrote sent (s .asked .exchange) e c a → (s .asked .endpoint ≡ e) × (s .asked .cluster ≡ c) × (s .asked .attribute ≡ a)
+
+pub record PanelAs (w : List ℕ) (sent : List (List ℕ)) (page : List ℕ) (s : State) (c : Cache Datum) : Type 0 where
+  pub valid : ValidPanel page s
+  pub held : HeldAs w page (s .held) (c .entries)
+  pub primed : c .primed ≡ s .held .primed
+  pub used : s .asked .used ≡ s .asked .exchange
+  pub exchange : c .exchange ≡ s .asked .exchange
+  pub reading-is : c .reading ≡ eqb (s .asked .stage) reading
+  pub next : s .asked .stage ≡ reading → c .next ≡ s .asked .turn
+  pub turn-fits : s .asked .turn < 2 ^ 16
+  pub writing-is : s .asked .stage ≡ writing → Writing sent s
+  pub newest : isOpen (s .asked .stage) ≡ true → List·Memᴰ (keptMessage (s .asked)) sent

@@ -1,0 +1,57 @@
+-- A sign's state as it stands for the protocol's.
+use mathlib.Core.Path.{_≡_}
+use mathlib.Core.Bool.{true}
+use mathlib.Core.List.{List, [], _∷_, _++_}
+use Prim.Native.Nat.{ℕ, _+_, _-_, _^_, _<_}
+use lib.Dec.{eqb}
+use lib.ListN.{length, getD}
+use Rattle.tlv.specs.Octet.{pick}
+use Rattle.tlv.specs.Value.{Datum}
+use Rattle.schema.specs.Rows.{clusterCount, attributeCount}
+use Rattle.acl.specs.declared.Grants.{Grants}
+use Rattle.selection.specs.Asked.{askedFor}
+use Rattle.round_trip.specs.Meant.{everything}
+use Rattle.replies.specs.declared.Row as replies
+use Rattle.replies.specs.Messages.{maxMessage}
+use Rattle.replies.specs.Row.{keptReply, pathsOf, filtersOf}
+use Rattle.server.specs.declared.State.{State}
+use Rattle.server.proofs.KeptLaws.{ValidSign}
+use Rattle.protocol.specs.Model.{Part, Row, Cluster, System}
+use Rattle.refinement.proofs.Terms.{readableFrom, filtersAs, ClustersAs}
+use Rattle.refinement.proofs.Bytes.{ReplyAs}
+
+-- the read that is being answered: one full wildcard path, its filters, and what is ahead
+pub record Going (w : List ℕ) (g : Grants) (x : replies.Row) (r : Row Datum) : Type 0 where
+  pub paths : pathsOf (x .request) ≡ askedFor everything ∷ []
+  pub filters : r .filters ≡ filtersAs w (filtersOf (x .request))
+  pub path : x .place .path ≡ 0
+  pub ahead : r .ahead ≡ readableFrom w g (attributeCount w - x .place .index) (x .place .index)
+
+pub record RowAs (w : List ℕ) (g : Grants) (sent : List (List ℕ)) (x : replies.Row) (r : Row Datum) : Type 0 where
+  pub exchange : r .exchange ≡ x .progress .last
+  pub turn : r .turn ≡ x .progress .turn
+  pub more : r .more ≡ x .progress .promised
+  pub closed : r .closed ≡ x .progress .closed
+  pub going : r .more ≡ true → Going w g x r
+  pub kept : ReplyAs w sent (keptReply x) (r .kept)
+  pub whole : length (x .kept) ≡ maxMessage
+
+pub record SignAs (w defaults : List ℕ) (g : Grants) (sent : List (List ℕ)) (edits : List ℕ) (s : State) (clusters : ℕ → Cluster Datum) (r : Row Datum) : Type 0 where
+  pub valid : ValidSign w defaults edits s
+  pub versions-fit : (k : ℕ) → getD (s .values .versions) k 0 < 2 ^ 32
+  pub held : ClustersAs w defaults edits (s .values) clusters
+  pub row : RowAs w g sent (s .row) r
+
+-- one where a version has moved
+abbrev pub moved : ℕ → ℕ → ℕ
+moved old new = pick (eqb old new) 0 1
+
+-- WHAT A CALL OF THE SIGN LEAVES: the state and page after it, the reply, and the step that the protocol takes
+pub record Serves (w defaults : List ℕ) (g : Grants) (sent : List (List ℕ)) (old new : State) (edits reply : List ℕ) (s t : System Datum) : Type 0 where
+  pub sign : SignAs w defaults g sent edits new (t .clusters) (t .row)
+  pub made : List (Part Datum)
+  pub reply-is : ReplyAs w sent reply made
+  pub parts : t .parts ≡ made ++ s .parts
+  pub cache : t .cache ≡ s .cache
+  pub messages : t .messages ≡ s .messages
+  pub counted : (k : ℕ) → k < clusterCount w → t .clusters k .changes ≡ s .clusters k .changes + moved (getD (old .values .versions) k 0) (getD (new .values .versions) k 0)
