@@ -9,6 +9,7 @@ pub mod OpenLaws
 pub mod RunLaws
 pub mod ProgressLaws
 pub mod ArriveLaws
+pub mod OnceLaws
 pub mod RoomLaws
 pub mod FilterLaws
 pub mod Main
