@@ -1,0 +1,140 @@
+-- DEMAND 3 OF THE PRODUCT, over both ends as they are: "whenever the panel calls a cluster whole at version v, the sign has held v and the panel's entries are exactly what it
+-- may read there, as held at v. And a read whose messages all arrive leaves every unchanged cluster whole."
+use mathlib.Core.Path.{_≡_}
+use mathlib.Core.Bool.{false}
+use mathlib.Core.List.{List, [], _∷_, List·Memᴰ}
+use Prim.Native.Nat.{ℕ, _^_, _<_, _≤_, max}
+use lib.ListN.{getD}
+use Rattle.tlv.specs.declared.Value.{Value}
+use Rattle.tlv.specs.Decode.{Opt}
+use Rattle.tlv.specs.Decode.Opt.{just, nothing}
+use Rattle.envelope.specs.declared.Fields.{Fields}
+use Rattle.envelope.specs.declared.Envelope.{Envelope}
+use Rattle.envelope.specs.declared.Envelope.the-variants.{Whole, Short}
+use Rattle.envelope.specs.Envelope.{envelopeIn}
+use Rattle.interaction_writer.specs.Block.{Block}
+use Rattle.schema.specs.declared.Found.{Found}
+use Rattle.schema.specs.declared.Found.the-variants.{At, Nothing}
+use Rattle.schema.specs.Rows.{attributeCount}
+use Rattle.schema.specs.Find.{findCluster}
+use Rattle.selection.specs.declared.asked.Asked.{Asked}
+use Rattle.selection.specs.Items.{concreteItem}
+use Rattle.report.specs.Blocks.{blockOf}
+use Rattle.exchange.specs.Rules.{reportOpcode}
+use Rattle.cached.specs.Entries.{Entry}
+use Rattle.cache.specs.State.{reading, lastPart}
+use Rattle.cache.specs.Begin as begin
+use Rattle.cache_receive.specs.Receive as receive
+use Rattle.cache_ask.specs.Ask.{said, saysWhole, EntrySaid, entrySaid, saysEntry}
+use Rattle.promises.specs.World.{Plan, World, Start, granted, answered, altered}
+use Rattle.promises.specs.Runs.{Run, Reach, join, Visits, Passes, Calm, Heard, Got}
+
+-- THE WORDS OF THE CLAIMS
+
+-- what the panel answers when it is asked whether a cluster is whole: yes, at this version
+abbrev pub CallsWhole : World → ℕ → ℕ → ℕ → Type 0
+CallsWhole u endpoint cluster version = saysWhole (u .page) (u .panel) endpoint cluster ≡ said 0 (version ∷ [])
+
+-- the version of a cluster of the schema, and how often it has changed
+abbrev pub onRow : {A : Type 0} → A → (ℕ → A) → Found → A
+onRow none f (At k) = f k
+onRow none f Nothing = none
+
+abbrev pub versionOf : Plan → World → ℕ → ℕ → Opt ℕ
+versionOf p u endpoint cluster = onRow nothing (λ k. just (getD (u .sign .values .versions) k 0)) (findCluster (p .words) endpoint cluster)
+
+abbrev pub changesOf : Plan → World → ℕ → ℕ → ℕ
+changesOf p u endpoint cluster = onRow 0 (u .changes) (findCluster (p .words) endpoint cluster)
+
+-- what the sign answers to the panel of one path, by demand 2: a value with its version, or a status; no filter is given
+abbrev pub asked : ℕ → ℕ → ℕ → Asked
+asked endpoint cluster attribute =
+    record { «any_endpoint» = false; endpoint = endpoint; «any_cluster» = false; cluster = cluster; «any_attribute» = false; attribute = attribute }
+
+abbrev pub shown : Plan → World → ℕ → ℕ → ℕ → Opt Block
+shown p u endpoint cluster attribute =
+    blockOf (p .words) (u .sign .values) (p .defaults) (u .edits) (asked endpoint cluster attribute) (concreteItem (p .words) (granted p) [] (asked endpoint cluster attribute))
+
+-- what it may read, as an entry: a status is none
+abbrev pub entryFor : Opt Block → Opt Entry
+entryFor nothing = nothing
+entryFor (just (Block.value version endpoint cluster attribute d)) = just (record { version = version; value = d })
+entryFor (just (Block.status endpoint cluster attribute code)) = nothing
+
+abbrev pub MayReadSome : Plan → World → ℕ → ℕ → Type 0
+MayReadSome p u endpoint cluster = (attribute : ℕ) × (e : Entry) × (attribute < 2 ^ 32) × (entryFor (shown p u endpoint cluster attribute) ≡ just e)
+
+-- the exchange of a message
+abbrev pub exchangeOf : Envelope → Opt ℕ
+exchangeOf Short = nothing
+exchangeOf (Whole f) = just (f .exchange)
+
+abbrev pub In : ℕ → List ℕ → Type 0
+In exchange m = exchangeOf (envelopeIn m) ≡ just exchange
+
+-- THE FIRST HALF: in every state that a run can reach, with fewer than 2^32 changes to the cluster
+abbrev pub FirstHalf : Type 0
+FirstHalf =
+    (p : Plan) (b : Start p) (u : World) (run : Reach p b u) (endpoint cluster version : ℕ) → endpoint < 2 ^ 16 → cluster < 2 ^ 32
+    → changesOf p u endpoint cluster < 2 ^ 32
+    → CallsWhole u endpoint cluster version
+    → ((x : World) × Visits run x × (versionOf p x endpoint cluster ≡ just version))
+    × ((x : World) → Visits run x → versionOf p x endpoint cluster ≡ just version
+    → (attribute : ℕ) → attribute < 2 ^ 32 → saysEntry (u .page) (u .panel) endpoint cluster attribute ≡ entrySaid (entryFor (shown p x endpoint cluster attribute)))
+
+-- THE SECOND HALF
+
+-- each message of the panel's exchange, and each reply to it, has arrived at least once
+pub record Arrived {p : Plan} {u v : World} (run : Run p u v) : Type 0 where
+  pub requests : (m : List ℕ) → List·Memᴰ m (v .requests) → In (u .panel .asked .exchange) m → Heard m run
+  pub replies : (m : List ℕ) → List·Memᴰ m (v .replies) → In (u .panel .asked .exchange) m → Got m run
+
+-- the read that was open has ended on its last part
+pub record Ended (u v : World) : Type 0 where
+  pub same : v .panel .asked .exchange ≡ u .panel .asked .exchange
+  pub last : v .panel .asked .stage ≡ lastPart
+
+-- the step in which the sign takes the request of this exchange
+pub record Taking {p : Plan} {u v : World} (run : Run p u v) (exchange : ℕ) : Type 0 where
+  pub at : World
+  pub next : World
+  pub passes : Passes run at next
+  pub before : at .sign .row .progress .last < exchange
+  pub after : next .sign .row .progress .last ≡ exchange
+
+-- the step in which it makes this reply: it was not made before, and then is
+pub record Making {p : Plan} {u v : World} (run : Run p u v) (m : List ℕ) : Type 0 where
+  pub at : World
+  pub next : World
+  pub passes : Passes run at next
+  pub before : List·Memᴰ m (at .replies) → ⊥
+  pub after : List·Memᴰ m (next .replies)
+
+-- A read is open. If each of its messages and each reply has arrived before the panel begins anything else, whatever else happens, then it has ended on its last part, and the
+-- panel calls whole every cluster with something that it may read and that did not change between the taking of the request and the making of a last part, at the version it had
+abbrev pub SecondHalf : Type 0
+SecondHalf =
+    (p : Plan) (b : Start p) (u v : World) (reach : Reach p b u) → u .panel .asked .stage ≡ reading
+    → (run : Run p u v) → Calm run → Arrived run
+    → Ended u v
+    × ((m : List ℕ) × In (u .panel .asked .exchange) m
+    × (taking : Taking (join reach run) (u .panel .asked .exchange)) × (making : Making (join reach run) m)
+    × ((endpoint cluster : ℕ) → endpoint < 2 ^ 16 → cluster < 2 ^ 32 → MayReadSome p v endpoint cluster
+    → changesOf p (taking .at) endpoint cluster ≡ changesOf p (making .at) endpoint cluster
+    → (version : ℕ) × (versionOf p (making .at) endpoint cluster ≡ just version) × CallsWhole v endpoint cluster version))
+
+-- no read has more parts than the schema has attributes, and one if it has none
+abbrev pub FewParts : Type 0
+FewParts =
+    (p : Plan) (b : Start p) (u : World) → Reach p b u → (m : List ℕ) → List·Memᴰ m (u .replies) → (f : Fields) → envelopeIn m ≡ Whole f → f .opcode ≡ reportOpcode
+    → f .turn ≤ max 1 (attributeCount (p .words))
+
+-- NEVER 2 along a run, whatever either end is handed and asked; and the panel never answers 6 or 7 to what this sign sent it
+pub record Never : Type 0 where
+  pub sign-2 : (p : Plan) (b : Start p) (u : World) → Reach p b u → (subject : ℕ) (m : List ℕ) (room : ℕ) → answered p u subject m room .number ≡ 2 → ⊥
+  pub change-2 : (p : Plan) (b : Start p) (u : World) → Reach p b u → (endpoint cluster attribute : ℕ) (src : List ℕ) (new : Value) → altered p u endpoint cluster attribute src new .number ≡ 2 → ⊥
+  pub panel-2 : (p : Plan) (b : Start p) (u : World) → Reach p b u → (m : List ℕ) (room : ℕ) → receive.received (u .page) (u .panel) m room .number ≡ 2 → ⊥
+  pub read-2 : (p : Plan) (b : Start p) (u : World) → Reach p b u → (room : ℕ) → begin.beginsRead (u .page) (u .panel) room .number ≡ 2 → ⊥
+  pub resend-2 : (p : Plan) (b : Start p) (u : World) → Reach p b u → (room : ℕ) → begin.resends (u .page) (u .panel) room .number ≡ 2 → ⊥
+  pub panel-6 : (p : Plan) (b : Start p) (u : World) → Reach p b u → (m : List ℕ) → List·Memᴰ m (u .replies) → (room : ℕ) → receive.received (u .page) (u .panel) m room .number ≡ 6 → ⊥
+  pub panel-7 : (p : Plan) (b : Start p) (u : World) → Reach p b u → (m : List ℕ) → List·Memᴰ m (u .replies) → (room : ℕ) → receive.received (u .page) (u .panel) m room .number ≡ 7 → ⊥

@@ -1,0 +1,94 @@
+-- Runs: what may happen, one step after the other (document 01, demand 3: "over a wire that loses, repeats and reorders but doesn't forge").
+use mathlib.Core.Path.{_≡_}
+use mathlib.Core.Logic.{_⊎_}
+use mathlib.Core.Bool.{Bool}
+use mathlib.Core.List.{List, [], List·Memᴰ}
+use Prim.Native.Nat.{ℕ, _^_, _≤_, _<_}
+use Rattle.tlv.specs.declared.Value.{Value}
+use Rattle.envelope.specs.Envelope.{maxMessage}
+use Rattle.interaction_writer.specs.Meaning.{PathFits}
+use Rattle.cache.specs.Begin as begin
+use Rattle.cache_receive.specs.Receive as receive
+use Rattle.promises.specs.World.{Plan, subjectOf, World, Start, begin, afterSign, afterPanel, answered, altered, Typed}
+
+module _ (p : Plan) where
+  -- a change at the sign; the panel begins a read or a write, or resends; a message that the panel ever made is handed to the sign, anything at all comes from another subject; a reply that
+  -- the sign ever made is handed to the panel. Every buffer is of any length
+  pub data Step (u : World) : World → Type 0 where
+    alters : (endpoint cluster attribute : ℕ) (src : List ℕ) (new : Value) → Typed new
+        → Step u (afterSign u (altered p u endpoint cluster attribute src new .state) (altered p u endpoint cluster attribute src new .edits) [])
+    beginsRead : (room : ℕ) → Step u (afterPanel u (begin.beginsRead (u .page) (u .panel) room))
+    beginsWrite : (endpoint cluster attribute : ℕ) (given : Bool) (version : ℕ) (src : List ℕ) (new : Value) (room : ℕ) → PathFits endpoint cluster attribute → version < 2 ^ 32 → Typed new
+        → Step u (afterPanel u (begin.beginsWrite (u .page) (u .panel) endpoint cluster attribute given version src new room))
+    resends : (room : ℕ) → Step u (afterPanel u (begin.resends (u .page) (u .panel) room))
+    hears : (m : List ℕ) (room : ℕ) → List·Memᴰ m (u .requests)
+        → Step u (afterSign u (answered p u (subjectOf p) m room .state) (answered p u (subjectOf p) m room .edits) (answered p u (subjectOf p) m room .reply))
+    overhears : (subject : ℕ) (m : List ℕ) (room : ℕ) → (subject ≡ subjectOf p → ⊥)
+        → Step u (afterSign u (answered p u subject m room .state) (answered p u subject m room .edits) (answered p u subject m room .reply))
+    gets : (m : List ℕ) (room : ℕ) → List·Memᴰ m (u .replies) → Step u (afterPanel u (receive.received (u .page) (u .panel) m room))
+
+  pub data Run (u : World) : World → Type 0 where
+    none : Run u u
+    then : {v w : World} → Run u v → Step v w → Run u w
+
+  -- a run from fresh ends
+  abbrev pub Reach : Start p → World → Type 0
+  Reach b u = Run (begin p b) u
+
+module _ {p : Plan} where
+  -- one run after another
+  abbrev pub join : {u v w : World} → Run p u v → Run p v w → Run p u w
+  join before none = before
+  join before (then run step) = then (join before run) step
+
+  -- x is a state of the run
+  abbrev pub Visits : {u v : World} → Run p u v → World → Type 0
+  Visits {u} none x = x ≡ u
+  Visits {u} {v} (then run step) x = Visits run x ⊎ (x ≡ v)
+
+  -- the run has a step from x to y
+  abbrev pub Passes : {u v : World} → Run p u v → World → World → Type 0
+  Passes none x y = ⊥
+  Passes {u} {v} (then {v = v′} run step) x y = Passes run x y ⊎ ((x ≡ v′) × (y ≡ v))
+
+  -- the panel begins nothing: such a call is refused
+  abbrev pub Quiet : {u v : World} → Step p u v → Type 0
+  Quiet (alters endpoint cluster attribute src new t) = Unit {0}
+  Quiet {u} (beginsRead room) = begin.beginsRead (u .page) (u .panel) room .number ≡ 0 → ⊥
+  Quiet {u} (beginsWrite endpoint cluster attribute given version src new room f v t) = begin.beginsWrite (u .page) (u .panel) endpoint cluster attribute given version src new room .number ≡ 0 → ⊥
+  Quiet (resends room) = Unit {0}
+  Quiet (hears m room i) = Unit {0}
+  Quiet (overhears subject m room n) = Unit {0}
+  Quiet (gets m room i) = Unit {0}
+
+  abbrev pub Calm : {u v : World} → Run p u v → Type 0
+  Calm none = Unit {0}
+  Calm (then run step) = Calm run × Quiet step
+
+  -- "a message arrives when it is handed over with a buffer of full size": at the sign
+  abbrev pub Hears : List ℕ → {u v : World} → Step p u v → Type 0
+  Hears x (alters endpoint cluster attribute src new t) = ⊥
+  Hears x (beginsRead room) = ⊥
+  Hears x (beginsWrite endpoint cluster attribute given version src new room f v t) = ⊥
+  Hears x (resends room) = ⊥
+  Hears x (hears m room i) = (m ≡ x) × (maxMessage ≤ room)
+  Hears x (overhears subject m room n) = ⊥
+  Hears x (gets m room i) = ⊥
+
+  abbrev pub Heard : List ℕ → {u v : World} → Run p u v → Type 0
+  Heard x none = ⊥
+  Heard x (then run step) = Heard x run ⊎ Hears x step
+
+  -- and at the panel
+  abbrev pub Gets : List ℕ → {u v : World} → Step p u v → Type 0
+  Gets x (alters endpoint cluster attribute src new t) = ⊥
+  Gets x (beginsRead room) = ⊥
+  Gets x (beginsWrite endpoint cluster attribute given version src new room f v t) = ⊥
+  Gets x (resends room) = ⊥
+  Gets x (hears m room i) = ⊥
+  Gets x (overhears subject m room n) = ⊥
+  Gets x (gets m room i) = (m ≡ x) × (maxMessage ≤ room)
+
+  abbrev pub Got : List ℕ → {u v : World} → Run p u v → Type 0
+  Got x none = ⊥
+  Got x (then run step) = Got x run ⊎ Gets x step

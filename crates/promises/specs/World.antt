@@ -1,0 +1,126 @@
+-- BOTH ENDS AS THEY ARE, in bytes: what each holds, every message that was ever made, and what a call leaves. Each call is the definition that its contract cites.
+use mathlib.Core.List.{List, [], _∷_}
+use Prim.Native.Nat.{ℕ, _+_, _*_, _^_, _<_}
+use mathlib.Core.Path.{_≡_}
+use mathlib.Core.Bool.{Bool, true}
+use lib.Dec.{eqb}
+use lib.ListN.{length, getD}
+use mir.Syntax.{w64}
+use mir.Val.{SFits}
+use Rattle.tlv.specs.declared.Value.{Value}
+use Rattle.tlv.specs.declared.Value.the-variants as value
+use Rattle.tlv.specs.Octet.{pick}
+use Rattle.schema.specs.Layout.{subjectWord, textSize}
+use Rattle.schema.specs.Check.{textCount}
+use Rattle.node.specs.Check.{accepted}
+use Rattle.acl.specs.declared.Entry.{Entry}
+use Rattle.acl.specs.declared.Grants.{Grants}
+use Rattle.acl.specs.Access.{grantsOf, tableOk}
+use Rattle.server.specs.declared.State as server
+use Rattle.server.specs.Receive as sign
+use Rattle.server.specs.Start.{Altered, started, alteredBy}
+use Rattle.cached.specs.Limits.{pageSize}
+use Rattle.cache.specs.declared.State as cache
+use Rattle.cache.specs.Reaction as panel
+use Rattle.cache.specs.Begin.{fresh}
+
+-- what stays the same throughout: the schema's words, the factory page and the access table
+pub record Plan : Type 0 where
+  pub words : List ℕ
+  pub defaults : List ℕ
+  pub table : List Entry
+
+-- "The plan names one subject to serve, the panel"
+abbrev pub subjectOf : Plan → ℕ
+subjectOf p = getD (p .words) subjectWord 0
+
+-- what the access table grants to the panel
+abbrev pub granted : Plan → Grants
+granted p = grantsOf (p .table) (subjectOf p) (p .words)
+
+-- the sign and its edited page, the panel and its page of texts; every message that the panel has made, and every reply of the sign, the newest first. How often the version
+-- of each of the schema's clusters has moved is for the statements alone
+pub record World : Type 0 where
+  pub sign : server.State
+  pub edits : List ℕ
+  pub panel : cache.State
+  pub page : List ℕ
+  pub requests : List (List ℕ)
+  pub replies : List (List ℕ)
+  pub changes : ℕ → ℕ
+
+-- what a run begins with: a plan that no rule forbids, words of 64 bits, and pages of their sizes
+pub record Start (p : Plan) : Type 0 where
+  pub edits : List ℕ
+  pub page : List ℕ
+  pub accepts : accepted (p .words) (p .defaults) ≡ true
+  pub table-right : tableOk (p .table) ≡ true
+  pub words-fit : (k : ℕ) → getD (p .words) k 0 < 2 ^ 64
+  pub edits-size : length edits ≡ textSize * textCount (p .words)
+  pub page-size : length page ≡ pageSize
+
+-- fresh ends, nothing on the wire
+abbrev pub begin : (p : Plan) → Start p → World
+begin p b =
+    record {
+      sign = started (p .words) (p .defaults) .state;
+      edits = b .edits;
+      panel = fresh;
+      page = b .page;
+      requests = [];
+      replies = [];
+      changes = λ k. 0;
+    }
+
+-- a message, if there is one, beside those before it
+abbrev pub with : List ℕ → List (List ℕ) → List (List ℕ)
+with [] l = l
+with (b ∷ m) l = (b ∷ m) ∷ l
+
+-- one where a version has moved
+abbrev pub moved : ℕ → ℕ → ℕ
+moved old new = pick (eqb old new) 0 1
+
+-- after a call of the sign, which leaves this state, page and reply
+unfoldable pub afterSign : World → server.State → List ℕ → List ℕ → World
+afterSign u s edits reply =
+    record {
+      sign = s;
+      edits = edits;
+      panel = u .panel;
+      page = u .page;
+      requests = u .requests;
+      replies = with reply (u .replies);
+      changes = λ k. u .changes k + moved (getD (u .sign .values .versions) k 0) (getD (s .values .versions) k 0);
+    }
+
+-- after a call of the panel
+unfoldable pub afterPanel : World → panel.Reaction → World
+afterPanel u x =
+    record {
+      sign = u .sign;
+      edits = u .edits;
+      panel = x .state;
+      page = x .page;
+      requests = with (x .reply) (u .requests);
+      replies = u .replies;
+      changes = u .changes;
+    }
+
+-- a message handed to the sign, by anyone
+abbrev pub answered : Plan → World → ℕ → List ℕ → ℕ → sign.Reaction
+answered p u subject m room =
+    sign.received (p .words) (p .defaults) (u .edits) (u .sign) (tableOk (p .table)) (grantsOf (p .table) subject (p .words)) subject m room
+
+abbrev pub altered : Plan → World → ℕ → ℕ → ℕ → List ℕ → Value → Altered
+altered p u endpoint cluster attribute src new = alteredBy (p .words) (p .defaults) (u .edits) (u .sign) endpoint cluster attribute src new
+
+-- a value as the code's types have it
+abbrev pub Typed : Value → Type 0
+Typed value.Null = Unit {0}
+Typed (value.Boolean b) = Unit {0}
+Typed (value.Unsigned n) = n < 2 ^ 64
+Typed (value.Signed z) = SFits w64 z
+Typed (value.Float n) = n < 2 ^ 32
+Typed (value.Text a n) = n < 2 ^ 64
+Typed value.Other = Unit {0}
