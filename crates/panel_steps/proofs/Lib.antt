@@ -1,0 +1,5 @@
+pub mod Reactions
+pub mod EntryLaws
+pub mod FreshLaws
+pub mod CoherentLaws
+pub mod FilterLaws
