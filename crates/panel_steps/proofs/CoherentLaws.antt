@@ -25,7 +25,7 @@ use Rattle.cache_ask.specs.Ask.{coherentOf}
 use Rattle.protocol.specs.Model.{Place, Entry, Cache, CoherentIn}
 use Rattle.refinement.proofs.Bytes.{EntryRight}
 use Rattle.refinement.proofs.Panel.{Found, HeldAs, PanelAs}
-use Rattle.panel_steps.proofs.EntryLaws.{cluster-held, stands, held-there, coherent-held, coherent-there}
+use Rattle.panel_steps.proofs.EntryLaws.{word-at, cluster-held, stands, held-there, coherent-held, coherent-there}
 
 -- the cluster of an entry is a row of the schema
 pub record OfRow (w : List ℕ) (d : Entry Datum) : Type 0 where
@@ -52,29 +52,14 @@ module _ (w : List ℕ) (rules : Rules w) where
     abbrev held : Cached
     held = s .held
 
-    -- an entry at a place of the arrays, in the protocol
-    shown : (e cl j i : ℕ) → e < 2 ^ 16 → cl < 2 ^ 32 → clusterAt held (clusterWord e cl) ≡ At j → i < held .count → Of held j i
-        → (d : Entry Datum) × List·Memᴰ d (c .entries) × (d .version ≡ getD (held .versions) i 0) × (d .place .cluster < clusterCount w)
-        × (clusterRow w (d .place .cluster) .endpoint ≡ e) × (clusterRow w (d .place .cluster) .cluster ≡ cl)
-    shown e cl j i fe fl at b o =
-        let x = panel .held .only e cl (getD (held .keys) i 0 % half) fe fl (omega arith) (entryOf held page i) (held-there held page e cl j at (panel .held .keys-once) i b o) in
-        let r = of-row (x .entry) (panel .held .right (x .entry) (x .there)) in (
-          x .entry,
-          x .there,
-          x .version,
-          r .there,
-          sym (r .endpoint) ∙ ap (λ (p : Path). p .endpoint) (x .same),
-          sym (r .cluster) ∙ ap (λ (p : Path). p .cluster) (x .same),
-        )
-
     -- ONLY a cluster of the schema is coherent
     pub coherent-row : (endpoint cluster v : ℕ) → endpoint < 2 ^ 16 → cluster < 2 ^ 32 → coherentOf held (clusterWord endpoint cluster) ≡ just v
         → (k : ℕ) × (k < clusterCount w) × (clusterRow w k .endpoint ≡ endpoint) × (clusterRow w k .cluster ≡ cluster)
     coherent-row endpoint cluster v fe fl h =
         let (j, at, q) = coherent-held held (clusterWord endpoint cluster) v h in
-        let some = coherent-exactly held j v .0 q .1 in
-        let d = shown endpoint cluster j (some .0) fe fl at (omega (arith, some .2)) (some .3) in
-        (d .0 .place .cluster, d .3, d .4, d .5)
+        let (b, is) = word-at (held .clusters) (held .«cluster_count») (clusterWord endpoint cluster) j at in
+        let (k, l, row) = panel .held .cluster-rows j b in
+        (k, l, omega (arith, is, row, fl), omega (arith, is, row, fl))
 
     module _ (k : ℕ) (l : k < clusterCount w) where
       abbrev word : ℕ
@@ -96,19 +81,21 @@ module _ (w : List ℕ) (rules : Rules w) where
           let (i, b, key, is) = stands held page (clusterRow w k .endpoint) (clusterRow w k .cluster) j at (pathAt w (d .place .attribute) .attribute) (looked-up d m e) in
           (i, b, omega (arith, key, of-row d (panel .held .right d m) .attribute), ap (λ (x : cached.Entry). x .version) is)
 
-      -- one of cluster k
-      of-cluster : (j i : ℕ) → clusterAt held word ≡ At j → i < held .count → Of held j i
+      -- and one at a place of the arrays, in the protocol
+      shown : (j i : ℕ) → clusterAt held word ≡ At j → i < held .count → Of held j i
           → (d : Entry Datum) × List·Memᴰ d (c .entries) × (d .version ≡ getD (held .versions) i 0) × (d .place .cluster ≡ k)
-      of-cluster j i at b o =
+      shown j i at b o =
           let f = cluster-rules w rules k l in
-          let (d, m, v, there, pe, pc) = shown (clusterRow w k .endpoint) (clusterRow w k .cluster) j i (f .endpoint) (f .cluster) at b o in
-          (d, m, v, one-cluster w rules (d .place .cluster) k there l pe pc)
+          let x = panel .held .only (clusterRow w k .endpoint) (clusterRow w k .cluster) (getD (held .keys) i 0 % half) (f .endpoint) (f .cluster) (omega arith) (entryOf held page i) (held-there held page (clusterRow w k .endpoint) (clusterRow w k .cluster) j at (panel .held .keys-once) i b o) in
+          let r = of-row (x .entry) (panel .held .right (x .entry) (x .there)) in
+          let same : x .entry .place .cluster ≡ k = one-cluster w rules (x .entry .place .cluster) k (r .there) l (sym (r .endpoint) ∙ ap (λ (p : Path). p .endpoint) (x .same)) (sym (r .cluster) ∙ ap (λ (p : Path). p .cluster) (x .same)) in
+          (x .entry, x .there, x .version, same)
 
       to : (v : ℕ) → coherentOf held word ≡ just v → CoherentIn c k v
       to v h =
           let (j, at, q) = coherent-held held word v h in
           let r = coherent-exactly held j v .0 q in
-          let some = of-cluster j (r .1 .0) at (omega (arith, r .1 .2)) (r .1 .3) in
+          let some = shown j (r .1 .0) at (omega (arith, r .1 .2)) (r .1 .3) in
           record {
             primed-is = panel .primed ∙ r .0;
             same = λ d m e. let (i, b, o, version) = placed j at d m e in sym version ∙ r .2 i (omega arith) (omega (arith, b)) o;
@@ -124,7 +111,7 @@ module _ (w : List ℕ) (rules : Rules w) where
           ∙ coherent-exactly held j v .1 (
             sym (panel .primed) ∙ h .primed-is,
             (i, omega arith, omega (arith, b), o),
-            λ n low high o. let (x, mx, vx, ex) = of-cluster j n at (omega (arith, high)) o in sym vx ∙ h .same x mx ex,
+            λ n low high o. let (x, mx, vx, ex) = shown j n at (omega (arith, high)) o in sym vx ∙ h .same x mx ex,
           )
 
       pub coherent-as : (v : ℕ) → (coherentOf held word ≡ just v) ↔ CoherentIn c k v

@@ -1,10 +1,9 @@
 -- What stands where in the arrays of a panel, and what it has for a path.
 use mathlib.Core.Path.{_≡_, refl, sym, ap, _∙_}
-use mathlib.Core.Bool.{true, false}
 use mathlib.Core.List.{List}
 use Prim.Native.Nat.{ℕ, _+_, _*_, _/_, _%_, _<_}
 use native.Mathlib.Omega.{arith}
-use borrow.Author.Tests.{eqb-true, eqb-false}
+use borrow.Author.Tests.{eqb-true}
 use lib.Dec.{eqb}
 use lib.ListN.{getD}
 use Rattle.tlv.specs.Decode.{Opt}
@@ -12,13 +11,14 @@ use Rattle.tlv.specs.Decode.Opt.{just, nothing}
 use Rattle.blocks.proofs.BlockLaws.{never}
 use Rattle.schema.specs.declared.Found.{Found}
 use Rattle.schema.specs.declared.Found.the-variants.{At, Nothing}
-use Rattle.schema.proofs.SearchLaws.{found, none}
+use Rattle.schema.proofs.SearchLaws.{found}
 use Rattle.cached.specs.declared.Cached.{Cached}
 use Rattle.cached.specs.Limits.{half}
 use Rattle.cached.specs.Entries.{Entry, clusterWord, keyWord, wordAt, clusterAt, entryAt, entryOf, atEntry, inCluster, pathAt, lookup}
 use Rattle.cached.specs.Coherent.{coherentAt}
 use Rattle.cached.proofs.CoherentLaws.{Of}
 use Rattle.cache_ask.specs.Ask.{coherentThere, coherentOf}
+use Rattle.panel_parts.proofs.OnceLaws.{Once, found-once}
 
 -- what is found for a word is the word
 pub word-at : (l : List ℕ) (n x i : ℕ) → wordAt l n x ≡ At i → (i < n) × (getD l i 0 ≡ x)
@@ -26,17 +26,6 @@ unfolding wordAt
 word-at l n x i q =
     let r = found (λ k. eqb (getD l k 0) x) n 0 i q in
     (omega (arith, r .below), eqb-true (getD l i 0) x (r .holds))
-
--- and a word that stands once is found where it stands
-pub word-there : (l : List ℕ) (n : ℕ) → ((i j : ℕ) → i < n → j < n → getD l i 0 ≡ getD l j 0 → i ≡ j) → (i x : ℕ) → i < n → getD l i 0 ≡ x → wordAt l n x ≡ At i
-unfolding wordAt
-word-there l n once i x b e = go (wordAt l n x) refl
-  where
-    go : (f : Found) → wordAt l n x ≡ f → wordAt l n x ≡ At i
-    go Nothing q = absurd (eqb-false (getD l i 0) x (none (λ k. eqb (getD l k 0) x) n 0 i q (omega arith) (omega (arith, b))) e)
-    go (At j) q =
-        let r = word-at l n x j q in
-        q ∙ ap At (once j i (r .0) b (r .1 ∙ sym e))
 
 -- a path that something is held for is of a cluster that is there
 pub cluster-held : (c : Cached) (page : List ℕ) (e cl a : ℕ) {x : Entry} → lookup c page e cl a ≡ just x → (j : ℕ) × (clusterAt c (clusterWord e cl) ≡ At j)
@@ -63,10 +52,10 @@ module _ (c : Cached) (page : List ℕ) (e cl j : ℕ) (at : clusterAt c (cluste
           (i, r .0, r .1, cc)
 
   -- and what stands at a place is held for a path
-  pub held-there : ((i k : ℕ) → i < c .count → k < c .count → getD (c .keys) i 0 ≡ getD (c .keys) k 0 → i ≡ k) → (i : ℕ) → i < c .count → Of c j i → lookup c page e cl (getD (c .keys) i 0 % half) ≡ just (entryOf c page i)
+  pub held-there : Once (c .keys) (c .count) → (i : ℕ) → i < c .count → Of c j i → lookup c page e cl (getD (c .keys) i 0 % half) ≡ just (entryOf c page i)
   held-there once i b o =
       in-cluster (getD (c .keys) i 0 % half)
-      ∙ ap (atEntry c page) (word-there (c .keys) (c .count) once i (keyWord j (getD (c .keys) i 0 % half)) b (omega (arith, o)))
+      ∙ ap (atEntry c page) (found-once (c .keys) (c .count) once (keyWord j (getD (c .keys) i 0 % half)) i b (omega (arith, o)))
 
 -- a coherent cluster is there
 pub coherent-held : (c : Cached) (word v : ℕ) → coherentOf c word ≡ just v → (j : ℕ) × (clusterAt c word ≡ At j) × (coherentAt c j ≡ just v)

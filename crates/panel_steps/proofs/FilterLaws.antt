@@ -28,7 +28,8 @@ use Rattle.cache_trip.proofs.ExactLaws.{filters-exact, filters-complete}
 use Rattle.protocol.specs.Model.{Filter, Cache, CoherentIn, FiltersFor}
 use Rattle.refinement.proofs.Terms.{rowFound, clusterNumber, filterAs, filtersAs}
 use Rattle.refinement.proofs.Panel.{PanelAs}
-use Rattle.panel_steps.proofs.EntryLaws.{word-at, word-there, coherent-held, coherent-there}
+use Rattle.panel_parts.proofs.OnceLaws.{found-once}
+use Rattle.panel_steps.proofs.EntryLaws.{word-at, coherent-held, coherent-there}
 use Rattle.panel_steps.proofs.CoherentLaws.{of-row, coherent-row, coherent-as}
 
 mem-map : {A B : Type 0} (f : A → B) {x : A} {l : List A} → List·Memᴰ x l → List·Memᴰ (f x) (map f l)
@@ -73,7 +74,7 @@ module _ (w : List ℕ) (rules : Rules w) where
     one-coherent f r =
         let e : ℕ = getD (held .clusters) (r .place) 0 / half % 2 ^ 16 in
         let cl : ℕ = getD (held .clusters) (r .place) 0 % half in
-        let at : clusterAt held (clusterWord e cl) ≡ At (r .place) = word-there (held .clusters) (held .«cluster_count») (panel .held .clusters-once) (r .place) (clusterWord e cl) (r .there) (omega (arith, narrow (r .place) (r .there))) in
+        let at : clusterAt held (clusterWord e cl) ≡ At (r .place) = found-once (held .clusters) (held .«cluster_count») (panel .held .clusters-once) (clusterWord e cl) (r .place) (r .there) (omega (arith, narrow (r .place) (r .there))) in
         subst (λ (g : Wanted). CoherentIn c (filterAs w g .cluster) (filterAs w g .version)) (sym (r .same))
         (numbered e cl (r .version) (omega arith) (omega arith) (coherent-there held (clusterWord e cl) (r .place) at ∙ r .coherent))
 

@@ -24,6 +24,7 @@ module _ (w : List ℕ) (rules : Rules w) where
     held = record {
       clusters-once = λ j k bj. absurd (omega (arith, bj));
       keys-once = λ j k bj. absurd (omega (arith, bj));
+      cluster-rows = λ k b. absurd (omega (arith, b));
       versions-fit = fresh-valid page size .held .whole .small;
       right = λ e m. absurd (List·Memᴰ·not-nil m);
       has = λ e m. absurd (List·Memᴰ·not-nil m);
