@@ -3,3 +3,5 @@ pub mod EntryLaws
 pub mod FreshLaws
 pub mod CoherentLaws
 pub mod FilterLaws
+pub mod WriteLaws
+pub mod BeginLaws
