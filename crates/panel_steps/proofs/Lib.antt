@@ -5,3 +5,4 @@ pub mod CoherentLaws
 pub mod FilterLaws
 pub mod WriteLaws
 pub mod BeginLaws
+pub mod AnswerLaws
