@@ -1,4 +1,5 @@
 -- A PART TAKEN SETS THE SAME ENTRIES AS IN THE PROTOCOL, and none of its blocks is refused: 6 and 7 never come.
+-- There is room because HeldAs says that each cluster held is one of the schema's: its entries alone do not, as a cluster could stand there with none.
 use mathlib.Core.Path.{_≡_, refl, sym, ap, subst, _∙_}
 use mathlib.Core.Bool.{Bool, true, false, not}
 use mathlib.Core.List.{List, [], _∷_, map, List·Memᴰ, List·Memᴰ·head, List·Memᴰ·tail}
