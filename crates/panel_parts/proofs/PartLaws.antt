@@ -157,7 +157,7 @@ module _ (w : List ℕ) (rules : Rules w) (s : List ℕ) where
       (ap (λ (n : ℕ). judgedAll s (record { number = worse 0 n; held = heldFor c (fateIn s r) }) m .number) here ∙ rest .0, rest .1)
 
 module _ (w : List ℕ) (rules : Rules w) where
-  each-sent : (es : List (Entry Datum)) → ((e : Entry Datum) → List·Memᴰ e es → EntryRight w e) → Each Sent (map (blockAs w) es)
+  pub each-sent : (es : List (Entry Datum)) → ((e : Entry Datum) → List·Memᴰ e es → EntryRight w e) → Each Sent (map (blockAs w) es)
   unfolding Each Sent Fits
   each-sent [] own = tt
   each-sent (e ∷ es) own =

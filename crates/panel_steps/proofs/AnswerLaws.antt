@@ -1,12 +1,12 @@
 -- WHAT THE PANEL RECEIVES AND DOES NOT AWAIT leaves everything as it was; the answer to its write ends the write.
 use mathlib.Core.Path.{_≡_, refl, sym, ap, subst, _∙_}
-use mathlib.Core.Logic.{_⊎_, inl, inr}
-use mathlib.Core.Bool.{Bool, true, false, _&&_}
+use mathlib.Core.Logic.{inl}
+use mathlib.Core.Bool.{false, _&&_}
 use mathlib.Core.List.{List, [], _∷_, _++_, List·Memᴰ}
 use Prim.Native.Nat.{ℕ, _^_, _≤_, _<_}
 use native.Mathlib.Omega.{arith}
-use borrow.Author.Tests.{eqb-true, eqb-false, eq-eqb, ne-eqb, le-ltb}
-use lib.Dec.{eqb, leb, ltb}
+use borrow.Author.Tests.{eqb-true, le-ltb}
+use lib.Dec.{eqb, leb}
 use lib.ListN.{length}
 use Rattle.tlv.specs.Value.{Datum}
 use Rattle.tlv.proofs.Picks.{pick-elim}
@@ -15,25 +15,21 @@ use Rattle.schema.specs.Rules.{Rules}
 use Rattle.schema.proofs.BoolLaws.{left, right, by-test}
 use Rattle.interaction_writer.specs.Envelope.{envelopeOctets}
 use Rattle.round_trip.specs.Meant.{Outcome, OutcomeFits, outcomesOctets}
-use Rattle.exchange.specs.Rules.{reportOpcode, writeResponseOpcode}
-use Rattle.envelope.specs.declared.Fields.{Fields}
-use Rattle.envelope.specs.declared.Envelope.{Envelope}
-use Rattle.envelope.specs.declared.Envelope.the-variants.{Whole}
-use Rattle.envelope.specs.Envelope.{envelopeIn, maxMessage}
+use Rattle.exchange.specs.Rules.{writeResponseOpcode}
+use Rattle.envelope.specs.Envelope.{maxMessage}
 use Rattle.envelope.proofs.BigLaws.{envelope-read}
 use Rattle.cache.specs.declared.State.{State}
-use Rattle.cache.specs.State.{reading, writing, isOpen, panelRight}
+use Rattle.cache.specs.State.{reading, writing, isOpen}
 use Rattle.cache.specs.Reaction.{Reaction, refusal, unsent}
-use Rattle.cache_receive.specs.Receive.{forCache, opcodeAwaited, awaited, endedAs, inEnvelope, received}
+use Rattle.cache_receive.specs.Receive.{forCache, opcodeAwaited, awaited, endedAs, received}
 use Rattle.cache_receive.proofs.ReceiveLaws.{small}
-use Rattle.cache_laws.proofs.BegunLaws.{ValidPanel, Holds, valid-right}
+use Rattle.cache_laws.proofs.BegunLaws.{Holds, valid-right}
 use Rattle.cache_laws.proofs.KeptLaws.{received-kept}
 use Rattle.cache_trip.specs.Taken.{endedBy}
-use Rattle.cache_trip.specs.Begun.{envelopeAs}
 use Rattle.cache_trip.proofs.ReceivedLaws.{write-ended}
-use Rattle.protocol.specs.Model.{Message, exchangeOf, Cache, System}
+use Rattle.protocol.specs.Model.{Message, exchangeOf, System}
 use Rattle.refinement.proofs.Bytes.{MessageAs, Wrote, answerBytes}
-use Rattle.refinement.proofs.Panel.{Writing, PanelAs}
+use Rattle.refinement.proofs.Panel.{PanelAs}
 use Rattle.panel_steps.proofs.Reactions.{Still, Takes}
 
 module _ (w : List ℕ) (rules : Rules w) where

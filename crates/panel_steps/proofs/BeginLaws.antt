@@ -1,18 +1,16 @@
 -- BEGINNING A READ OR A WRITE IS A STEP OF THE PROTOCOL, unless it is refused; resending sends nothing new.
-use mathlib.Core.Path.{_≡_, refl, sym, ap, subst, _∙_}
+use mathlib.Core.Path.{_≡_, refl, ap}
 use mathlib.Core.Logic.{_⊎_, inl, inr}
-use mathlib.Core.Bool.{Bool, true, false, not}
-use mathlib.Core.List.{List, [], _∷_, List·Memᴰ, List·Memᴰ·head, List·Memᴰ·tail}
+use mathlib.Core.Bool.{Bool, true, false}
+use mathlib.Core.List.{List, [], _∷_, List·Memᴰ, List·Memᴰ·head}
 use Prim.Native.Nat.{ℕ, suc, _+_, _-_, _^_, _≤_, _<_}
 use native.Mathlib.Omega.{arith}
-use borrow.Author.Tests.{ltb-true, ltb-false}
+use borrow.Author.Tests.{ltb-true}
 use lib.Dec.{eqb, ltb}
-use lib.ListN.{length, getD, take, drop}
-use Rattle.octets.specs.Store.{store}
+use lib.ListN.{length}
 use Rattle.octets.proofs.StoreLaws.{store-back}
 use Rattle.tlv.specs.declared.Value.{Value}
 use Rattle.tlv.specs.Value.{Datum, datumIn}
-use Rattle.tlv.specs.Octet.{pick}
 use Rattle.tlv.proofs.Picks.{pick-elim}
 use Rattle.tlv_writer.specs.Meaning.{Writable}
 use Rattle.schema.specs.Rules.{Rules}
@@ -26,13 +24,12 @@ use Rattle.cache.specs.declared.State.{State}
 use Rattle.cache.specs.State.{reading, writing, isOpen, panelRight}
 use Rattle.cache.specs.Reaction.{Reaction, refusal}
 use Rattle.cache.specs.Begin.{keptMessage, keeping, nextRequest, askedAs, sent, beginning, beginsRead, sendable, beginsWrite, resends}
-use Rattle.cache_laws.proofs.BoundLaws.{Sized}
 use Rattle.cache_laws.proofs.BegunLaws.{Holds, read-kept, write-kept}
 use Rattle.cache_trip.proofs.BeginLaws.{filters-fit, filters-few}
 use Rattle.cache_trip.proofs.BegunLaws.{takable}
 use Rattle.protocol.specs.Model.{Filter, Message, read, write, exchangeOf, Cache, System, beginRead, beginWrite, FiltersFor}
 use Rattle.refinement.proofs.Terms.{filtersAs}
-use Rattle.refinement.proofs.Bytes.{MessageAs, reads, writes, succeeds, WriteFits, Wrote}
+use Rattle.refinement.proofs.Bytes.{MessageAs, reads, writes, WriteFits}
 use Rattle.refinement.proofs.Panel.{Writing, PanelAs}
 use Rattle.panel_steps.proofs.Reactions.{Still, Begins}
 use Rattle.panel_steps.proofs.FilterLaws.{filters-for}

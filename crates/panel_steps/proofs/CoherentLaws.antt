@@ -1,30 +1,27 @@
 -- A CLUSTER IS COHERENT AT THE PANEL EXACTLY IF IT IS IN THE PROTOCOL, and only a cluster of the schema is.
-use mathlib.Core.Path.{_≡_, refl, sym, ap, _∙_}
+use mathlib.Core.Path.{_≡_, sym, ap, _∙_}
 use mathlib.Core.Logic.{_↔_}
-use mathlib.Core.Bool.{true}
 use mathlib.Core.List.{List, List·Memᴰ}
-use Prim.Native.Nat.{ℕ, _+_, _*_, _/_, _%_, _^_, _<_}
+use Prim.Native.Nat.{ℕ, _%_, _^_, _<_}
 use native.Mathlib.Omega.{arith}
 use lib.ListN.{getD}
 use Rattle.tlv.specs.Value.{Datum}
-use Rattle.tlv.specs.Decode.{Opt}
 use Rattle.tlv.specs.Decode.Opt.{just}
 use Rattle.schema.specs.declared.Found.the-variants.{At}
 use Rattle.schema.specs.Rows.{clusterRow, attributeRow, clusterCount}
-use Rattle.schema.specs.Rules.{Path, path, pathAt, Rules}
+use Rattle.schema.specs.Rules.{Path, pathAt, Rules}
 use Rattle.schema.proofs.RulesLaws.{path-word, cluster-rules}
 use Rattle.schema.proofs.PathLaws.{one-cluster, cluster-there}
 use Rattle.cached.specs.declared.Cached.{Cached}
 use Rattle.cached.specs.Limits.{half}
 use Rattle.cached.specs.Entries as cached
-use Rattle.cached.specs.Entries.{clusterWord, keyWord, clusterAt, entryOf, lookup}
-use Rattle.cached.specs.Coherent.{coherentAt}
+use Rattle.cached.specs.Entries.{clusterWord, clusterAt, entryOf, lookup}
 use Rattle.cached.proofs.CoherentLaws.{Of, coherent-exactly}
 use Rattle.cache.specs.declared.State.{State}
 use Rattle.cache_ask.specs.Ask.{coherentOf}
 use Rattle.protocol.specs.Model.{Place, Entry, Cache, CoherentIn}
 use Rattle.refinement.proofs.Bytes.{EntryRight}
-use Rattle.refinement.proofs.Panel.{Found, HeldAs, PanelAs}
+use Rattle.refinement.proofs.Panel.{PanelAs}
 use Rattle.panel_steps.proofs.EntryLaws.{word-at, cluster-held, stands, held-there, coherent-held, coherent-there}
 
 -- the cluster of an entry is a row of the schema

@@ -1,13 +1,12 @@
 -- What stands where in the arrays of a panel, and what it has for a path.
 use mathlib.Core.Path.{_≡_, refl, sym, ap, _∙_}
 use mathlib.Core.List.{List}
-use Prim.Native.Nat.{ℕ, _+_, _*_, _/_, _%_, _<_}
+use Prim.Native.Nat.{ℕ, _%_, _<_}
 use native.Mathlib.Omega.{arith}
 use borrow.Author.Tests.{eqb-true}
 use lib.Dec.{eqb}
 use lib.ListN.{getD}
-use Rattle.tlv.specs.Decode.{Opt}
-use Rattle.tlv.specs.Decode.Opt.{just, nothing}
+use Rattle.tlv.specs.Decode.Opt.{just}
 use Rattle.blocks.proofs.BlockLaws.{never}
 use Rattle.schema.specs.declared.Found.{Found}
 use Rattle.schema.specs.declared.Found.the-variants.{At, Nothing}

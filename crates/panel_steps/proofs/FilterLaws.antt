@@ -1,7 +1,7 @@
 -- THE FILTERS OF A READ ARE THE PROTOCOL'S: one for each coherent cluster and no other.
 use mathlib.Core.Path.{_≡_, refl, sym, ap, subst, _∙_}
 use mathlib.Core.List.{List, [], _∷_, map, List·Memᴰ, List·Memᴰ·head, List·Memᴰ·tail, List·Memᴰ·not-nil, Memᴰ·cast}
-use Prim.Native.Nat.{ℕ, _+_, _*_, _/_, _%_, _^_, _<_}
+use Prim.Native.Nat.{ℕ, _/_, _%_, _^_, _<_}
 use native.Mathlib.Omega.{arith}
 use lib.ListN.{getD}
 use Rattle.tlv.specs.Value.{Datum}
@@ -20,7 +20,7 @@ use Rattle.cached.specs.declared.Cached.{Cached}
 use Rattle.cached.specs.Limits.{half}
 use Rattle.cached.specs.Entries.{clusterWord, clusterAt}
 use Rattle.cached.proofs.ValidLaws.{right-held, cluster-below}
-use Rattle.cache_request.specs.Filters.{wantedAs, filtersOf}
+use Rattle.cache_request.specs.Filters.{filtersOf}
 use Rattle.cache.specs.declared.State.{State}
 use Rattle.cache_ask.specs.Ask.{coherentOf}
 use Rattle.cache_trip.specs.Exact.{FilterOf}

@@ -1,19 +1,18 @@
 -- A FRESH PANEL stands for the protocol's.
-use mathlib.Core.Path.{_≡_, refl, sym, ap, _∙_}
-use mathlib.Core.List.{List, List·Memᴰ, List·Memᴰ·not-nil}
-use Prim.Native.Nat.{ℕ, _<_}
+use mathlib.Core.Path.{_≡_, refl}
+use mathlib.Core.List.{List, List·Memᴰ·not-nil}
+use Prim.Native.Nat.{ℕ}
 use native.Mathlib.Omega.{arith}
 use lib.ListN.{length}
 use Rattle.tlv.specs.Value.{Datum}
 use Rattle.schema.specs.Rules.{Rules}
 use Rattle.blocks.proofs.BlockLaws.{never}
 use Rattle.cached.specs.Limits.{pageSize}
-use Rattle.cached.specs.Entries.{lookup}
 use Rattle.cache.specs.State.{isOpen}
 use Rattle.cache.specs.Begin.{fresh}
 use Rattle.cache_laws.proofs.BegunLaws.{fresh-valid}
 use Rattle.protocol.specs.Model.{Node, start}
-use Rattle.refinement.proofs.Panel.{HeldAs, PanelAs}
+use Rattle.refinement.proofs.Panel.{PanelAs}
 use Rattle.panel_steps.proofs.EntryLaws.{cluster-held, word-at}
 
 module _ (w : List ℕ) (rules : Rules w) where

@@ -6,3 +6,4 @@ pub mod FilterLaws
 pub mod WriteLaws
 pub mod BeginLaws
 pub mod AnswerLaws
+pub mod PartLaws
