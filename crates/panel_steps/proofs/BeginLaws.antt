@@ -53,19 +53,20 @@ module _ (w : List ℕ) (rules : Rules w) where
         (λ _. pick-elim P (isOpen (s .asked .stage)) _ _ (λ o. (refl, refl, inr (panel .newest o))) (λ _. (refl, refl, inl refl))))
         (λ _. (refl, refl, inl refl))
 
-    -- a request that is begun was let through, and its number is free
-    begun : (P : Reaction → Type 0) (room : ℕ) (next : Reaction)
-        → ((n : ℕ) → (n ≡ 0 → ⊥) → P (refusal n s page))
-        → (s .asked .used + 1 < 2 ^ 40 → P next)
-        → P (beginning page s room next)
-    begun P room next refused goes =
-        pick-elim P (panelRight page s) _ _
-        (λ _. pick-elim P (ltb room maxMessage) _ _ (λ _. refused 3 (λ e. omega (arith, e)))
-        (λ _. pick-elim P (ltb (s .asked .used) (2 ^ 40 - 1)) _ _ (λ t. goes (omega (arith, ltb-true (s .asked .used) (2 ^ 40 - 1) t))) (λ _. refused 8 (λ e. omega (arith, e)))))
-        (λ _. refused 2 (λ e. omega (arith, e)))
+    -- a request is refused with a number and changes nothing, or is let through and has a number that is free
+    abbrev Unless : (Reaction → Type 0) → Reaction → Type 0
+    Unless P x = (Still page s x × (x .number ≡ 0 → ⊥)) ⊎ P x
 
-    still : (n : ℕ) → Still page s (refusal n s page)
-    still n = record { state = refl; page-is = refl; reply = refl }
+    refused : (P : Reaction → Type 0) (n : ℕ) → (n ≡ 0 → ⊥) → Unless P (refusal n s page)
+    refused P n h = inl (record { state = refl; page-is = refl; reply = refl }, h)
+
+    begun : (P : Reaction → Type 0) (room : ℕ) (next : Reaction) → (s .asked .used + 1 < 2 ^ 40 → Holds next → Unless P next) → Holds (beginning page s room next) → Unless P (beginning page s room next)
+    begun P room next goes =
+        let Q : Reaction → Type 0 = λ x. Holds x → Unless P x in
+        pick-elim Q (panelRight page s) _ _
+        (λ _. pick-elim Q (ltb room maxMessage) _ _ (λ _ _. refused P 3 (λ e. omega (arith, e)))
+        (λ _. pick-elim Q (ltb (s .asked .used) (2 ^ 40 - 1)) _ _ (λ t. goes (omega (arith, ltb-true (s .asked .used) (2 ^ 40 - 1) t))) (λ _ _. refused P 8 (λ e. omega (arith, e)))))
+        (λ _ _. refused P 2 (λ e. omega (arith, e)))
 
     next-exchange : suc (sys .cache .exchange) ≡ s .asked .used + 1
     next-exchange = omega (arith, panel .exchange, panel .used)
@@ -99,38 +100,39 @@ module _ (w : List ℕ) (rules : Rules w) where
     abbrev fs : List Filter
     fs = filtersAs w (filtersOf (s .held))
 
+    abbrev ReadBegun : Reaction → Type 0
+    ReadBegun x = Begins w old x (read (suc (sys .cache .exchange)) fs) (cacheWith true fs) × FiltersFor (sys .cache) fs
+
+    read-sent : s .asked .used + 1 < 2 ^ 40 → let next = sent page s reading 0 0 0 (readMessage (s .asked .used + 1) (filtersOf (s .held))) in Holds next → ReadBegun next
+    read-sent u v = (
+      record {
+        number = refl;
+        panel = asked-panel reading 0 0 0 (readMessage (s .asked .used + 1) (filtersOf (s .held))) fs v (λ e. absurd (omega (arith, e)));
+        message = reads (s .asked .used + 1) (filtersOf (s .held)) refl (ap (λ (x : ℕ). read x fs) next-exchange) u (filters-fit (s .held) (panel .held .versions-fit)) (omega (arith, filters-few (s .held), panel .valid .held .right .few-clusters));
+      },
+      filters-for w rules old page s (sys .cache) panel,
+    )
+
     pub read-begins : (room : ℕ) → let x = beginsRead page s room in
         (Still page s x × (x .number ≡ 0 → ⊥)) ⊎ (Begins w old x (read (suc (sys .cache .exchange)) fs) ((beginRead sys fs) .cache) × FiltersFor (sys .cache) fs)
     unfolding beginsRead beginRead
-    read-begins room = begun P room next (λ n h v. inl (still n, h)) (λ u v. inr (goes u v, filters-for w rules old page s (sys .cache) panel)) (read-kept page s (panel .valid) room)
-      where
-        P : Reaction → Type 0
-        P x = Holds x → (Still page s x × (x .number ≡ 0 → ⊥)) ⊎ (Begins w old x (read (suc (sys .cache .exchange)) fs) (cacheWith true fs) × FiltersFor (sys .cache) fs)
-
-        next : Reaction
-        next = sent page s reading 0 0 0 (readMessage (s .asked .used + 1) (filtersOf (s .held)))
-
-        goes : s .asked .used + 1 < 2 ^ 40 → Holds next → Begins w old next (read (suc (sys .cache .exchange)) fs) (cacheWith true fs)
-        goes u v = record {
-          number = refl;
-          panel = asked-panel reading 0 0 0 (next .reply) fs v (λ e. absurd (omega (arith, e)));
-          message = reads (s .asked .used + 1) (filtersOf (s .held)) refl (ap (λ (x : ℕ). read x fs) next-exchange) u (filters-fit (s .held) (panel .held .versions-fit)) (omega (arith, filters-few (s .held), panel .valid .held .right .few-clusters));
-        }
+    read-begins room = begun ReadBegun room _ (λ u v. inr (read-sent u v)) (read-kept page s (panel .valid) room)
 
     -- BEGINNING A WRITE
     module _ (e c a : ℕ) (given : Bool) (version : ℕ) (src : List ℕ) (v : Value) (room : ℕ) (fv : version < 2 ^ 32) (p : PathFits e c a) (q : Writable (primitiveD (datumIn src v))) where
-      abbrev After : Reaction → Type 0
-      After x = (Still page s x × (x .number ≡ 0 → ⊥)) ⊎ Begins w old x (write (suc (sys .cache .exchange))) (cacheWith false [])
+      abbrev WriteBegun : Reaction → Type 0
+      WriteBegun x = Begins w old x (write (suc (sys .cache .exchange))) (cacheWith false [])
 
-      wrote : sendable src v ≡ true → s .asked .used + 1 < 2 ^ 40
-          → let next = sent page s writing e c a (writeMessage (s .asked .used + 1) given version e c a (datumIn src v)) in Holds next → Begins w old next (write (suc (sys .cache .exchange))) (cacheWith false [])
+      abbrev message : List ℕ
+      message = writeMessage (s .asked .used + 1) given version e c a (datumIn src v)
+
+      write-sent : sendable src v ≡ true → s .asked .used + 1 < 2 ^ 40 → Holds (sent page s writing e c a message) → WriteBegun (sent page s writing e c a message)
       unfolding askedAs keeping
-      wrote t u h =
+      write-sent t u h =
           let fits : WriteFits version e c a (datumIn src v) = record { version-fits = fv; path = p; writable = q; takable = takable src v t } in
           record {
             number = refl;
-            panel = asked-panel writing e c a (writeMessage (s .asked .used + 1) given version e c a (datumIn src v)) [] h
-                (λ _. record { first = refl; own = own-path (s .asked .used + 1) given version e c a (datumIn src v) u fits w old before });
+            panel = asked-panel writing e c a message [] h (λ _. record { first = refl; own = own-path (s .asked .used + 1) given version e c a (datumIn src v) u fits w old before });
             message = writes (s .asked .used + 1) given version e c a (datumIn src v) refl (ap write next-exchange) u fits;
           }
 
@@ -138,6 +140,6 @@ module _ (w : List ℕ) (rules : Rules w) where
           (Still page s x × (x .number ≡ 0 → ⊥)) ⊎ Begins w old x (write (suc (sys .cache .exchange))) ((beginWrite sys) .cache)
       unfolding beginsWrite beginWrite
       write-begins =
-          begun (λ x. Holds x → After x) room _ (λ n h _. inl (still n, h))
-          (λ u. pick-elim (λ x. Holds x → After x) (sendable src v) _ _ (λ t h. inr (wrote t u h)) (λ _ _. inl (still 10, λ z. omega (arith, z))))
+          begun WriteBegun room _
+          (λ u. pick-elim (λ x. Holds x → Unless WriteBegun x) (sendable src v) _ _ (λ t h. inr (write-sent t u h)) (λ _ _. refused WriteBegun 10 (λ z. omega (arith, z))))
           (write-kept page s (panel .valid) e c a given version src v room (p .endpoint-fits) (p .cluster-fits) (p .attribute-fits) fv)

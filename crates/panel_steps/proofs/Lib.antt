@@ -6,4 +6,5 @@ pub mod FilterLaws
 pub mod WriteLaws
 pub mod BeginLaws
 pub mod AnswerLaws
+pub mod PrimedLaws
 pub mod PartLaws
