@@ -1,10 +1,10 @@
 -- A request that a panel begins is read as it was meant, whatever the panel holds that keeps the rules.
-use mathlib.Core.Path.{_≡_, refl, sym}
-use mathlib.Core.Bool.{Bool, true, false, not}
+use mathlib.Core.Path.{_≡_}
+use mathlib.Core.Bool.{Bool, true, false}
 use mathlib.Core.List.{List}
 use Prim.Native.Nat.{ℕ, _+_, _-_, _^_, _<_}
 use native.Mathlib.Omega.{arith}
-use borrow.Author.Tests.{ltb-true, ltb-false}
+use borrow.Author.Tests.{ltb-true, ltb-false, not-true}
 use lib.Dec.{ltb, leb}
 use lib.ListN.{length, getD, drop, length-take}
 use Rattle.tlv.specs.declared.Value.{Value}
@@ -30,6 +30,22 @@ use Rattle.cache_trip.specs.Begun.{ReadBegun, WriteBegun}
 use Rattle.cache_trip.specs.Taken.{Takable}
 use Rattle.cache_trip.proofs.BeginLaws.{read-envelope, read-taken, write-envelope, write-taken}
 
+-- a value that can be sent is one that a panel can take
+takable-of : (src : List ℕ) (v : Value) → usableIn src v ≡ true → longV v ≡ false → Takable (datumIn src v)
+unfolding Takable usableIn insideUsable longV
+takable-of src value.Null h l = tt
+takable-of src (value.Boolean b) h l = tt
+takable-of src (value.Unsigned n) h l = tt
+takable-of src (value.Signed z) h l = tt
+takable-of src (value.Float n) h l = tt
+takable-of src (value.Text a n) h l =
+    (right (leb a (length src - n)) _ (right (leb n (length src)) _ h), omega (arith, length-take n (drop a src), ltb-false textSize n l))
+takable-of src value.Other h l = never (cc)
+
+pub takable : (src : List ℕ) (v : Value) → sendable src v ≡ true → Takable (datumIn src v)
+unfolding sendable
+takable src v h = takable-of src v (left _ _ h) (not-true (longV v) (right (usableIn src v) _ h))
+
 -- what is begun was let through
 module _ (page : List ℕ) (s : State) (room : ℕ) where
   began : (P : List ℕ → Type 0) (next : Reaction) → (panelRight page s ≡ true → s .asked .used < 2 ^ 40 - 1 → next .number ≡ 0 → P (next .reply)) → beginning page s room next .number ≡ 0 → P (beginning page s room next .reply)
@@ -48,27 +64,11 @@ module _ (page : List ℕ) (s : State) (room : ℕ) where
     request = read-taken (s .held) (record { versions = small; clusters = held-right page (s .held) (left _ _ t) .few-clusters }) (s .asked .used + 1);
   })
 
-  -- a value that can be sent is one that a panel can take
-  is-not : (b : Bool) → not b ≡ true → b ≡ false
-  is-not true h = sym h
-  is-not false h = refl
-
-  takable : (src : List ℕ) (v : Value) → usableIn src v ≡ true → longV v ≡ false → Takable (datumIn src v)
-  unfolding Takable usableIn insideUsable longV
-  takable src value.Null h l = tt
-  takable src (value.Boolean b) h l = tt
-  takable src (value.Unsigned n) h l = tt
-  takable src (value.Signed z) h l = tt
-  takable src (value.Float n) h l = tt
-  takable src (value.Text a n) h l =
-      (right (leb a (length src - n)) _ (right (leb n (length src)) _ h), omega (arith, length-take n (drop a src), ltb-false textSize n l))
-  takable src value.Other h l = never (cc)
-
   -- A WRITE
   module _ (given : Bool) (version e c a : ℕ) (src : List ℕ) (v : Value) (fv : version < 2 ^ 32) (p : PathFits e c a) (w : Writable (primitiveD (datumIn src v))) where
     pub write-begun : beginsWrite page s e c a given version src v room .number ≡ 0 → WriteBegun s given version e c a (datumIn src v) (beginsWrite page s e c a given version src v room .reply)
-    unfolding beginsWrite sendable
-    write-begun = began (WriteBegun s given version e c a (datumIn src v)) _ (λ t l. pick-elim (λ (r : Reaction). r .number ≡ 0 → WriteBegun s given version e c a (datumIn src v) (r .reply)) (sendable src v) _ _ (λ q _. made l (takable src v (left _ _ q) (is-not (longV v) (right (usableIn src v) _ q)))) (λ _ h. absurd (omega (arith, h))))
+    unfolding beginsWrite
+    write-begun = began (WriteBegun s given version e c a (datumIn src v)) _ (λ t l. pick-elim (λ (r : Reaction). r .number ≡ 0 → WriteBegun s given version e c a (datumIn src v) (r .reply)) (sendable src v) _ _ (λ q _. made l (takable src v q)) (λ _ h. absurd (omega (arith, h))))
       where
         made : s .asked .used < 2 ^ 40 - 1 → Takable (datumIn src v) → WriteBegun s given version e c a (datumIn src v) (writeMessage (s .asked .used + 1) given version e c a (datumIn src v))
         made l h =

@@ -7,10 +7,11 @@ use lib.Dec.{eqb}
 use lib.ListN.{getD}
 use Rattle.tlv.specs.Value.{Datum}
 use Rattle.tlv.specs.Decode.Opt.{just}
+use Rattle.schema.specs.Rows.{clusterRow, clusterCount}
 use Rattle.schema.specs.Rules.{path, pathAt}
 use Rattle.cached.specs.declared.Cached.{Cached}
 use Rattle.cached.specs.Entries as cached
-use Rattle.cached.specs.Entries.{lookup}
+use Rattle.cached.specs.Entries.{clusterWord, lookup}
 use Rattle.cache.specs.declared.State.{State}
 use Rattle.cache.specs.State.{reading, writing, isOpen}
 use Rattle.cache.specs.Begin.{keptMessage}
@@ -22,6 +23,11 @@ use Rattle.refinement.proofs.Bytes.{EntryRight, Wrote}
 -- no entry twice
 abbrev pub DistinctKeys : Cached → Type 0
 DistinctKeys c = (i j : ℕ) → i < c .count → j < c .count → getD (c .keys) i 0 ≡ getD (c .keys) j 0 → i ≡ j
+
+-- each cluster is one of the schema's, so that there is room for every other of the schema
+abbrev pub ClusterRows : List ℕ → Cached → Type 0
+ClusterRows w c =
+    (k : ℕ) → k < c .«cluster_count» → (r : ℕ) × (r < clusterCount w) × (getD (c .clusters) k 0 ≡ clusterWord (clusterRow w r .endpoint) (clusterRow w r .cluster))
 
 -- the protocol has an entry for this path, with this version and value
 pub record Found (w : List ℕ) (entries : List (Entry Datum)) (endpoint cluster attribute : ℕ) (x : cached.Entry) : Type 0 where
@@ -35,6 +41,7 @@ pub record Found (w : List ℕ) (entries : List (Entry Datum)) (endpoint cluster
 pub record HeldAs (w page : List ℕ) (c : Cached) (entries : List (Entry Datum)) : Type 0 where
   pub clusters-once : Distinct c
   pub keys-once : DistinctKeys c
+  pub cluster-rows : ClusterRows w c
   pub versions-fit : (i : ℕ) → getD (c .versions) i 0 < 2 ^ 32
   pub right : (e : Entry Datum) → List·Memᴰ e entries → EntryRight w e
   pub has : (e : Entry Datum) → List·Memᴰ e entries → let q = pathAt w (e .place .attribute) in lookup c page (q .endpoint) (q .cluster) (q .attribute) ≡ just (record { version = e .version; value = e .value })

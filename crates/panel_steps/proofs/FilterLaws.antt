@@ -1,0 +1,97 @@
+-- THE FILTERS OF A READ ARE THE PROTOCOL'S: one for each coherent cluster and no other.
+use mathlib.Core.Path.{_≡_, refl, sym, ap, subst, _∙_}
+use mathlib.Core.List.{List, [], _∷_, map, List·Memᴰ, List·Memᴰ·head, List·Memᴰ·tail, List·Memᴰ·not-nil, Memᴰ·cast}
+use Prim.Native.Nat.{ℕ, _/_, _%_, _^_, _<_}
+use native.Mathlib.Omega.{arith}
+use lib.ListN.{getD}
+use Rattle.tlv.specs.Value.{Datum}
+use Rattle.tlv.specs.Decode.Opt.{just}
+use Rattle.schema.specs.declared.Found.{Found}
+use Rattle.schema.specs.declared.Found.the-variants.{At, Nothing}
+use Rattle.schema.specs.Rows.{clusterRow, clusterCount}
+use Rattle.schema.specs.Rules.{Rules}
+use Rattle.schema.specs.Find.{findCluster}
+use Rattle.schema.proofs.RulesLaws.{cluster-rules}
+use Rattle.schema.proofs.FindLaws.{cluster-found, cluster-none}
+use Rattle.schema.proofs.PathLaws.{one-cluster}
+use Rattle.interaction.specs.declared.Wanted.{Wanted}
+use Rattle.interaction_writer.specs.Spelling.{Each}
+use Rattle.cached.specs.declared.Cached.{Cached}
+use Rattle.cached.specs.Limits.{half}
+use Rattle.cached.specs.Entries.{clusterWord, clusterAt}
+use Rattle.cached.proofs.ValidLaws.{right-held, cluster-below}
+use Rattle.cache_request.specs.Filters.{filtersOf}
+use Rattle.cache.specs.declared.State.{State}
+use Rattle.cache_ask.specs.Ask.{coherentOf}
+use Rattle.cache_trip.specs.Exact.{FilterOf}
+use Rattle.cache_trip.proofs.ExactLaws.{filters-exact, filters-complete}
+use Rattle.protocol.specs.Model.{Filter, Cache, CoherentIn, FiltersFor}
+use Rattle.refinement.proofs.Terms.{rowFound, clusterNumber, filterAs, filtersAs}
+use Rattle.refinement.proofs.Panel.{PanelAs}
+use Rattle.panel_parts.proofs.OnceLaws.{found-once}
+use Rattle.panel_steps.proofs.EntryLaws.{word-at, coherent-held, coherent-there}
+use Rattle.panel_steps.proofs.CoherentLaws.{of-row, coherent-row, coherent-as}
+
+mem-map : {A B : Type 0} (f : A → B) {x : A} {l : List A} → List·Memᴰ x l → List·Memᴰ (f x) (map f l)
+mem-map f (List·Memᴰ·head e) = List·Memᴰ·head (ap f e)
+mem-map f (List·Memᴰ·tail m) = List·Memᴰ·tail (mem-map f m)
+
+-- what holds of the images of all that P holds of, holds of each of the images of a list of such
+each-image : {A B : Type 0} (P : A → Type 0) (Q : B → Type 0) (f : A → B) → ((x : A) → P x → Q (f x)) → (l : List A) → Each P l → (y : B) → List·Memᴰ y (map f l) → Q y
+unfolding Each
+each-image P Q f law [] h y m = absurd (List·Memᴰ·not-nil m)
+each-image P Q f law (x ∷ l) h y (List·Memᴰ·head e) = subst Q (sym e) (law x (h .0))
+each-image P Q f law (x ∷ l) h y (List·Memᴰ·tail m) = each-image P Q f law l (h .1) y m
+
+module _ (w : List ℕ) (rules : Rules w) where
+  -- the row of a cluster is found
+  number-is : (k : ℕ) → k < clusterCount w → (e c : ℕ) → clusterRow w k .endpoint ≡ e → clusterRow w k .cluster ≡ c → clusterNumber w e c ≡ k
+  unfolding clusterNumber
+  number-is k l e c pe pc = go (findCluster w e c) refl
+    where
+      go : (f : Found) → findCluster w e c ≡ f → rowFound (clusterCount w) f ≡ k
+      go Nothing q = absurd (cluster-none w e c q k l pe pc)
+      go (At i) q =
+          let r = cluster-found w e c i q in
+          one-cluster w rules i k (r .0) l (r .1 ∙ sym pe) (r .2 ∙ sym pc)
+
+  module _ (sent : List (List ℕ)) (page : List ℕ) (s : State) (c : Cache Datum) (panel : PanelAs w sent page s c) where
+    abbrev held : Cached
+    held = s .held
+
+    narrow : (j : ℕ) → j < held .«cluster_count» → getD (held .clusters) j 0 < 2 ^ 48
+    narrow j b = cluster-below page held (right-held page held (panel .valid .held .right)) j b
+
+    -- a cluster that is coherent at the panel is so under its number
+    numbered : (e cl v : ℕ) → e < 2 ^ 16 → cl < 2 ^ 32 → coherentOf held (clusterWord e cl) ≡ just v → CoherentIn c (clusterNumber w e cl) v
+    numbered e cl v fe fl h =
+        let (k, l, pe, pc) = coherent-row w rules sent page s c panel e cl v fe fl h in
+        subst (λ (n : ℕ). CoherentIn c n v) (sym (number-is k l e cl pe pc))
+        (coherent-as w rules sent page s c panel k l v .0 ((λ i. coherentOf held (clusterWord (pe i) (pc i))) ∙ h))
+
+    -- a filter of the panel is for a coherent cluster
+    one-coherent : (f : Wanted) → FilterOf held f → CoherentIn c (filterAs w f .cluster) (filterAs w f .version)
+    one-coherent f r =
+        let e : ℕ = getD (held .clusters) (r .place) 0 / half % 2 ^ 16 in
+        let cl : ℕ = getD (held .clusters) (r .place) 0 % half in
+        let at : clusterAt held (clusterWord e cl) ≡ At (r .place) = found-once (held .clusters) (held .«cluster_count») (panel .held .clusters-once) (clusterWord e cl) (r .place) (r .there) (omega (arith, narrow (r .place) (r .there))) in
+        subst (λ (g : Wanted). CoherentIn c (filterAs w g .cluster) (filterAs w g .version)) (sym (r .same))
+        (numbered e cl (r .version) (omega arith) (omega arith) (coherent-there held (clusterWord e cl) (r .place) at ∙ r .coherent))
+
+    -- and a coherent cluster has one
+    all-filtered : (cluster version : ℕ) → CoherentIn c cluster version → List·Memᴰ (record { cluster = cluster; version = version }) (filtersAs w (filtersOf held))
+    all-filtered cluster version h =
+        let (d, m, e) = h .some in
+        let l : cluster < clusterCount w = omega (arith, e, of-row w rules d (panel .held .right d m) .there) in
+        let f = cluster-rules w rules cluster l in
+        let row : ℕ = clusterWord (clusterRow w cluster .endpoint) (clusterRow w cluster .cluster) in
+        let (j, at, q) = coherent-held held row version (coherent-as w rules sent page s c panel cluster l version .1 h) in
+        let (b, is) = word-at (held .clusters) (held .«cluster_count») row j at in
+        let number : clusterNumber w (getD (held .clusters) j 0 / half % 2 ^ 16) (getD (held .clusters) j 0 % half) ≡ cluster = number-is cluster l _ _ (omega (arith, is, f .endpoint, f .cluster)) (omega (arith, is, f .cluster)) in
+        Memᴰ·cast (λ i. record { cluster = sym number i; version = version }) (mem-map (filterAs w) (filters-complete held (panel .held .clusters-once) j version b q))
+
+    pub filters-for : FiltersFor c (filtersAs w (filtersOf held))
+    filters-for = record {
+      only = each-image (FilterOf held) (λ (f : Filter). CoherentIn c (f .cluster) (f .version)) (filterAs w) one-coherent (filtersOf held) (filters-exact held);
+      all = all-filtered;
+    }

@@ -1,0 +1,156 @@
+-- A PART OF A REPORT IS TAKEN AS IN THE PROTOCOL: awaited by both or by neither; then both set its entries, and both send a success or end the read.
+use mathlib.Core.Path.{_≡_, refl, sym, ap, subst, _∙_}
+use mathlib.Core.Logic.{inl, inr}
+use mathlib.Core.Bool.{Bool, true, false, _&&_, _||_, not, or-true, or-false}
+use mathlib.Core.List.{List, [], _∷_, _++_, map, List·Memᴰ, List·Memᴰ·head}
+use Prim.Native.Nat.{ℕ, _≤_, _<_}
+use native.Mathlib.Omega.{arith}
+use borrow.Author.Tests.{eqb-true, eq-eqb}
+use lib.Dec.{eqb}
+use lib.ListN.{length}
+use Rattle.tlv.specs.Octet.{pick}
+use Rattle.tlv.specs.Value.{Datum}
+use Rattle.blocks.proofs.BlockLaws.{never}
+use Rattle.schema.specs.declared.Found.the-variants as found
+use Rattle.schema.specs.Rules.{Rules}
+use Rattle.schema.proofs.BoolLaws.{both, left, right, by-test, same}
+use Rattle.interaction_writer.specs.Envelope.{envelopeOctets}
+use Rattle.exchange.specs.Rules.{reportOpcode, maxTurn}
+use Rattle.envelope.specs.declared.Fields.{Fields}
+use Rattle.envelope.specs.Envelope.{maxMessage}
+use Rattle.cached.specs.declared.Cached.{Cached}
+use Rattle.cached.specs.Entries as cached
+use Rattle.cache_part.specs.Part.{blocksIn, judgedAll, heldAll, pageAll}
+use Rattle.cache_request.specs.Messages.{successMessage}
+use Rattle.cache.specs.declared.State.{State}
+use Rattle.cache.specs.State.{reading, isOpen}
+use Rattle.cache.specs.Reaction.{Reaction}
+use Rattle.cache.specs.Begin.{keeping}
+use Rattle.cache_receive.specs.Receive.{opcodeAwaited, endedAs, primedAs, nextAwaited, goesOn, ends, received}
+use Rattle.cache_receive.specs.Receive
+use Rattle.cache_laws.proofs.BoundLaws.{Sized, success-sized}
+use Rattle.cache_laws.proofs.BegunLaws.{Holds, valid-right}
+use Rattle.cache_laws.proofs.KeptLaws.{received-kept}
+use Rattle.cache_trip.proofs.ReceivedLaws
+use Rattle.protocol.specs.Model.{Message, success, exchangeOf, Part, System, awaited, accept, receive}
+use Rattle.refinement.proofs.Bytes.{blockAs, partPayload, partBytes, PartRight, MessageAs, succeeds}
+use Rattle.refinement.proofs.Panel.{HeldAs, PanelAs}
+use Rattle.panel_parts.proofs.PartLaws.{each-sent, part-held}
+use Rattle.panel_steps.proofs.Reactions.{sentWith, Takes}
+use Rattle.panel_steps.proofs.PrimedLaws.{primed-all, primed-held}
+use Rattle.panel_steps.proofs.BeginLaws.{kept-back}
+use Rattle.panel_steps.proofs.AnswerLaws.{not-awaited}
+
+-- a message that is not empty is sent
+sent-with : (m : List ℕ) (l : List (List ℕ)) → 0 < length m → sentWith m l ≡ m ∷ l
+sent-with [] l h = absurd (omega (arith, h))
+sent-with (b ∷ m) l h = refl
+
+module _ (w : List ℕ) (rules : Rules w) where
+  module _ (page : List ℕ) (s : State) (sys : System Datum) (sent : List (List ℕ)) (panel : PanelAs w sent page s (sys .cache))
+      (older : (m : List ℕ) → List·Memᴰ m sent → (u : Message) × MessageAs w m u × (exchangeOf u ≤ sys .cache .exchange)) where
+    module _ (p : Part Datum) (sound : PartRight w p) (turns : p .more ≡ true → p .turn < maxTurn) (room : ℕ) (large : maxMessage ≤ room) where
+      abbrev payload : List ℕ
+      payload = partPayload w p
+
+      abbrev held : Cached
+      held = heldAll payload (s .held) (blocksIn payload)
+
+      abbrev texts : List ℕ
+      texts = pageAll payload (s .held) page (blocksIn payload)
+
+      law : (judgedAll payload (record { number = 0; held = s .held }) (blocksIn payload) .number ≡ 0) × HeldAs w texts held ((accept sys p) .cache .entries)
+      unfolding accept
+      law = part-held w rules page (s .held) (panel .valid .held) (sys .cache .entries) (panel .held) p sound
+
+      -- THE PART AWAITED
+      module _ (e : s .asked .stage ≡ reading) (q : s .asked .exchange ≡ p .exchange) (t : s .asked .turn ≡ p .turn) where
+        taken : received page s (partBytes w p) room ≡ pick (p .more) (goesOn held (s .asked) texts) (ends held (s .asked) texts)
+        unfolding partBytes
+        taken =
+            sym (λ i. received page s (envelopeOctets reportOpcode (q i) (t i) ++ payload) room)
+            ∙ ReceivedLaws.report-received page s room (valid-right page s (panel .valid)) large (panel .turn-fits) payload (sound .short) e
+            ∙ ReceivedLaws.part-taken (map (blockAs w) (p .entries)) (p .more) (each-sent w rules (p .entries) (sound .entries)) page s (λ m z. omega (arith, turns m, t, z)) (law .0)
+
+        more : p .more ≡ true → Holds (goesOn held (s .asked) texts) → Takes w sent sys (goesOn held (s .asked) texts) (accept sys p)
+        unfolding accept goesOn keeping isOpen
+        more m v = record {
+          panel = subst (λ (l : List (List ℕ)). PanelAs w l texts (goesOn held (s .asked) texts .state) ((accept sys p) .cache)) (sym (sent-with message sent (sized .some))) (record {
+            valid = v;
+            held = law .1;
+            primed = ap (λ (b : Bool). sys .cache .primed || not b) m ∙ or-false (sys .cache .primed) ∙ panel .primed ∙ sym (primed-all payload (s .held) (blocksIn payload));
+            used = panel .used;
+            exchange = panel .exchange;
+            reading-is = m ∙ sym (ap (λ (n : ℕ). eqb n reading) e);
+            next = λ _. omega (arith, t);
+            turn-fits = omega (arith, turns m, t);
+            writing-is = λ z. absurd (omega (arith, e, z));
+            newest = λ _. List·Memᴰ·head (kept-back (nextAwaited (s .asked)) message (omega (arith, sized .fits, panel .valid .kept)));
+          });
+          told = inr (success (p .exchange) (p .turn), succeeds (s .asked .exchange) (s .asked .turn) refl (λ i. success (sym q i) (sym t i)) (omega (arith, q, sound .exchange)) (panel .turn-fits), rw m refl, λ z. omega (arith, sized .some, ap (λ (l : List ℕ). length l) z));
+          never-6 = λ z. omega (arith, z);
+          never-7 = λ z. omega (arith, z);
+        }
+          where
+            message : List ℕ
+            message = successMessage (s .asked .exchange) (s .asked .turn)
+
+            sized : Sized message
+            sized = success-sized (s .asked .exchange) (s .asked .turn)
+
+        last : p .more ≡ false → Holds (ends held (s .asked) texts) → Takes w sent sys (ends held (s .asked) texts) (accept sys p)
+        unfolding accept endedAs isOpen primedAs
+        last m v = record {
+          panel = record {
+            valid = v;
+            held = primed-held w texts held ((accept sys p) .cache .entries) (law .1);
+            primed = ap (λ (b : Bool). sys .cache .primed || not b) m ∙ or-true (sys .cache .primed);
+            used = panel .used;
+            exchange = panel .exchange;
+            reading-is = m;
+            next = λ z. absurd (omega (arith, z));
+            turn-fits = panel .turn-fits;
+            writing-is = λ z. absurd (omega (arith, z));
+            newest = λ o. never (cc);
+          };
+          told = inl (refl, rw m refl);
+          never-6 = λ z. omega (arith, z);
+          never-7 = λ z. omega (arith, z);
+        }
+
+        after : (b : Bool) → p .more ≡ b → Holds (pick b (goesOn held (s .asked) texts) (ends held (s .asked) texts)) → Takes w sent sys (pick b (goesOn held (s .asked) texts) (ends held (s .asked) texts)) (accept sys p)
+        after true m v = more m v
+        after false m v = last m v
+
+        own : Takes w sent sys (received page s (partBytes w p) room) (accept sys p)
+        own =
+            subst (λ (r : Reaction). Takes w sent sys r (accept sys p)) (sym taken)
+            (after (p .more) refl (subst Holds taken (received-kept page s (panel .valid) (partBytes w p) room)))
+
+      -- awaited by the panel exactly if in the protocol
+      abbrev fields : Fields
+      fields = record { edition = 0; opcode = reportOpcode; exchange = p .exchange; turn = p .turn }
+
+      to-own : Receive.awaited (s .asked) fields ≡ true → (s .asked .stage ≡ reading) × (s .asked .exchange ≡ p .exchange) × (s .asked .turn ≡ p .turn)
+      unfolding Receive.awaited opcodeAwaited
+      to-own h =
+          let a = right (isOpen (s .asked .stage)) _ h in
+          let b = right (eqb (p .exchange) (s .asked .exchange)) _ a in
+          (eqb-true _ _ (right (eqb (p .turn) (s .asked .turn)) _ b), sym (eqb-true _ _ (left _ _ a)), sym (eqb-true _ _ (left _ _ b)))
+
+      from-own : s .asked .stage ≡ reading → p .exchange ≡ s .asked .exchange → p .turn ≡ s .asked .turn → Receive.awaited (s .asked) fields ≡ true
+      unfolding Receive.awaited opcodeAwaited isOpen
+      from-own e q t = both (isOpen (s .asked .stage)) _ (rw e refl) (both _ _ (eq-eqb _ _ q) (both _ _ (eq-eqb _ _ t) (eq-eqb _ _ e)))
+
+      both-await : awaited (sys .cache) p ≡ Receive.awaited (s .asked) fields
+      both-await = same _ _
+          (λ h. let a = left _ _ h in
+          let e : s .asked .stage ≡ reading = eqb-true _ _ (sym (panel .reading-is) ∙ right (eqb (p .exchange) (sys .cache .exchange) && eqb (p .turn) (sys .cache .next)) _ h) in
+          from-own e (eqb-true _ _ (left _ _ a) ∙ panel .exchange) (eqb-true _ _ (right (eqb (p .exchange) (sys .cache .exchange)) _ a) ∙ panel .next e))
+          (λ h. let (e, q, t) = to-own h in
+          both _ _ (both _ _ (eq-eqb _ _ (sym (panel .exchange ∙ q))) (eq-eqb _ _ (sym (panel .next e ∙ t)))) (panel .reading-is ∙ eq-eqb _ _ e))
+
+      pub part-taken : Takes w sent sys (received page s (partBytes w p) room) (receive sys p)
+      unfolding partBytes receive
+      part-taken = by-test (Receive.awaited (s .asked) fields) (λ a. let (e, q, t) = to-own a in rw (both-await ∙ a) (own e q t))
+          (λ a. rw (both-await ∙ a) (not-awaited w rules page s sys sent panel older reportOpcode (p .exchange) (p .turn) (omega arith) (sound .exchange) (sound .turn) payload a room large))

@@ -1,0 +1,65 @@
+-- Whether the panel is primed: blocks leave it so, and priming changes no entry.
+use mathlib.Core.Path.{_≡_, refl, sym, _∙_}
+use mathlib.Core.List.{List, [], _∷_}
+use Prim.Native.Nat.{ℕ}
+use Rattle.tlv.specs.Value.{Datum}
+use Rattle.blocks.specs.Data.{ReportOf}
+use Rattle.schema.specs.declared.Found.{Found}
+use Rattle.schema.specs.declared.Found.the-variants as found
+use Rattle.schema.proofs.BoolLaws.{right}
+use Rattle.cached.specs.declared.Cached.{Cached}
+use Rattle.cached.specs.Entries as cached
+use Rattle.cached.specs.Entries.{lookup}
+use Rattle.cached.specs.Set.{withCluster, withEntry}
+use Rattle.cache_part.specs.declared.block.Fate.{Fate}
+use Rattle.cache_part.specs.declared.block.Fate.the-variants.{Taken, Long, Unusable}
+use Rattle.cache_part.specs.declared.entry.Spot.{Spot}
+use Rattle.cache_part.specs.declared.entry.Spot.the-variants.{At, Full}
+use Rattle.cache_part.specs.Entry.{spotOf, withItem, heldAt, heldFor}
+use Rattle.cache_part.specs.Part.{fateIn, heldAll}
+use Rattle.cache_receive.specs.Receive.{primedAs}
+use Rattle.cache_receive.specs.Receive
+use Rattle.cache_trip.proofs.ReceivedLaws
+use Rattle.protocol.specs.Model.{Entry}
+use Rattle.refinement.proofs.Panel.{HeldAs}
+
+-- blocks leave it as it is whether the panel is primed
+primed-one : (c : Cached) (f : Fate) → heldFor c f .primed ≡ c .primed
+unfolding heldFor withItem withEntry withCluster
+primed-one c Unusable = refl
+primed-one c Long = refl
+primed-one c (Taken x) = go (spotOf c x)
+  where
+    go : (p : Spot) → heldAt c x p .primed ≡ c .primed
+    go (At k i) = refl
+    go Full = refl
+
+pub primed-all : (s : List ℕ) (c : Cached) (l : List (ReportOf ℕ)) → heldAll s c l .primed ≡ c .primed
+unfolding heldAll
+primed-all s c [] = refl
+primed-all s c (r ∷ l) = primed-all s (heldFor c (fateIn s r)) l ∙ primed-one c (fateIn s r)
+
+-- and priming changes no entry
+primed-lookup : (page : List ℕ) (c : Cached) (e cl a : ℕ) → lookup c page e cl a ≡ lookup (primedAs c) page e cl a
+unfolding primedAs lookup cached.pathAt
+primed-lookup page c e cl a = go (cached.clusterAt c (cached.clusterWord e cl))
+  where
+    there : (f : Found) → cached.atEntry c page f ≡ cached.atEntry (primedAs c) page f
+    there (found.At i) = refl
+    there found.Nothing = refl
+
+    go : (f : Found) → cached.atEntry c page (cached.inCluster c a f) ≡ cached.atEntry (primedAs c) page (cached.inCluster (primedAs c) a f)
+    go (found.At k) = there (cached.entryAt c (cached.keyWord k a))
+    go found.Nothing = refl
+
+pub primed-held : (w page : List ℕ) (c : Cached) (entries : List (Entry Datum)) → HeldAs w page c entries → HeldAs w page (primedAs c) entries
+unfolding primedAs
+primed-held w page c entries h = record {
+  clusters-once = h .clusters-once;
+  keys-once = h .keys-once;
+  cluster-rows = h .cluster-rows;
+  versions-fit = h .versions-fit;
+  right = h .right;
+  has = λ d m. sym (primed-lookup page c _ _ _) ∙ h .has d m;
+  only = λ e cl a fe fl fa x q. h .only e cl a fe fl fa x (primed-lookup page c e cl a ∙ q);
+}
