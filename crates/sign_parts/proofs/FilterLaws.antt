@@ -1,6 +1,6 @@
 -- Filters skip an attribute in the protocol exactly if they skip its cluster's row.
 use mathlib.Core.Path.{_≡_, refl, sym, ap, _∙_}
-use mathlib.Core.Bool.{Bool, true, not, _&&_, _||_}
+use mathlib.Core.Bool.{true, not, _&&_, _||_}
 use mathlib.Core.List.{List, [], _∷_}
 use Prim.Native.Nat.{ℕ, _<_}
 use native.Mathlib.Omega.{arith}
@@ -51,12 +51,14 @@ module _ (w : List ℕ) (rules : Rules w) (k : ℕ) (there : k < clusterCount w)
   some-any [] = refl
   some-any (f ∷ fs) = rw (row-named f, some-any fs)
 
-  agree-every : (version : ℕ) (fs : List Wanted) → agree endpoint cluster version fs ≡ every (λ (f : Filter). not (eqb (f .cluster) k) || eqb (f .version) version) (filtersAs w fs)
+  agree-every : (version : ℕ) (fs : List Wanted)
+      → agree endpoint cluster version fs ≡ every (λ (f : Filter). not (eqb (f .cluster) k) || eqb (f .version) version) (filtersAs w fs)
   unfolding agree
   agree-every version [] = refl
   agree-every version (f ∷ fs) = rw (row-named f, agree-every version fs)
 
   -- an attribute of that cluster, at the version that this has
-  pub skips-same : {Value : Type 0} (clusters : ℕ → Cluster Value) (version : ℕ) → clusters k .version ≡ version → (fs : List Wanted) (attribute : ℕ) → skipsBy fs endpoint cluster version ≡ skips (filtersAs w fs) clusters (record { cluster = k; attribute = attribute })
+  pub skips-same : {Value : Type 0} (clusters : ℕ → Cluster Value) (version : ℕ) → clusters k .version ≡ version → (fs : List Wanted) (attribute : ℕ)
+      → skipsBy fs endpoint cluster version ≡ skips (filtersAs w fs) clusters (record { cluster = k; attribute = attribute })
   unfolding skipsBy skips
   skips-same clusters version e fs attribute = rw (e, some-any fs, agree-every version fs)

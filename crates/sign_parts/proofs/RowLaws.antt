@@ -1,5 +1,5 @@
 -- A read of everything, row by row: the blocks ahead are the values of those attributes that the panel may read and that its filters do not skip.
-use mathlib.Core.Path.{_≡_, refl, ap, _∙_}
+use mathlib.Core.Path.{_≡_, refl, _∙_}
 use mathlib.Core.Bool.{Bool, true, false, not, _&&_}
 use mathlib.Core.List.{List, [], _∷_}
 use Prim.Native.Nat.{ℕ, suc, _+_, _-_, _≤_, _<_}
@@ -35,74 +35,83 @@ use Rattle.protocol.specs.Model.{Place, Cluster, skips}
 use Rattle.refinement.proofs.Terms.{placeAt, mayRead, readableFrom, filtersAs, ClustersAs}
 use Rattle.sign_parts.proofs.FilterLaws.{skips-same}
 
+-- the paths of the read: one, which names nothing
+abbrev pub paths : List Asked
+paths = askedFor everything ∷ []
+
+-- its blocks from row i on
+abbrev pub blocksAt : View → ℕ → List Placed
+blocksAt s i = blocksFrom s paths (record { path = 0; index = i })
+
+-- and the places of the protocol
+abbrev pub placesAt : List ℕ → Grants → ℕ → List Place
+placesAt w g i = readableFrom w g (attributeCount w - i) i
+
+-- the value of attribute i, as a block of that path
+abbrev pub placed : List ℕ → List ℕ → List ℕ → Values → ℕ → Placed
+placed w defaults edits v i = record { path = 0; index = i; block = valueBlock w v defaults edits i }
+
+-- past the last row there is nothing
+pub blocks-past : (s : View) (i : ℕ) → attributeCount (s .schema) ≤ i → blocksAt s i ≡ []
+unfolding blocksFrom pathsBlocks span concrete askedFor
+blocks-past s i h = path-past s 0 (askedFor everything) [] i h
+
+pub places-past : (w : List ℕ) (g : Grants) (i : ℕ) → attributeCount w ≤ i → placesAt w g i ≡ []
+unfolding readableFrom
+places-past w g i h = let q : attributeCount w - i ≡ 0 = omega arith in rw q
+
 module _ (w defaults edits : List ℕ) (v : Values) (g : Grants) (fs : List Wanted) (clusters : ℕ → Cluster Datum) where
-  abbrev pub view : View
+  abbrev view : View
   view = viewOf w v defaults edits g fs
 
-  -- the one path of the read
-  abbrev pub all : Asked
-  all = askedFor everything
-
-  -- the blocks from row i on
-  abbrev pub blocks : ℕ → List Placed
-  blocks i = blocksFrom view (all ∷ []) (record { path = 0; index = i })
-
-  -- the protocol's places from row i on
-  abbrev pub ahead : ℕ → List Place
-  ahead i = readableFrom w g (attributeCount w - i) i
-
-  abbrev pub skip : Place → Bool
+  abbrev skip : Place → Bool
   skip = skips (filtersAs w fs) clusters
-
-  abbrev pub blockAtRow : ℕ → Placed
-  blockAtRow i = record { path = 0; index = i; block = valueBlock w v defaults edits i }
 
   -- WHAT ROW i ADDS to both
   pub data Row (i : ℕ) : Type 0 where
-    unread : blocks i ≡ blocks (i + 1) → ahead i ≡ ahead (i + 1) → Row i
-    skipped : skip (placeAt w i) ≡ true → blocks i ≡ blocks (i + 1) → ahead i ≡ placeAt w i ∷ ahead (i + 1) → Row i
-    shown : skip (placeAt w i) ≡ false → blocks i ≡ blockAtRow i ∷ blocks (i + 1) → ahead i ≡ placeAt w i ∷ ahead (i + 1) → Row i
+    unread : blocksAt view i ≡ blocksAt view (i + 1) → placesAt w g i ≡ placesAt w g (i + 1) → Row i
+    skipped : skip (placeAt w i) ≡ true → blocksAt view i ≡ blocksAt view (i + 1) → placesAt w g i ≡ placeAt w i ∷ placesAt w g (i + 1) → Row i
+    shown : skip (placeAt w i) ≡ false → blocksAt view i ≡ placed w defaults edits v i ∷ blocksAt view (i + 1) → placesAt w g i ≡ placeAt w i ∷ placesAt w g (i + 1) → Row i
 
-  -- past the last row there is nothing
-  pub blocks-past : (i : ℕ) → attributeCount w ≤ i → blocks i ≡ []
-  unfolding blocksFrom pathsBlocks span concrete askedFor
-  blocks-past i h = path-past view 0 all [] i h
+  module _ (formed : wellFormed w ≡ true) (held : ClustersAs w defaults edits v clusters) (i : ℕ) (row : i < attributeCount w) where
+    abbrev k : ℕ
+    k = attributeRow w i .clusterIndex
 
-  pub ahead-past : (i : ℕ) → attributeCount w ≤ i → ahead i ≡ []
-  unfolding readableFrom
-  ahead-past i h = let q : attributeCount w - i ≡ 0 = omega arith in rw q
-
-  module _ (right : wellFormed w ≡ true) (held : ClustersAs w defaults edits v clusters) (i : ℕ) (row : i < attributeCount w) where
-    skips-row : getD (view .skips) (attributeRow w i .clusterIndex) false ≡ skip (placeAt w i)
+    skips-row : getD (view .skips) k false ≡ skip (placeAt w i)
     unfolding skipsOf
     skips-row =
-        let k = attributeRow w i .clusterIndex in
-        let there = cluster-of w right i row in
+        let there = cluster-of w formed i row in
         filled-at false (skipsAt w fs (v .versions)) clusterLimit (clusterCount w) k false there
-        ∙ skips-same w (well-formed-rules w .0 right) k there clusters (getD (v .versions) k 0) (held .versions k there) fs i
+        ∙ skips-same w (well-formed-rules w .0 formed) k there clusters (getD (v .versions) k 0) (held .versions k there) fs i
 
-    block-row : blockAt view all i ≡ pick (mayRead w g i) (pick (skip (placeAt w i)) nothing (just (valueBlock w v defaults edits i))) nothing
+    -- what may be read and is not skipped has a block
+    abbrev blockIf : Bool → Bool → Opt Block
+    blockIf may skips-it = pick may (pick skips-it nothing (just (valueBlock w v defaults edits i))) nothing
+
+    block-row : blockAt view (askedFor everything) i ≡ blockIf (mayRead w g i) (skip (placeAt w i))
     unfolding blockOf itemAt wildcardItem readItem mayRead concrete asksFor askedFor
-    block-row = rw (← skips-row) (go (eqb (attributeRow w i .read) 0) (isGranted g (attributeRow w i .clusterIndex) (attributeRow w i .read)) (getD (view .skips) (attributeRow w i .clusterIndex) false))
+    block-row = rw (← skips-row) (go (eqb (attributeRow w i .read) 0) (isGranted g k (attributeRow w i .read)) (getD (view .skips) k false))
       where
-        go : (a b c : Bool) → blockOf w v defaults edits all (silent (pick a (item.Status unsupportedRead) (pick b (pick c item.Nothing (item.Value i)) (item.Status unsupportedAccess)))) ≡ pick (not a && b) (pick c nothing (just (valueBlock w v defaults edits i))) nothing
+        go : (a b c : Bool) →
+            blockOf w v defaults edits (askedFor everything) (silent (pick a (item.Status unsupportedRead) (pick b (pick c item.Nothing (item.Value i)) (item.Status unsupportedAccess))))
+            ≡ blockIf (not a && b) c
         go true b c = refl
         go false true true = refl
         go false true false = refl
         go false false c = refl
 
-    blocks-row : (o : Opt Block) → blockAt view all i ≡ o → blocks i ≡ entry 0 i o (blocks (i + 1))
+    blocks-row : (o : Opt Block) → blockIf (mayRead w g i) (skip (placeAt w i)) ≡ o → blocksAt view i ≡ entry 0 i o (blocksAt view (i + 1))
     unfolding blocksFrom span concrete askedFor
-    blocks-row o e = path-step view 0 all [] i o row e
+    blocks-row o e = path-step view 0 (askedFor everything) [] i o row (block-row ∙ e)
 
-    ahead-row : ahead i ≡ pick (mayRead w g i) (placeAt w i ∷ ahead (i + 1)) (ahead (i + 1))
+    places-row : placesAt w g i ≡ pick (mayRead w g i) (placeAt w i ∷ placesAt w g (i + 1)) (placesAt w g (i + 1))
     unfolding readableFrom
-    ahead-row = let q : attributeCount w - i ≡ suc (attributeCount w - (i + 1)) = omega arith in rw q
+    places-row = let q : attributeCount w - i ≡ suc (attributeCount w - (i + 1)) = omega arith in rw q
 
     pub at-row : Row i
     at-row =
         by-test (mayRead w g i)
         (λ m. by-test (skip (placeAt w i))
-        (λ s. skipped s (blocks-row nothing (block-row ∙ rw (m, s))) (ahead-row ∙ rw m))
-        (λ s. shown s (blocks-row (just _) (block-row ∙ rw (m, s))) (ahead-row ∙ rw m)))
-        (λ m. unread (blocks-row nothing (block-row ∙ rw m)) (ahead-row ∙ rw m))
+        (λ s. skipped s (blocks-row nothing (rw (m, s))) (places-row ∙ rw m))
+        (λ s. shown s (blocks-row (just _) (rw (m, s))) (places-row ∙ rw m)))
+        (λ m. unread (blocks-row nothing (rw m)) (places-row ∙ rw m))

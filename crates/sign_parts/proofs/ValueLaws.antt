@@ -1,5 +1,5 @@
 -- What a sign holds can be written in a report, and a panel can take it.
-use mathlib.Core.Path.{_≡_, refl}
+use mathlib.Core.Path.{_≡_}
 use mathlib.Core.Bool.{Bool, true, false}
 use mathlib.Core.List.{List}
 use Prim.Native.Nat.{ℕ, zero, suc, _%_, _^_, _<_}
@@ -55,7 +55,11 @@ signed-fits : (n : ℕ) → mag (toZ w64 n) < 2 ^ 63
 signed-fits n = by-test (ltb n (2 ^ 63)) (λ t. rw t (omega (arith, ltb-true n (2 ^ 63) t))) (λ t. rw t (omega (arith, ltb-false n (2 ^ 63) t)))
 
 module _ (nullable : Bool) (word : ℕ) (shown : List ℕ) where
-  kind-takable : (k : Kind) (isNull : Bool) → held k nullable word isNull ≡ true → pick isNull true (pick (textual k) (shownRight shown word) true) ≡ true → Takable (heldDatum k word isNull shown)
+  -- a text is shown whole
+  abbrev ShownIf : Kind → Bool → Type 0
+  ShownIf k isNull = pick isNull true (pick (textual k) (shownRight shown word) true) ≡ true
+
+  kind-takable : (k : Kind) (isNull : Bool) → held k nullable word isNull ≡ true → ShownIf k isNull → Takable (heldDatum k word isNull shown)
   unfolding held heldDatum Takable shownRight
   kind-takable k true h s = tt
   kind-takable Kinds.Boolean false h s = tt
@@ -65,7 +69,7 @@ module _ (nullable : Bool) (word : ℕ) (shown : List ℕ) where
   kind-takable Kinds.Text false h s =
       (right (eqb (length shown) word) _ s, omega (arith, leb-true word textMax h, eqb-true (length shown) word (left _ (utf8.wellFormed shown) s)))
 
-  kind-writable : (k : Kind) → HighFits k → (isNull : Bool) → held k nullable word isNull ≡ true → pick isNull true (pick (textual k) (shownRight shown word) true) ≡ true → Writable (primitiveD (heldDatum k word isNull shown))
+  kind-writable : (k : Kind) → HighFits k → (isNull : Bool) → held k nullable word isNull ≡ true → ShownIf k isNull → Writable (primitiveD (heldDatum k word isNull shown))
   unfolding held heldDatum Writable primitiveD shownRight
   kind-writable k f true h s = tt
   kind-writable Kinds.Boolean f false h s = tt
