@@ -2,16 +2,16 @@
 use mathlib.Core.Path.{_≡_, refl, sym, ap, _∙_}
 use mathlib.Core.Bool.{true, true≢false}
 use mathlib.Core.List.{List}
-use Prim.Native.Nat.{ℕ, zero, suc, _+_, _*_, _-_, _^_, _≤_, _<_}
+use Prim.Native.Nat.{ℕ, _+_, _*_, _-_, _^_, _≤_, _<_}
 use native.Mathlib.Nat.{mod-eq-of-lt}
 use native.Mathlib.Omega.{arith}
 use borrow.Author.Tests.{ltb-true, ltb-false}
 use lib.Dec.{ltb}
-use lib.ListN.{length, getD, replicate, length-replicate}
+use lib.ListN.{length, getD, replicate, length-replicate, getD-replicate, List·getD-eq-default}
 use lib.Seq.{getD-append-add}
 use Rattle.tlv.specs.Value.{Datum}
 use Rattle.schema.specs.Layout.{clusterLimit, textSize}
-use Rattle.schema.specs.Rows.{clusterRow, clusterCount, rowsFrom, filled}
+use Rattle.schema.specs.Rows.{clusterRow, clusterCount, rowsFrom}
 use Rattle.schema.specs.Check.{textCount}
 use Rattle.schema.specs.Rules.{Rules}
 use Rattle.schema.proofs.BoolLaws.{by-test}
@@ -19,7 +19,7 @@ use Rattle.schema.proofs.RowLaws.{rows-length}
 use Rattle.schema.proofs.RulesLaws.{well-formed-rules, cluster-rules}
 use Rattle.node.specs.Check.{accepted}
 use Rattle.acl.specs.declared.Grants.{Grants}
-use Rattle.values.specs.Fresh.{freshValues}
+use Rattle.values.specs.Fresh.{firstVersions, freshValues}
 use Rattle.values.proofs.FreshLaws.{fresh-version}
 use Rattle.replies.specs.Messages.{maxMessage}
 use Rattle.server.specs.Start.{freshRow, started}
@@ -29,11 +29,6 @@ use Rattle.protocol.specs.Model as Model
 use Rattle.refinement.proofs.Terms.{nodeOf, ClustersAs}
 use Rattle.refinement.proofs.Bytes.{silent}
 use Rattle.refinement.proofs.Sign.{RowAs, SignAs}
-
-zeros : (n i : ℕ) → _≡_ {A = ℕ} (getD (replicate n 0) i 0) 0
-zeros zero i = refl
-zeros (suc n) zero = refl
-zeros (suc n) (suc i) = zeros n i
 
 module _ (w defaults : List ℕ) (h : accepted w defaults ≡ true) where
   rules : Rules w
@@ -46,9 +41,10 @@ module _ (w defaults : List ℕ) (h : accepted w defaults ≡ true) where
       let f : ℕ → ℕ = λ i. clusterRow w i .version in
       let n = clusterCount w in
       let q : k ≡ length (rowsFrom f n 0) + (k - n) = omega (arith, rows-length f n 0) in
-      ap (λ (j : ℕ). getD (filled 0 f clusterLimit n) j 0) q
+      ap (λ (j : ℕ). getD (firstVersions w) j 0) q
       ∙ getD-append-add (rowsFrom f n 0) (replicate (clusterLimit - n) 0) (k - n) 0
-      ∙ zeros (clusterLimit - n) (k - n)
+      ∙ by-test (ltb (k - n) (clusterLimit - n)) (λ t. getD-replicate (clusterLimit - n) (k - n) 0 0 (ltb-true (k - n) (clusterLimit - n) t))
+      (λ t. List·getD-eq-default (replicate (clusterLimit - n) 0) 0 (omega (arith, length-replicate {A = ℕ} (clusterLimit - n) 0, ltb-false (k - n) (clusterLimit - n) t)))
 
   fresh-fit : (k : ℕ) → getD (freshValues w .versions) k 0 < 2 ^ 32
   fresh-fit k =

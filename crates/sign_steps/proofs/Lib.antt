@@ -3,4 +3,11 @@ pub mod SilenceLaws
 pub mod FreshLaws
 pub mod StoreLaws
 pub mod ChangeLaws
+pub mod ServeLaws
+pub mod ReadLaws
+pub mod RequestLaws
+pub mod WriteLaws
+pub mod ExchangeLaws
+pub mod SizeLaws
+pub mod MessageLaws
 pub mod Main

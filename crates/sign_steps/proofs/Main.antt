@@ -2,8 +2,8 @@
 use mathlib.Core.Path.{_≡_}
 use mathlib.Core.Logic.{_⊎_}
 use mathlib.Core.Bool.{Bool, true}
-use mathlib.Core.List.{List, [], _∷_}
-use Prim.Native.Nat.{ℕ, _*_, _^_, _<_}
+use mathlib.Core.List.{List, [], _∷_, List·Memᴰ}
+use Prim.Native.Nat.{ℕ, _*_, _^_, _≤_, _<_}
 use lib.ListN.{length, getD}
 use Rattle.tlv.specs.declared.Value.{Value}
 use Rattle.tlv.specs.Value.{Datum}
@@ -12,19 +12,22 @@ use Rattle.schema.specs.Layout.{subjectWord, textSize}
 use Rattle.schema.specs.Check.{textCount}
 use Rattle.node.specs.Check.{accepted}
 use Rattle.acl.specs.declared.Grants.{Grants}
+use Rattle.exchange.specs.Rules.{maxTurn}
 use Rattle.replies.specs.Messages.{maxMessage}
 use Rattle.server.specs.declared.State.{State}
 use Rattle.server.specs.Receive.{received}
 use Rattle.server.specs.Start.{started, alteredBy}
 use Rattle.server.proofs.ReceivedLaws.{Untouched}
 use Rattle.protocol.specs.Model as Model
-use Rattle.protocol.specs.Model.{Node, System, change}
+use Rattle.protocol.specs.Model.{Message, Node, System, Store, change, serve}
 use Rattle.refinement.proofs.Terms.{nodeOf}
+use Rattle.refinement.proofs.Bytes.{MessageAs}
 use Rattle.refinement.proofs.Sign.{SignAs, Serves}
 use Rattle.sign_steps.proofs.SentLaws.{sign-still}
 use Rattle.sign_steps.proofs.SilenceLaws.{other-still, small-still}
 use Rattle.sign_steps.proofs.FreshLaws.{fresh-sign}
 use Rattle.sign_steps.proofs.ChangeLaws.{changed-as}
+use Rattle.sign_steps.proofs.MessageLaws.{message-as}
 
 -- start: the page of edits at the beginning
 module _ (w defaults start : List ℕ) (g : Grants) (words-fit : (k : ℕ) → getD w k 0 < 2 ^ 64) where
@@ -35,6 +38,12 @@ module _ (w defaults start : List ℕ) (g : Grants) (words-fit : (k : ℕ) → g
   fresh-as h size sent = fresh-sign w defaults h start size g sent
 
   module _ (edits : List ℕ) (s : State) (sys : System Datum) (sent : List (List ℕ)) (stands : SignAs w defaults g sent edits s (sys .clusters) (sys .row)) where
+    -- A MESSAGE that the panel has sent
+    pub message-served : (sys .row .more ≡ true → sys .row .turn < maxTurn) → (m : List ℕ) (u : Message) → MessageAs w m u → List·Memᴰ m sent → (room : ℕ) → maxMessage ≤ room →
+        let x = received w defaults edits s true g (getD w subjectWord 0) m room in
+        (size : ℕ) × (stores : List (Store Datum)) × Serves w defaults g sent s (x .state) (x .edits) (x .reply) sys (serve node sys u size stores)
+    message-served turns m u h there room enough = message-as w defaults start g words-fit sent edits s sys stands room enough turns m u h there
+
     -- A LOCAL CHANGE
     pub change-served : (e c a : ℕ) (src : List ℕ) (new : Value) → Sized new →
         let x = alteredBy w defaults edits s e c a src new in
