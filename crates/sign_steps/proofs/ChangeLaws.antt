@@ -8,7 +8,6 @@ use Rattle.tlv.specs.declared.Value.{Value}
 use Rattle.tlv.specs.Value.{Datum, datumIn}
 use Rattle.kinds.proofs.StoredLaws.{Sized}
 use Rattle.schema.specs.Rows.{attributeRow, attributeCount}
-use Rattle.schema.specs.Rules.{Rules}
 use Rattle.schema.proofs.RulesLaws.{well-formed-rules}
 use Rattle.acl.specs.declared.Grants.{Grants}
 use Rattle.node.specs.Attributes.{kindOf}
@@ -20,14 +19,13 @@ use Rattle.selection.proofs.LocateLaws.{located-here}
 use Rattle.writes.specs.Offer.{Held, verdictOn, storedIn, byPlace, changed}
 use Rattle.writes.proofs.HeldLaws.{placed-holds}
 use Rattle.kinds.specs.declared.Verdict.the-variants.{Success}
-use Rattle.server.specs.declared.State.{State}
 use Rattle.server.specs.Start.{Altered, altered, alteredBy}
-use Rattle.server.proofs.SignLaws.{RightSign, sign-right}
 use Rattle.server.proofs.StartLaws.{altered-right}
 use Rattle.server.proofs.KeptLaws.{change-kept}
 use Rattle.protocol.specs.Model.{System, change}
 use Rattle.refinement.proofs.Bytes.{silent}
-use Rattle.refinement.proofs.Sign.{SignAs, Serves}
+use Rattle.refinement.proofs.Sign.{Serves}
+use Rattle.sign_steps.proofs.Standing.{Standing, right-of}
 use Rattle.sign_steps.proofs.StoreLaws.{Once, Holds, unmoved, stored-as}
 
 -- the protocol has moved nothing but the clusters
@@ -42,16 +40,12 @@ unfolding change
 once-beside s t (inl e) = subst (Beside s) (sym e) (record { row = refl; cache = refl; messages = refl; parts = refl })
 once-beside s t (inr (k, i, d, e)) = subst (Beside s) (sym e) (record { row = refl; cache = refl; messages = refl; parts = refl })
 
-module _ (w defaults : List ℕ) (g : Grants) (sent : List (List ℕ)) (edits : List ℕ) (s : State) (sys : System Datum) (stands : SignAs w defaults g sent edits s (sys .clusters) (sys .row)) where
+module _ {w defaults : List ℕ} {g : Grants} {sent : List (List ℕ)} (here : Standing w defaults g sent) where
+  open Standing here using (edits, state as s, system as sys, stands)
+
   -- what a sign holds
   abbrev pub heldBy : Held
   heldBy = record { values = s .values; edits = edits }
-
-  right : RightSign w defaults edits s
-  right = sign-right w defaults edits s (stands .valid .right)
-
-  rules : Rules w
-  rules = well-formed-rules w .0 (right .schema)
 
   -- what is held afterwards is what the protocol has, after one change or none
   abbrev pub Reached : Held → Type 0
@@ -66,9 +60,9 @@ module _ (w defaults : List ℕ) (g : Grants) (sent : List (List ℕ)) (edits : 
       put i e f =
           stored-as w defaults edits (s .values) sys (stands .versions-fit) (stands .held) i (datumIn src new)
           (record {
-            rules = rules;
+            rules = well-formed-rules w .0 (right-of here .schema);
             whole = stands .valid .whole;
-            right = right .values;
+            right = right-of here .values;
             there = there i e;
             accepted = accepted src (eqb (attributeRow w i .nullable) 1) (kindOf (attributeRow w i)) new sized f;
           })

@@ -23,6 +23,7 @@ use Rattle.protocol.specs.Model.{Message, Node, System, Store, change, serve}
 use Rattle.refinement.proofs.Terms.{nodeOf}
 use Rattle.refinement.proofs.Bytes.{MessageAs}
 use Rattle.refinement.proofs.Sign.{SignAs, Serves}
+use Rattle.sign_steps.proofs.Standing.{Standing}
 use Rattle.sign_steps.proofs.SentLaws.{sign-still}
 use Rattle.sign_steps.proofs.SilenceLaws.{other-still, small-still}
 use Rattle.sign_steps.proofs.FreshLaws.{fresh-sign}
@@ -38,17 +39,20 @@ module _ (w defaults start : List ℕ) (g : Grants) (words-fit : (k : ℕ) → g
   fresh-as h size sent = fresh-sign w defaults h start size g sent
 
   module _ (edits : List ℕ) (s : State) (sys : System Datum) (sent : List (List ℕ)) (stands : SignAs w defaults g sent edits s (sys .clusters) (sys .row)) where
+    abbrev here : Standing w defaults g sent
+    here = record { edits = edits; state = s; system = sys; stands = stands }
+
     -- A MESSAGE that the panel has sent
     pub message-served : (sys .row .more ≡ true → sys .row .turn < maxTurn) → (m : List ℕ) (u : Message) → MessageAs w m u → List·Memᴰ m sent → (room : ℕ) → maxMessage ≤ room →
         let x = received w defaults edits s true g (getD w subjectWord 0) m room in
         (size : ℕ) × (stores : List (Store Datum)) × Serves w defaults g sent s (x .state) (x .edits) (x .reply) sys (serve node sys u size stores)
-    message-served turns m u h there room enough = message-as w defaults start g words-fit sent edits s sys stands room enough turns m u h there
+    message-served turns m u h there room enough = message-as here words-fit start room enough turns m u h there
 
     -- A LOCAL CHANGE
     pub change-served : (e c a : ℕ) (src : List ℕ) (new : Value) → Sized new →
         let x = alteredBy w defaults edits s e c a src new in
         (t : System Datum) × ((t ≡ sys) ⊎ ((cluster : ℕ) × (attribute : ℕ) × (value : Datum) × (t ≡ change sys cluster attribute value))) × Serves w defaults g sent s (x .state) (x .edits) [] sys t
-    change-served = changed-as w defaults g sent edits s sys stands
+    change-served = changed-as here
 
     -- another subject: silence, or a refusal
     pub other-silent : (table : Bool) (g′ : Grants) (subject : ℕ) (m : List ℕ) (room : ℕ) → (subject ≡ getD w subjectWord 0 → ⊥) → Untouched s edits (received w defaults edits s table g′ subject m room)

@@ -17,20 +17,18 @@ use Rattle.replies.specs.Row.{keeping, keptReply, pathsOf, filtersOf, blocksOf,
 use Rattle.replies.proofs.MessageLaws.{report-length}
 use Rattle.replies.proofs.RowLaws.{kept-back}
 use Rattle.replies.proofs.KeptLaws.{keeping-whole}
-use Rattle.server.specs.declared.State.{State}
 use Rattle.server.specs.Receive.{withRow, replied}
-use Rattle.server.proofs.SignLaws.{RightSign, sign-right}
 use Rattle.server.proofs.KeptLaws.{ValidSign}
-use Rattle.protocol.specs.Model.{Part, System, partOf, rowAfter, send}
+use Rattle.protocol.specs.Model.{Part, partOf, rowAfter, send}
 use Rattle.refinement.proofs.Terms.{readableFrom, filtersAs}
 use Rattle.refinement.proofs.Bytes.{reports}
-use Rattle.refinement.proofs.Sign.{RowAs, SignAs}
+use Rattle.refinement.proofs.Sign.{RowAs}
 use Rattle.sign_parts.proofs.PartLaws.{Makes, part-made}
+use Rattle.sign_steps.proofs.Standing.{Standing, right-of}
 use Rattle.sign_steps.proofs.ServeLaws.{Serving, part-as}
 
-module _ (w defaults : List ℕ) (g : Grants) (words-fit : (k : ℕ) → getD w k 0 < 2 ^ 64) (sent : List (List ℕ)) (edits : List ℕ) (s : State) (sys : System Datum) (stands : SignAs w defaults g sent edits s (sys .clusters) (sys .row)) where
-  signed : RightSign w defaults edits s
-  signed = sign-right w defaults edits s (stands .valid .right)
+module _ {w defaults : List ℕ} {g : Grants} {sent : List (List ℕ)} (here : Standing w defaults g sent) (words-fit : (k : ℕ) → getD w k 0 < 2 ^ 64) where
+  open Standing here using (edits, state as s, system as sys, stands)
 
   -- a request for everything, and the place that it has come to
   module _ (x turn : ℕ) (q : Request) (index : ℕ) (all : pathsOf q ≡ askedFor everything ∷ []) where
@@ -49,7 +47,7 @@ module _ (w defaults : List ℕ) (g : Grants) (words-fit : (k : ℕ) → getD w 
     part since size = partOf (sys .clusters) x turn (readableFrom w g (attributeCount w - index) index) (filtersAs w (filtersOf q)) since size
 
     abbrev Made : Part Datum → Type 0
-    Made = Makes w defaults edits (s .values) g (filtersOf q) (sys .clusters) (signed .schema) (signed .values) (stands .versions-fit) words-fit (stands .held) x turn index
+    Made = Makes w defaults edits (s .values) g (filtersOf q) (sys .clusters) (right-of here .schema) (right-of here .values) (stands .versions-fit) words-fit (stands .held) x turn index
 
     same-blocks : blocks ≡ blocksFrom (viewOf w (s .values) defaults edits g (filtersOf q)) (askedFor everything ∷ []) at
     same-blocks = ap (λ ps. blocksFrom (viewOf w (s .values) defaults edits g (filtersOf q)) ps at) all
@@ -74,7 +72,7 @@ module _ (w defaults : List ℕ) (g : Grants) (words-fit : (k : ℕ) → getD w 
         }
 
     -- A PART is made, and the sign replies with it
-    pub part-served : x < 2 ^ 40 → turn < 2 ^ 16 → (since : ℕ → ℕ) → ValidSign w defaults edits (withRow s row) → (size : ℕ) × Serving w defaults g sent edits s sys stands (send sys (part since size)) (replied s edits row)
+    pub part-served : x < 2 ^ 40 → turn < 2 ^ 16 → (since : ℕ → ℕ) → ValidSign w defaults edits (withRow s row) → (size : ℕ) × Serving here (send sys (part since size)) (replied s edits row)
     part-served fx ft since valid =
-        let (size, m) = part-made w defaults edits (s .values) g (filtersOf q) (sys .clusters) (signed .schema) (signed .values) (stands .versions-fit) words-fit (stands .held) x turn index since fx ft in
-        (size, part-as w defaults g sent edits s sys stands row (part since size) valid (row-as since size m))
+        let (size, m) = part-made w defaults edits (s .values) g (filtersOf q) (sys .clusters) (right-of here .schema) (right-of here .values) (stands .versions-fit) words-fit (stands .held) x turn index since fx ft in
+        (size, part-as here row (part since size) valid (row-as since size m))

@@ -21,12 +21,11 @@ use Rattle.replies.specs.Row.{pathsOf, filtersOf, blocksOf, reported, nextPart}
 use Rattle.replies.specs.Begin.{beginningPlace, requestOf, readBegun}
 use Rattle.replies.proofs.RowLaws.{row-right}
 use Rattle.replies.proofs.BeginLaws.{read-answered}
-use Rattle.server.specs.declared.State.{State}
 use Rattle.server.specs.Receive.{Reaction, replied}
-use Rattle.server.proofs.SignLaws.{sign-right}
-use Rattle.protocol.specs.Model.{Part, System, changesOf, partOf, send}
+use Rattle.protocol.specs.Model.{Part, changesOf, partOf, send}
 use Rattle.refinement.proofs.Terms.{readableFrom, nodeOf, filtersAs}
-use Rattle.refinement.proofs.Sign.{Going, SignAs}
+use Rattle.refinement.proofs.Sign.{Going}
+use Rattle.sign_steps.proofs.Standing.{Standing, right-of}
 use Rattle.sign_steps.proofs.ServeLaws.{Serving, Valid}
 use Rattle.sign_steps.proofs.ReadLaws.{part-served}
 
@@ -43,9 +42,11 @@ module _ (fs : List Wanted) where
   unfolding requestOf
   filters-asked few = take-first maxFilters unwanted fs (length fs) refl few
 
-module _ (w defaults start : List ℕ) (g : Grants) (words-fit : (k : ℕ) → getD w k 0 < 2 ^ 64) (sent : List (List ℕ)) (edits : List ℕ) (s : State) (sys : System Datum) (stands : SignAs w defaults g sent edits s (sys .clusters) (sys .row)) where
+module _ {w defaults : List ℕ} {g : Grants} {sent : List (List ℕ)} (here : Standing w defaults g sent) (words-fit : (k : ℕ) → getD w k 0 < 2 ^ 64) where
+  open Standing here using (edits, state as s, system as sys, stands)
+
   -- THE FIRST PART
-  module _ (x : ℕ) (fx : x < 2 ^ 40) (fs : List Wanted) (few : length fs ≤ maxFilters) (payload : List ℕ) (read : readRead (readIn payload) ≡ readAnswer fs) where
+  module _ (start : List ℕ) (x : ℕ) (fx : x < 2 ^ 40) (fs : List Wanted) (few : length fs ≤ maxFilters) (payload : List ℕ) (read : readRead (readIn payload) ≡ readAnswer fs) where
     abbrev begun : Reaction
     begun = replied s edits (readBegun w (s .values) defaults edits g (s .row) x payload)
 
@@ -61,9 +62,9 @@ module _ (w defaults start : List ℕ) (g : Grants) (words-fit : (k : ℕ) → g
         let whole : attributeCount w - 0 ≡ attributeCount w = omega arith in
         rw (whole, filters-asked fs few)
 
-    pub first-served : Valid w defaults g sent edits s sys stands begun → (size : ℕ) × Serving w defaults g sent edits s sys stands (send sys (first size)) begun
+    pub first-served : Valid here begun → (size : ℕ) × Serving here (send sys (first size)) begun
     first-served valid =
-        let (size, m) = part-served w defaults g words-fit sent edits s sys stands x 1 (request fs) 0 (all-asked fs) fx (omega arith) (changesOf (sys .clusters)) (rw begun-as at valid) in
+        let (size, m) = part-served here words-fit x 1 (request fs) 0 (all-asked fs) fx (omega arith) (changesOf (sys .clusters)) (rw begun-as at valid) in
         (size, rw (begun-as, ← (same-first size)) m)
 
   -- THE NEXT PART, of a read that goes on
@@ -87,8 +88,8 @@ module _ (w defaults start : List ℕ) (g : Grants) (words-fit : (k : ℕ) → g
     same-next : (size : ℕ) → partOf (sys .clusters) (s .row .progress .last) (s .row .progress .turn + 1) (readableFrom w g (attributeCount w - s .row .place .index) (s .row .place .index)) (filtersAs w (filtersOf (s .row .request))) (sys .row .since) size ≡ next size
     same-next size = rw (own, stands .row .exchange, stands .row .turn, going .ahead, going .filters, add-one)
 
-    pub next-served : Valid w defaults g sent edits s sys stands after → (size : ℕ) × Serving w defaults g sent edits s sys stands (send sys (next size)) after
+    pub next-served : Valid here after → (size : ℕ) × Serving here (send sys (next size)) after
     next-served valid =
-        let l = row-right (s .row) (sign-right w defaults edits s (stands .valid .right) .row) .exchange in
-        let (size, m) = part-served w defaults g words-fit sent edits s sys stands (s .row .progress .last) (s .row .progress .turn + 1) (s .row .request) (s .row .place .index) (going .paths) l (omega (arith, left, stands .row .turn)) (sys .row .since) (rw after-as at valid) in
+        let l = row-right (s .row) (right-of here .row) .exchange in
+        let (size, m) = part-served here words-fit (s .row .progress .last) (s .row .progress .turn + 1) (s .row .request) (s .row .place .index) (going .paths) l (omega (arith, left, stands .row .turn)) (sys .row .since) (rw after-as at valid) in
         (size, rw (after-as, ← (same-next size)) m)

@@ -13,18 +13,24 @@ use Rattle.acl.specs.declared.Grants.{Grants}
 use Rattle.exchange.specs.declared.Step.the-variants.{Silence, Repeat}
 use Rattle.replies.specs.declared.Row as replies
 use Rattle.replies.specs.Row.{keptReply}
-use Rattle.server.specs.declared.State.{State}
 use Rattle.server.specs.Receive.{Reaction, answering, silence, withRow, replied, reacted, received}
 use Rattle.server.proofs.KeptLaws.{ValidSign, received-kept}
-use Rattle.protocol.specs.Model.{Part, System, rowAfter, send, sendAgain}
+use Rattle.protocol.specs.Model.{Message, Node, Part, Store, System, rowAfter, send, sendAgain, serve}
 use Rattle.refinement.proofs.Bytes.{silent}
-use Rattle.refinement.proofs.Sign.{RowAs, SignAs, moved, Serves}
+use Rattle.refinement.proofs.Sign.{RowAs, moved, Serves}
+use Rattle.sign_steps.proofs.Standing.{Standing}
 use Rattle.sign_steps.proofs.StoreLaws.{unmoved}
 
-module _ (w defaults : List ℕ) (g : Grants) (sent : List (List ℕ)) (edits : List ℕ) (s : State) (sys : System Datum) (stands : SignAs w defaults g sent edits s (sys .clusters) (sys .row)) where
+module _ {w defaults : List ℕ} {g : Grants} {sent : List (List ℕ)} (here : Standing w defaults g sent) where
+  open Standing here using (edits, state as s, system as sys, stands)
+
   -- the protocol goes to t where the sign reacts so
   abbrev pub Serving : System Datum → Reaction → Type 0
   Serving t r = Serves w defaults g sent s (r .state) (r .edits) (r .reply) sys t
+
+  -- a step of the protocol with this message
+  abbrev pub Served : Node Datum → Message → Reaction → Type 0
+  Served node u r = (size : ℕ) × (stores : List (Store Datum)) × Serving (serve node sys u size stores) r
 
   abbrev pub Valid : Reaction → Type 0
   Valid r = ValidSign w defaults (r .edits) (r .state)

@@ -28,12 +28,12 @@ use Rattle.replies.specs.Messages.{statusMessage, responseMessage}
 use Rattle.replies.specs.Row.{keeping, keptReply}
 use Rattle.replies.specs.Begin.{Left, answered, responseTo, writeBy, writeBegun}
 use Rattle.replies.proofs.KeptLaws.{write-reply}
-use Rattle.server.specs.declared.State.{State}
 use Rattle.server.specs.Receive.{wrote}
 use Rattle.server.proofs.ReactLaws.{write-whole}
 use Rattle.protocol.specs.Model.{System, Store, storeAll, written}
 use Rattle.refinement.proofs.Bytes.{WriteFits, answerBytes, answers}
-use Rattle.refinement.proofs.Sign.{RowAs, SignAs}
+use Rattle.refinement.proofs.Sign.{RowAs}
+use Rattle.sign_steps.proofs.Standing.{Standing}
 use Rattle.sign_steps.proofs.StoreLaws.{Once}
 use Rattle.sign_steps.proofs.ChangeLaws.{heldBy, Reached, placed-as, once-beside}
 use Rattle.sign_steps.proofs.ServeLaws.{Serving, Valid}
@@ -44,9 +44,11 @@ unfolding storeAll
 stores-of s t (inl e) = ([], sym e)
 stores-of s t (inr (k, i, d, e)) = (record { cluster = k; attribute = i; value = d } ∷ [], sym e)
 
-module _ (w defaults : List ℕ) (g : Grants) (sent : List (List ℕ)) (edits : List ℕ) (s : State) (sys : System Datum) (stands : SignAs w defaults g sent edits s (sys .clusters) (sys .row)) (x : ℕ) (fx : x < 2 ^ 40) (given : Bool) (version e c a : ℕ) (d : Datum) (fits : WriteFits version e c a d) where
+module _ {w defaults : List ℕ} {g : Grants} {sent : List (List ℕ)} (here : Standing w defaults g sent) (x : ℕ) (fx : x < 2 ^ 40) (given : Bool) (version e c a : ℕ) (d : Datum) (fits : WriteFits version e c a d) where
+  open Standing here using (edits, state as s, system as sys, stands)
+
   abbrev now : Held
-  now = heldBy w defaults g sent edits s sys stands
+  now = heldBy here
 
   abbrev payload : List ℕ
   payload = drop 8 (writeMessage x given version e c a d)
@@ -93,14 +95,14 @@ module _ (w defaults : List ℕ) (g : Grants) (sent : List (List ℕ)) (edits : 
           whole = write-whole w g defaults now (s .row) x payload ∙ stands .row .whole;
         }
 
-    reached : Reached w defaults g sent edits s sys stands (entryWritten w g defaults payload now entry .held)
+    reached : Reached here (entryWritten w g defaults payload now entry .held)
     unfolding entryWritten
     reached =
-        placed-as w defaults g sent edits s sys stands payload (valueIn payload n) (value-in-sized payload n) (mayWrite w g (s .values .versions) entry)
+        placed-as here payload (valueIn payload n) (value-in-sized payload n) (mayWrite w g (s .values .versions) entry)
         (may-index w g (s .values .versions) entry)
 
     -- A WRITE, served
-    pub write-served : Valid w defaults g sent edits s sys stands (wrote begun) → (stores : List (Store Datum)) × Serving w defaults g sent edits s sys stands (written (storeAll sys stores) x) (wrote begun)
+    pub write-served : Valid here (wrote begun) → (stores : List (Store Datum)) × Serving here (written (storeAll sys stores) x) (wrote begun)
     unfolding written
     write-served valid =
         let (t, h) = rw (← begun-held) at reached in
