@@ -17,7 +17,7 @@ map-mem f [] x i = absurd (List·Memᴰ·not-nil i)
 map-mem f (y ∷ l) x (List·Memᴰ·head e) = List·Memᴰ·head (ap f e)
 map-mem f (y ∷ l) x (List·Memᴰ·tail i) = List·Memᴰ·tail (map-mem f l x i)
 
-map-from {ℓ κ} : {A B : Type ℓ} (P : B → Type κ) (f : A → B) (l : List A) → ((x : A) → List·Memᴰ x l → P (f x)) → (y : B) → List·Memᴰ y (map f l) → P y
+pub map-from {ℓ κ} : {A B : Type ℓ} (P : B → Type κ) (f : A → B) (l : List A) → ((x : A) → List·Memᴰ x l → P (f x)) → (y : B) → List·Memᴰ y (map f l) → P y
 map-from P f [] h y i = absurd (List·Memᴰ·not-nil i)
 map-from P f (x ∷ l) h y i = all-cons P (h x (List·Memᴰ·head refl)) (map-from P f l (λ z j. h z (List·Memᴰ·tail j))) y i
 

@@ -1,0 +1,175 @@
+-- ONE PART OF A READ OF EVERYTHING: it is, byte for byte, a part that the protocol makes, and leaves the same ahead.
+use mathlib.Core.Path.{_≡_, refl, sym, ap, subst, _∙_}
+use mathlib.Core.Bool.{Bool, true, false≢true}
+use mathlib.Core.List.{List, [], _∷_, _++_, List·Memᴰ, List·Memᴰ·not-nil}
+use Prim.Native.Nat.{ℕ, zero, suc, _+_, _-_, _^_, _≤_, _<_}
+use native.Mathlib.Omega.{arith}
+use borrow.Author.Tests.{le-leb}
+use lib.ListN.{length, getD}
+use Rattle.tlv.specs.Value.{Datum}
+use Rattle.tlv.proofs.Picks.{pick-elim}
+use Rattle.blocks.proofs.BlockLaws.{never}
+use Rattle.interaction.specs.declared.Wanted.{Wanted}
+use Rattle.interaction_writer.specs.Spelling.{spelling, Each}
+use Rattle.interaction_writer.specs.Message.{messageTree, reportMembers}
+use Rattle.interaction_writer.specs.Envelope.{envelopeOctets}
+use Rattle.schema.specs.Layout.{highColumn}
+use Rattle.schema.specs.Rows.{attributeRow, attributeCount}
+use Rattle.schema.specs.Check.{wellFormed}
+use Rattle.acl.specs.declared.Grants.{Grants}
+use Rattle.values.specs.declared.Values.{Values}
+use Rattle.values.specs.Valid.{valuesRight}
+use Rattle.exchange.specs.Rules.{reportOpcode}
+use Rattle.selection.specs.Asked.{askedFor}
+use Rattle.selection.proofs.AskedLaws.{cluster-of}
+use Rattle.report.specs.declared.Place as report
+use Rattle.report.specs.Blocks.{View, viewOf, Placed, blocksFrom}
+use Rattle.report.specs.Chunk.{blockRoom, size, taken, left, after, any, trees}
+use Rattle.report.specs.Part as sent
+use Rattle.report.proofs.ChunkLaws.{part-length, goes-on}
+use Rattle.report.proofs.ReadLaws.{blocks-small}
+use Rattle.replies.specs.Messages.{reportMessage}
+use Rattle.protocol.specs.Model.{Place, Cluster, Part, reported, remaining, entryAt, skips, partOf}
+use Rattle.protocol.proofs.SmallLaws.{all-cons, reported-in}
+use Rattle.protocol.proofs.ServeLaws.{map-from}
+use Rattle.refinement.proofs.Terms.{placeAt, mayRead, readableFrom, filtersAs, ClustersAs}
+use Rattle.refinement.proofs.Bytes.{partPayload, partBytes, EntryRight, PartRight}
+use Rattle.sign_parts.proofs.ValueLaws.{value-takable, value-writable}
+use Rattle.sign_parts.proofs.RowLaws.{paths, blocksAt, placesAt}
+use Rattle.sign_parts.proofs.TakenLaws.{anyShown, none-reported, treesAs, Takes, none, some, takes, more-ahead}
+
+-- what holds of each row's place holds of those that may be read
+all-readable : (w : List ℕ) (g : Grants) (P : Place → Type 0) → ((i : ℕ) → i < attributeCount w → P (placeAt w i)) → (n i : ℕ) → n ≤ attributeCount w - i → (p : Place) → List·Memᴰ p (readableFrom w g n i) → P p
+unfolding readableFrom
+all-readable w g P f zero i l = λ p m. absurd (List·Memᴰ·not-nil m)
+all-readable w g P f (suc n) i l =
+    let rest = all-readable w g P f n (i + 1) (omega arith) in
+    pick-elim (λ (q : List Place). (p : Place) → List·Memᴰ p q → P p) (mayRead w g i) (placeAt w i ∷ readableFrom w g n (i + 1)) (readableFrom w g n (i + 1))
+    (λ _. all-cons P (f i (omega arith)) rest) (λ _. rest)
+
+module _ (w defaults edits : List ℕ) (v : Values) (g : Grants) (fs : List Wanted) (clusters : ℕ → Cluster Datum)
+    (formed : wellFormed w ≡ true) (sound : valuesRight w defaults edits v ≡ true)
+    (fit : (k : ℕ) → getD (v .versions) k 0 < 2 ^ 32) (words-fit : (k : ℕ) → getD w k 0 < 2 ^ 64)
+    (held : ClustersAs w defaults edits v clusters) where
+  abbrev view : View
+  view = viewOf w v defaults edits g fs
+
+  -- the blocks from row index on
+  abbrev pub blocks : ℕ → List Placed
+  blocks = blocksAt view
+
+  -- the place after the part
+  abbrev pub place : ℕ → report.Place
+  place index = after (record { path = 0; index = index }) (taken blockRoom (blocks index))
+
+  -- the message of a sign from there on is the part p of the protocol
+  pub record Makes (x turn index : ℕ) (p : Part Datum) : Type 0 where
+    pub bytes : reportMessage x turn (blocks index) ≡ partBytes w p
+    pub more : p .more ≡ any (left blockRoom (blocks index))
+    pub right : PartRight w p
+    pub path : p .more ≡ true → place index .path ≡ 0
+    pub ahead : p .more ≡ true → p .after ≡ readableFrom w g (attributeCount w - place index .index) (place index .index)
+
+  abbrev ahead : ℕ → List Place
+  ahead = placesAt w g
+
+  abbrev skip : Place → Bool
+  skip = skips (filtersAs w fs) clusters
+
+  -- EVERY BLOCK HAS ROOM in an empty part: where nothing is taken there is nothing
+  all-small : (index : ℕ) → Each (λ (b : Placed). size b ≤ blockRoom) (blocks index)
+  unfolding Each askedFor
+  all-small index =
+      blocks-small view (record { schema-right = formed; values-right = sound; version-fits = fit }) paths
+      (record { endpoint-fits = omega arith; cluster-fits = omega arith; attribute-fits = omega arith }, tt) (record { path = 0; index = index })
+
+  nothing-there : (l : List Placed) → Each (λ (b : Placed). size b ≤ blockRoom) l → taken blockRoom l ≡ [] → l ≡ []
+  unfolding taken Each
+  nothing-there [] h e = refl
+  nothing-there (b ∷ l) h e = let t : b ∷ taken (blockRoom - size b) l ≡ [] = rw (le-leb (size b) blockRoom (h .0)) at e in never (cc)
+
+  -- THE NUMBER OF ENTRIES: a part of the protocol of n and one has the blocks that are taken, and leaves what is left
+  record Matches (index n : ℕ) : Type 0 where
+    same : trees (taken blockRoom (blocks index)) ≡ treesAs w clusters (reported skip n (ahead index))
+    more : anyShown skip (remaining skip n (ahead index)) ≡ any (left blockRoom (blocks index))
+    path : anyShown skip (remaining skip n (ahead index)) ≡ true → place index .path ≡ 0
+    leaves : anyShown skip (remaining skip n (ahead index)) ≡ true → remaining skip n (ahead index) ≡ ahead (place index .index)
+
+  matches : (index : ℕ) → (n : ℕ) × Matches index n
+  unfolding left
+  matches index = go (takes w defaults edits v g fs clusters formed held (attributeCount w - index) index blockRoom refl)
+    where
+      -- some place from row i on is not skipped exactly if there is a block
+      shown-from : (i : ℕ) → anyShown skip (ahead i) ≡ any (blocks i)
+      shown-from i = more-ahead w defaults edits v g fs clusters formed held (attributeCount w - i) i refl
+
+      go : Takes w defaults edits v g fs clusters (ahead index) (taken blockRoom (blocks index)) → (n : ℕ) × Matches index n
+      go (none e) =
+          let z = nothing-there (blocks index) (all-small index) e in
+          let q = none-reported skip (ahead index) (shown-from index ∙ ap any z) in (
+            0,
+            record {
+              same = rw (e, q .0);
+              more = rw (q .1, z);
+              path = λ t. absurd (false≢true (rw (q .1) at t));
+              leaves = λ t. absurd (false≢true (rw (q .1) at t));
+            },
+          )
+      go (some n r) =
+          let from : report.Place = record { path = 0; index = index } in
+          let at = r .last from in
+          let rest : blocks (r .end) ≡ left blockRoom (blocks index) = ap (blocksFrom view paths) (sym at) ∙ goes-on view paths from blockRoom in (
+            n,
+            record {
+              same = r .same;
+              more = rw (r .leaves) (shown-from (r .end) ∙ ap any rest);
+              path = λ t. ap (λ (q : report.Place). q .path) at;
+              leaves = λ t. r .leaves ∙ ap (λ (q : report.Place). ahead (q .index)) (sym at);
+            },
+          )
+
+  -- THE PART: the entry of a row is one that a sign can have sent
+  entry-right : (i : ℕ) → i < attributeCount w → EntryRight w (entryAt clusters (placeAt w i))
+  entry-right i row =
+      record {
+        row = row;
+        place = refl;
+        version = rw (held .versions (attributeRow w i .clusterIndex) (cluster-of w formed i row)) (fit _);
+        value = rw (held .values i row) (value-takable w defaults edits v sound i row);
+        writable = rw (held .values i row) (value-writable w defaults edits v sound i row (words-fit (highColumn + i)));
+      }
+
+  module _ (x turn index : ℕ) (since : ℕ → ℕ) (fx : x < 2 ^ 40) (ft : turn < 2 ^ 16) where
+    abbrev part : ℕ → Part Datum
+    part n = partOf clusters x turn (ahead index) (filtersAs w fs) since n
+
+    module _ (n : ℕ) (m : Matches index n) where
+      same-payload : sent.partPayload (blocks index) ≡ partPayload w (part n)
+      unfolding sent.partPayload partOf
+      same-payload = λ j. spelling (messageTree (reportMembers (m .same j) (sym (m .more) j)))
+
+      part-right : PartRight w (part n)
+      unfolding partOf
+      part-right =
+          let of-row = all-readable w g (λ (p : Place). EntryRight w (entryAt clusters p)) entry-right (attributeCount w - index) index (omega arith) in
+          record {
+            entries = map-from (EntryRight w) (entryAt clusters) (reported skip n (ahead index)) (λ p i. of-row p (reported-in skip n (ahead index) p i));
+            short = subst (λ (l : List ℕ). length l ≤ 1024) same-payload (part-length (blocks index));
+            exchange = fx;
+            turn = ft;
+          }
+
+      makes : Makes x turn index (part n)
+      unfolding reportMessage partBytes partOf
+      makes =
+          record {
+            bytes = ap (λ (l : List ℕ). envelopeOctets reportOpcode x turn ++ l) same-payload;
+            more = m .more;
+            right = part-right;
+            path = m .path;
+            ahead = m .leaves;
+          }
+
+  pub part-made : (x turn index : ℕ) (since : ℕ → ℕ) → x < 2 ^ 40 → turn < 2 ^ 16
+      → (n : ℕ) × Makes x turn index (partOf clusters x turn (readableFrom w g (attributeCount w - index) index) (filtersAs w fs) since n)
+  part-made x turn index since fx ft = let (n, m) = matches index in (n, makes x turn index since fx ft n m)

@@ -1,0 +1,117 @@
+-- A read of everything, row by row: the blocks ahead are the values of those attributes that the panel may read and that its filters do not skip.
+use mathlib.Core.Path.{_≡_, refl, _∙_}
+use mathlib.Core.Bool.{Bool, true, false, not, _&&_}
+use mathlib.Core.List.{List, [], _∷_}
+use Prim.Native.Nat.{ℕ, suc, _+_, _-_, _≤_, _<_}
+use native.Mathlib.Omega.{arith}
+use lib.Dec.{eqb}
+use lib.ListN.{getD}
+use Rattle.tlv.specs.Octet.{pick}
+use Rattle.tlv.specs.Value.{Datum}
+use Rattle.tlv.specs.Decode.{Opt}
+use Rattle.tlv.specs.Decode.Opt.{just, nothing}
+use Rattle.interaction.specs.declared.Wanted.{Wanted}
+use Rattle.interaction_writer.specs.Block.{Block}
+use Rattle.schema.specs.Layout.{clusterLimit}
+use Rattle.schema.specs.Rows.{attributeRow, clusterCount, attributeCount}
+use Rattle.schema.specs.Check.{wellFormed}
+use Rattle.schema.proofs.BoolLaws.{by-test}
+use Rattle.schema.proofs.RowLaws.{filled-at}
+use Rattle.schema.proofs.RulesLaws.{well-formed-rules}
+use Rattle.acl.specs.declared.Grants.{Grants}
+use Rattle.acl.specs.Access.{isGranted}
+use Rattle.values.specs.declared.Values.{Values}
+use Rattle.selection.specs.declared.asked.Asked.{Asked}
+use Rattle.selection.specs.declared.items.Item.the-variants as item
+use Rattle.selection.specs.Status.{unsupportedRead, unsupportedAccess}
+use Rattle.selection.specs.Asked.{askedFor, asksFor, concrete}
+use Rattle.selection.specs.Filters.{skipsAt, skipsOf}
+use Rattle.selection.specs.Items.{silent, readItem, wildcardItem, span, itemAt}
+use Rattle.selection.proofs.AskedLaws.{cluster-of}
+use Rattle.report.specs.Blocks.{View, viewOf, valueBlock, blockOf, blockAt, Placed, entry, blocksFrom, pathsBlocks}
+use Rattle.report.proofs.BlockLaws.{path-past, path-step}
+use Rattle.round_trip.specs.Meant.{everything}
+use Rattle.protocol.specs.Model.{Place, Cluster, skips}
+use Rattle.refinement.proofs.Terms.{placeAt, mayRead, readableFrom, filtersAs, ClustersAs}
+use Rattle.sign_parts.proofs.FilterLaws.{skips-same}
+
+-- the paths of the read: one, which names nothing
+abbrev pub paths : List Asked
+paths = askedFor everything ∷ []
+
+-- its blocks from row i on
+abbrev pub blocksAt : View → ℕ → List Placed
+blocksAt s i = blocksFrom s paths (record { path = 0; index = i })
+
+-- and the places of the protocol
+abbrev pub placesAt : List ℕ → Grants → ℕ → List Place
+placesAt w g i = readableFrom w g (attributeCount w - i) i
+
+-- the value of attribute i, as a block of that path
+abbrev pub placed : List ℕ → List ℕ → List ℕ → Values → ℕ → Placed
+placed w defaults edits v i = record { path = 0; index = i; block = valueBlock w v defaults edits i }
+
+-- past the last row there is nothing
+pub blocks-past : (s : View) (i : ℕ) → attributeCount (s .schema) ≤ i → blocksAt s i ≡ []
+unfolding blocksFrom pathsBlocks span concrete askedFor
+blocks-past s i h = path-past s 0 (askedFor everything) [] i h
+
+pub places-past : (w : List ℕ) (g : Grants) (i : ℕ) → attributeCount w ≤ i → placesAt w g i ≡ []
+unfolding readableFrom
+places-past w g i h = let q : attributeCount w - i ≡ 0 = omega arith in rw q
+
+module _ (w defaults edits : List ℕ) (v : Values) (g : Grants) (fs : List Wanted) (clusters : ℕ → Cluster Datum) where
+  abbrev view : View
+  view = viewOf w v defaults edits g fs
+
+  abbrev skip : Place → Bool
+  skip = skips (filtersAs w fs) clusters
+
+  -- WHAT ROW i ADDS to both
+  pub data Row (i : ℕ) : Type 0 where
+    unread : blocksAt view i ≡ blocksAt view (i + 1) → placesAt w g i ≡ placesAt w g (i + 1) → Row i
+    skipped : skip (placeAt w i) ≡ true → blocksAt view i ≡ blocksAt view (i + 1) → placesAt w g i ≡ placeAt w i ∷ placesAt w g (i + 1) → Row i
+    shown : skip (placeAt w i) ≡ false → blocksAt view i ≡ placed w defaults edits v i ∷ blocksAt view (i + 1) → placesAt w g i ≡ placeAt w i ∷ placesAt w g (i + 1) → Row i
+
+  module _ (formed : wellFormed w ≡ true) (held : ClustersAs w defaults edits v clusters) (i : ℕ) (row : i < attributeCount w) where
+    abbrev k : ℕ
+    k = attributeRow w i .clusterIndex
+
+    skips-row : getD (view .skips) k false ≡ skip (placeAt w i)
+    unfolding skipsOf
+    skips-row =
+        let there = cluster-of w formed i row in
+        filled-at false (skipsAt w fs (v .versions)) clusterLimit (clusterCount w) k false there
+        ∙ skips-same w (well-formed-rules w .0 formed) k there clusters (getD (v .versions) k 0) (held .versions k there) fs i
+
+    -- what may be read and is not skipped has a block
+    abbrev blockIf : Bool → Bool → Opt Block
+    blockIf may skips-it = pick may (pick skips-it nothing (just (valueBlock w v defaults edits i))) nothing
+
+    block-row : blockAt view (askedFor everything) i ≡ blockIf (mayRead w g i) (skip (placeAt w i))
+    unfolding blockOf itemAt wildcardItem readItem mayRead concrete asksFor askedFor
+    block-row = rw (← skips-row) (go (eqb (attributeRow w i .read) 0) (isGranted g k (attributeRow w i .read)) (getD (view .skips) k false))
+      where
+        go : (a b c : Bool) →
+            blockOf w v defaults edits (askedFor everything) (silent (pick a (item.Status unsupportedRead) (pick b (pick c item.Nothing (item.Value i)) (item.Status unsupportedAccess))))
+            ≡ blockIf (not a && b) c
+        go true b c = refl
+        go false true true = refl
+        go false true false = refl
+        go false false c = refl
+
+    blocks-row : (o : Opt Block) → blockIf (mayRead w g i) (skip (placeAt w i)) ≡ o → blocksAt view i ≡ entry 0 i o (blocksAt view (i + 1))
+    unfolding blocksFrom span concrete askedFor
+    blocks-row o e = path-step view 0 (askedFor everything) [] i o row (block-row ∙ e)
+
+    places-row : placesAt w g i ≡ pick (mayRead w g i) (placeAt w i ∷ placesAt w g (i + 1)) (placesAt w g (i + 1))
+    unfolding readableFrom
+    places-row = let q : attributeCount w - i ≡ suc (attributeCount w - (i + 1)) = omega arith in rw q
+
+    pub at-row : Row i
+    at-row =
+        by-test (mayRead w g i)
+        (λ m. by-test (skip (placeAt w i))
+        (λ s. skipped s (blocks-row nothing (rw (m, s))) (places-row ∙ rw m))
+        (λ s. shown s (blocks-row (just _) (rw (m, s))) (places-row ∙ rw m)))
+        (λ m. unread (blocks-row nothing (rw m)) (places-row ∙ rw m))

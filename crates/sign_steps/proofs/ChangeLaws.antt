@@ -1,0 +1,101 @@
+-- A LOCAL CHANGE, or an entry of a write, is one change of the protocol or none.
+use mathlib.Core.Path.{_≡_, refl, sym, subst}
+use mathlib.Core.Logic.{inl, inr}
+use mathlib.Core.List.{List, []}
+use Prim.Native.Nat.{ℕ, _<_}
+use lib.Dec.{eqb}
+use Rattle.tlv.specs.declared.Value.{Value}
+use Rattle.tlv.specs.Value.{Datum, datumIn}
+use Rattle.kinds.proofs.StoredLaws.{Sized}
+use Rattle.schema.specs.Rows.{attributeRow, attributeCount}
+use Rattle.schema.proofs.RulesLaws.{well-formed-rules}
+use Rattle.acl.specs.declared.Grants.{Grants}
+use Rattle.node.specs.Attributes.{kindOf}
+use Rattle.values.proofs.AcceptedLaws.{accepted}
+use Rattle.selection.specs.declared.locate.Located.{Located}
+use Rattle.selection.specs.declared.locate.Located.the-variants.{Here}
+use Rattle.selection.specs.Locate.{located}
+use Rattle.selection.proofs.LocateLaws.{located-here}
+use Rattle.writes.specs.Offer.{Held, verdictOn, storedIn, byPlace, changed}
+use Rattle.writes.proofs.HeldLaws.{placed-holds}
+use Rattle.kinds.specs.declared.Verdict.the-variants.{Success}
+use Rattle.server.specs.Start.{Altered, altered, alteredBy}
+use Rattle.server.proofs.StartLaws.{altered-right}
+use Rattle.server.proofs.KeptLaws.{change-kept}
+use Rattle.protocol.specs.Model.{System, change}
+use Rattle.refinement.proofs.Bytes.{silent}
+use Rattle.refinement.proofs.Sign.{Serves}
+use Rattle.sign_steps.proofs.Standing.{Standing, right-of}
+use Rattle.sign_steps.proofs.StoreLaws.{Once, Holds, unmoved, stored-as}
+
+-- the protocol has moved nothing but the clusters
+pub record Beside (s t : System Datum) : Type 0 where
+  pub row : t .row ≡ s .row
+  pub cache : t .cache ≡ s .cache
+  pub messages : t .messages ≡ s .messages
+  pub parts : t .parts ≡ s .parts
+
+pub once-beside : (s t : System Datum) → Once s t → Beside s t
+unfolding change
+once-beside s t (inl e) = subst (Beside s) (sym e) (record { row = refl; cache = refl; messages = refl; parts = refl })
+once-beside s t (inr (k, i, d, e)) = subst (Beside s) (sym e) (record { row = refl; cache = refl; messages = refl; parts = refl })
+
+module _ {w defaults : List ℕ} {g : Grants} {sent : List (List ℕ)} (here : Standing w defaults g sent) where
+  open Standing here using (edits, state as s, system as sys, stands)
+
+  -- what a sign holds
+  abbrev pub heldBy : Held
+  heldBy = record { values = s .values; edits = edits }
+
+  -- what is held afterwards is what the protocol has, after one change or none
+  abbrev pub Reached : Held → Type 0
+  Reached k = (t : System Datum) × Holds w defaults (s .values) sys t (k .values) (k .edits)
+
+  -- a value for the attribute that was found, if it was
+  pub placed-as : (src : List ℕ) (new : Value) → Sized new → (l : Located) → ((i : ℕ) → l ≡ Here i → i < attributeCount w) → Reached (byPlace w defaults heldBy src new l .held)
+  placed-as src new sized l there =
+      placed-holds Reached w defaults heldBy src new (sys, unmoved w defaults edits (s .values) sys (stands .versions-fit) (stands .held)) l put
+    where
+      put : (i : ℕ) → l ≡ Here i → verdictOn w i src new ≡ Success → Reached (storedIn w defaults heldBy i src new)
+      put i e f =
+          stored-as w defaults edits (s .values) sys (stands .versions-fit) (stands .held) i (datumIn src new)
+          (record {
+            rules = well-formed-rules w .0 (right-of here .schema);
+            whole = stands .valid .whole;
+            right = right-of here .values;
+            there = there i e;
+            accepted = accepted src (eqb (attributeRow w i .nullable) 1) (kindOf (attributeRow w i)) new sized f;
+          })
+
+  -- A LOCAL CHANGE
+  module _ (e c a : ℕ) (src : List ℕ) (new : Value) (sized : Sized new) where
+    abbrev Steps : Altered → Type 0
+    Steps x = (t : System Datum) × Once sys t × Serves w defaults g sent s (x .state) (x .edits) [] sys t
+
+    abbrev made : Held
+    made = changed w defaults heldBy e c a src new .held
+
+    reached : Reached made
+    unfolding changed
+    reached = placed-as src new sized (located w e c a) (λ i q. located-here w e c a i q .0)
+
+    altered-as : alteredBy w defaults edits s e c a src new ≡ altered s (changed w defaults heldBy e c a src new)
+    altered-as = altered-right w defaults edits s e c a src new (stands .valid .right)
+
+    pub changed-as : Steps (alteredBy w defaults edits s e c a src new)
+    changed-as =
+        let (t, h) = reached in
+        let valid = change-kept w defaults edits s (stands .valid) e c a src new sized in
+        let b = once-beside sys t (h .once) in (
+          t,
+          h .once,
+          rw altered-as (record {
+            sign = record { valid = rw altered-as at valid; versions-fit = h .versions-fit; held = h .held; row = rw (b .row) (stands .row) };
+            made = [];
+            reply-is = silent refl refl;
+            parts = b .parts;
+            cache = b .cache;
+            messages = b .messages;
+            counted = h .counted;
+          }),
+        )

@@ -1,0 +1,15 @@
+pub mod SentLaws
+pub mod SilenceLaws
+pub mod FreshLaws
+pub mod StoreLaws
+pub mod Standing
+pub mod ChangeLaws
+pub mod ServeLaws
+pub mod ReadLaws
+pub mod RequestLaws
+pub mod WriteLaws
+pub mod RuleLaws
+pub mod ExchangeLaws
+pub mod SizeLaws
+pub mod MessageLaws
+pub mod Main

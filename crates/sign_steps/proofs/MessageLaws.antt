@@ -1,0 +1,91 @@
+-- A MESSAGE of the panel, of each kind, is served by a step of the protocol.
+use mathlib.Core.Path.{_≡_, refl, sym, ap, _∙_}
+use mathlib.Core.Bool.{Bool, true}
+use mathlib.Core.List.{List, [], List·Memᴰ, Memᴰ·cast}
+use Prim.Native.Nat.{ℕ, _^_, _≤_, _<_}
+use lib.ListN.{length, getD, drop}
+use Rattle.tlv.specs.Value.{Datum}
+use Rattle.interaction.specs.declared.Wanted.{Wanted}
+use Rattle.interaction.specs.Read.{readIn, readRead}
+use Rattle.interaction_writer.specs.Spelling.{Each}
+use Rattle.acl.specs.declared.Grants.{Grants}
+use Rattle.exchange.specs.Rules.{readOpcode, writeOpcode, maxTurn, beginning, forServer}
+use Rattle.round_trip.specs.Meant.{WantedFits, readAnswer, readOctets}
+use Rattle.round_trip.proofs.ReaderLaws.{read-answered}
+use Rattle.cache_request.specs.Messages.{readMessage, writeMessage, successMessage}
+use Rattle.cache_laws.proofs.BoundLaws.{success-sized}
+use Rattle.cache_trip.proofs.BeginLaws.{after-envelope, read-envelope, write-envelope, write-taken, success-meant, success-envelope}
+use Rattle.replies.specs.Messages.{maxMessage}
+use Rattle.server.specs.Receive.{reacted}
+use Rattle.protocol.specs.Model.{Message, read, write, success, Node, storeAll, written, changesOf, partOf, send, serve}
+use Rattle.refinement.proofs.Terms.{nodeOf, filtersAs}
+use Rattle.refinement.proofs.Bytes.{WriteFits, MessageAs, reads, writes, succeeds}
+use Rattle.sign_steps.proofs.Standing.{Standing}
+use Rattle.sign_steps.proofs.SizeLaws.{read-short, write-short}
+use Rattle.sign_steps.proofs.RuleLaws.{newer-same, repeats-same}
+use Rattle.sign_steps.proofs.ServeLaws.{Served, reaction}
+use Rattle.sign_steps.proofs.RequestLaws.{first-served, next-served}
+use Rattle.sign_steps.proofs.WriteLaws.{write-served}
+use Rattle.sign_steps.proofs.ExchangeLaws.{request-served, success-served}
+
+begins-read : beginning readOpcode ≡ true
+unfolding beginning
+begins-read = refl
+
+begins-write : beginning writeOpcode ≡ true
+unfolding beginning
+begins-write = refl
+
+for-read : forServer readOpcode ≡ true
+unfolding forServer
+for-read = refl
+
+for-write : forServer writeOpcode ≡ true
+unfolding forServer
+for-write = refl
+
+-- with no ground to refuse it
+read-taken : (x : ℕ) (fs : List Wanted) → Each WantedFits fs → length fs ≤ 32 → readRead (readIn (drop 8 (readMessage x fs))) ≡ readAnswer fs
+unfolding readMessage
+read-taken x fs h few = ap (λ (q : List ℕ). readRead (readIn q)) (after-envelope readOpcode x 0 (readOctets fs)) ∙ read-answered fs h few
+
+module _ {w defaults : List ℕ} {g : Grants} {sent : List (List ℕ)} (here : Standing w defaults g sent) (words-fit : (k : ℕ) → getD w k 0 < 2 ^ 64) (start : List ℕ) (room : ℕ) (enough : maxMessage ≤ room) where
+  open Standing here using (edits, state as s, system as sys, stands)
+
+  abbrev node : Node Datum
+  node = nodeOf w defaults start g
+
+  -- this message, as this one of the protocol, is served
+  abbrev Taken : List ℕ → Message → Type 0
+  Taken m u = Served here node u (reaction here m room)
+
+  module _ (x : ℕ) (fx : x < 2 ^ 40) where
+    read-as : (fs : List Wanted) → Each WantedFits fs → length fs ≤ 32 → Taken (readMessage x fs) (read x (filtersAs w fs))
+    unfolding serve reacted
+    read-as fs h few =
+        request-served here node (readMessage x fs) room enough (read-short x fs h few) readOpcode x (read-envelope x fs fx) for-read begins-read (read x (filtersAs w fs))
+        (λ size stores. send sys (partOf (sys .clusters) x 1 (node .readable) (filtersAs w fs) (changesOf (sys .clusters)) size))
+        (λ size stores. rw (newer-same (s .row) (sys .row) (stands .row) x, repeats-same (s .row) (sys .row) (stands .row) x))
+        (λ valid. let (size, t) = first-served here words-fit start x fx fs few (drop 8 (readMessage x fs)) (read-taken x fs h few) valid in (size, [], t))
+
+    write-as : (given : Bool) (version e c a : ℕ) (d : Datum) → WriteFits version e c a d → List·Memᴰ (writeMessage x given version e c a d) sent → Taken (writeMessage x given version e c a d) (write x)
+    unfolding serve reacted
+    write-as given version e c a d f there =
+        let (n, answer, value) = write-taken x given version e c a d (f .version-fits) (f .path) (f .writable) (f .takable) in
+        request-served here node (writeMessage x given version e c a d) room enough (write-short x given version e c a d f) writeOpcode x (write-envelope x given version e c a d fx) for-write begins-write (write x)
+        (λ size stores. written (storeAll sys stores) x)
+        (λ size stores. rw (newer-same (s .row) (sys .row) (stands .row) x, repeats-same (s .row) (sys .row) (stands .row) x))
+        (λ valid. let (stores, t) = write-served here x fx given version e c a d f n answer there valid in (0, stores, t))
+
+    success-as : (turn : ℕ) → turn < 2 ^ 16 → (sys .row .more ≡ true → sys .row .turn < maxTurn) → Taken (successMessage x turn) (success x turn)
+    unfolding reacted
+    success-as turn ft turns =
+        success-served here node (successMessage x turn) room enough (success-sized x turn .fits) x turn (success-envelope x turn fx ft) (success-meant x turn)
+        (λ h. rw (stands .row .turn) at (turns (stands .row .more ∙ h)))
+        (λ own h valid. let more = stands .row .more ∙ h in next-served here words-fit (stands .row .going more) (turns more) x own valid)
+
+  -- A MESSAGE that the panel has sent
+  pub message-as : (sys .row .more ≡ true → sys .row .turn < maxTurn) → (m : List ℕ) (u : Message) → MessageAs w m u → List·Memᴰ m sent → Taken m u
+  message-as turns m u (reads x fs em eu fx h few) there = rw (em, eu) (read-as x fx fs h few)
+  message-as turns m u (writes x given version e c a d em eu fx f) there = rw (em, eu) (write-as x fx given version e c a d f (Memᴰ·cast (sym em) there))
+  message-as turns m u (succeeds x turn em eu fx ft) there = rw (em, eu) (success-as x fx turn ft turns)

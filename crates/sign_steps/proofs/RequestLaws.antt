@@ -1,0 +1,95 @@
+-- WHAT A PANEL'S READ ASKS, as a sign's row has it: everything, with the filters that were given; its first part and its next ones.
+use mathlib.Core.Path.{_≡_, refl, sym}
+use mathlib.Core.List.{List, [], _∷_}
+use Prim.Native.Nat.{ℕ, suc, _+_, _-_, _^_, _≤_, _<_}
+use native.Mathlib.Omega.{arith}
+use native.Mathlib.Numerals.{add-one}
+use lib.ListN.{length, getD}
+use Rattle.tlv.specs.Value.{Datum}
+use Rattle.interaction.specs.declared.Wanted.{Wanted}
+use Rattle.interaction.specs.Message.{firstOf}
+use Rattle.interaction.specs.Read.{maxFilters, unwanted, readIn, readRead}
+use Rattle.schema.specs.Rows.{attributeCount}
+use Rattle.acl.specs.declared.Grants.{Grants}
+use Rattle.selection.specs.Asked.{askedFor}
+use Rattle.round_trip.specs.Meant.{everything, readAnswer}
+use Rattle.report.specs.declared.Place as report
+use Rattle.report.specs.declared.part.Request.{Request}
+use Rattle.exchange.specs.Rules.{maxTurn}
+use Rattle.writes.proofs.StatusLaws.{take-first}
+use Rattle.replies.specs.Row.{pathsOf, filtersOf, blocksOf, reported, nextPart}
+use Rattle.replies.specs.Begin.{beginningPlace, requestOf, readBegun}
+use Rattle.replies.proofs.RowLaws.{row-right}
+use Rattle.replies.proofs.BeginLaws.{read-answered}
+use Rattle.server.specs.Receive.{Reaction, replied}
+use Rattle.protocol.specs.Model.{Part, changesOf, partOf, send}
+use Rattle.refinement.proofs.Terms.{readableFrom, nodeOf, filtersAs}
+use Rattle.refinement.proofs.Sign.{Going}
+use Rattle.sign_steps.proofs.Standing.{Standing, right-of}
+use Rattle.sign_steps.proofs.ServeLaws.{Serving, Valid}
+use Rattle.sign_steps.proofs.ReadLaws.{part-served}
+
+-- the request of a read with these filters
+module _ (fs : List Wanted) where
+  abbrev request : Request
+  request = requestOf (readAnswer fs)
+
+  all-asked : pathsOf request ≡ askedFor everything ∷ []
+  unfolding requestOf firstOf
+  all-asked = refl
+
+  filters-asked : length fs ≤ maxFilters → filtersOf request ≡ fs
+  unfolding requestOf
+  filters-asked few = take-first maxFilters unwanted fs (length fs) refl few
+
+module _ {w defaults : List ℕ} {g : Grants} {sent : List (List ℕ)} (here : Standing w defaults g sent) (words-fit : (k : ℕ) → getD w k 0 < 2 ^ 64) where
+  open Standing here using (edits, state as s, system as sys, stands)
+
+  -- THE FIRST PART
+  module _ (start : List ℕ) (x : ℕ) (fx : x < 2 ^ 40) (fs : List Wanted) (few : length fs ≤ maxFilters) (payload : List ℕ) (read : readRead (readIn payload) ≡ readAnswer fs) where
+    abbrev begun : Reaction
+    begun = replied s edits (readBegun w (s .values) defaults edits g (s .row) x payload)
+
+    -- the protocol's, of so many entries
+    abbrev first : ℕ → Part Datum
+    first size = partOf (sys .clusters) x 1 (nodeOf w defaults start g .readable) (filtersAs w fs) (changesOf (sys .clusters)) size
+
+    begun-as : readBegun w (s .values) defaults edits g (s .row) x payload ≡ reported (s .row) x 1 (request fs) beginningPlace (blocksOf w (s .values) defaults edits g (request fs) beginningPlace)
+    begun-as = read-answered payload (sym read) w (s .values) defaults edits g (s .row) x refl refl
+
+    same-first : (size : ℕ) → partOf (sys .clusters) x 1 (readableFrom w g (attributeCount w - 0) 0) (filtersAs w (filtersOf (request fs))) (changesOf (sys .clusters)) size ≡ first size
+    same-first size =
+        let whole : attributeCount w - 0 ≡ attributeCount w = omega arith in
+        rw (whole, filters-asked fs few)
+
+    pub first-served : Valid here begun → (size : ℕ) × Serving here (send sys (first size)) begun
+    first-served valid =
+        let (size, m) = part-served here words-fit x 1 (request fs) 0 (all-asked fs) fx (omega arith) (changesOf (sys .clusters)) (rw begun-as at valid) in
+        (size, rw (begun-as, ← (same-first size)) m)
+
+  -- THE NEXT PART, of a read that goes on
+  module _ (going : Going w g (s .row) (sys .row)) (left : sys .row .turn < maxTurn) (x : ℕ) (own : x ≡ sys .row .exchange) where
+    abbrev after : Reaction
+    after = replied s edits (nextPart w (s .values) defaults edits g (s .row))
+
+    abbrev next : ℕ → Part Datum
+    next size = partOf (sys .clusters) x (suc (sys .row .turn)) (sys .row .ahead) (sys .row .filters) (sys .row .since) size
+
+    abbrev from : report.Place
+    from = record { path = 0; index = s .row .place .index }
+
+    same-place : s .row .place ≡ from
+    same-place = λ j. record { path = going .path j; index = s .row .place .index }
+
+    after-as : nextPart w (s .values) defaults edits g (s .row) ≡ reported (s .row) (s .row .progress .last) (s .row .progress .turn + 1) (s .row .request) from (blocksOf w (s .values) defaults edits g (s .row .request) from)
+    unfolding nextPart
+    after-as = rw same-place
+
+    same-next : (size : ℕ) → partOf (sys .clusters) (s .row .progress .last) (s .row .progress .turn + 1) (readableFrom w g (attributeCount w - s .row .place .index) (s .row .place .index)) (filtersAs w (filtersOf (s .row .request))) (sys .row .since) size ≡ next size
+    same-next size = rw (own, stands .row .exchange, stands .row .turn, going .ahead, going .filters, add-one)
+
+    pub next-served : Valid here after → (size : ℕ) × Serving here (send sys (next size)) after
+    next-served valid =
+        let l = row-right (s .row) (right-of here .row) .exchange in
+        let (size, m) = part-served here words-fit (s .row .progress .last) (s .row .progress .turn + 1) (s .row .request) (s .row .place .index) (going .paths) l (omega (arith, left, stands .row .turn)) (sys .row .since) (rw after-as at valid) in
+        (size, rw (after-as, ← (same-next size)) m)

@@ -1,0 +1,73 @@
+-- THE EXCHANGE RULES: the tests of the code and those of the protocol are the same.
+use mathlib.Core.Path.{_≡_, refl}
+use mathlib.Core.Bool.{Bool, true, false, not, _&&_, and-false, and-assoc, and-comm}
+use mathlib.Core.List.{List}
+use Prim.Native.Nat.{ℕ, suc, _+_}
+use native.Mathlib.Omega.{arith}
+use native.Mathlib.Numerals.{add-one}
+use borrow.Author.Tests.{eqb-true, ne-eqb}
+use lib.Dec.{eqb, ltb, leb}
+use Rattle.tlv.specs.Octet.{pick}
+use Rattle.tlv.specs.Value.{Datum}
+use Rattle.tlv.specs.Decode.Opt.{just}
+use Rattle.envelope.specs.declared.Fields.{Fields}
+use Rattle.interaction.specs.Status.{responseIn}
+use Rattle.schema.proofs.BoolLaws.{left}
+use Rattle.acl.specs.declared.Grants.{Grants}
+use Rattle.exchange.specs.declared.Progress.{Progress}
+use Rattle.exchange.specs.declared.Step.the-variants.{Silence, Begin, Repeat, Next}
+use Rattle.exchange.specs.Rules.{statusOpcode, maxTurn, beginning, onRequest, onStatus}
+use Rattle.replies.specs.declared.Row as replies
+use Rattle.server.specs.Receive.{stepOf}
+use Rattle.protocol.specs.Model.{Row}
+use Rattle.refinement.proofs.Sign.{RowAs}
+
+abbrev pub fields : ℕ → ℕ → ℕ → Fields
+fields opcode x turn = record { edition = 0; opcode = opcode; exchange = x; turn = turn }
+
+module _ (p : Progress) (x : ℕ) where
+  -- the request of the exchange whose first reply is the newest
+  abbrev pub repeats : Bool
+  repeats = eqb x (p .last) && (eqb (p .turn) 1 && not (p .closed))
+
+  pub request-step : (opcode : ℕ) → beginning opcode ≡ true → (payload : List ℕ) → stepOf p (fields opcode x 0) payload ≡ pick (ltb (p .last) x) Begin (pick repeats Repeat Silence)
+  unfolding stepOf onRequest
+  request-step opcode b payload = rw b refl
+
+  -- a message of the exchange that is served
+  abbrev pub own : Bool
+  own = eqb x (p .last) && not (p .closed)
+
+module _ (p : Progress) (turn : ℕ) where
+  -- a success for the newest reply, and one for the reply before that
+  abbrev pub newest : Bool
+  newest = eqb turn (p .turn) && p .promised
+
+  abbrev pub earlier : Bool
+  earlier = leb 1 turn && eqb (turn + 1) (p .turn)
+
+  pub newest-only : newest ≡ true → earlier ≡ false
+  newest-only h =
+      let q : turn ≡ p .turn = eqb-true _ _ (left (eqb turn (p .turn)) _ h) in
+      rw (ne-eqb (turn + 1) (p .turn) (λ z. omega arith)) (and-false (leb 1 turn))
+
+  pub success-step : (x : ℕ) (payload : List ℕ) → responseIn payload ≡ just 0 → stepOf p (fields statusOpcode x turn) payload ≡ pick (own p x) (pick newest (pick (ltb (p .turn) maxTurn) Next Silence) (pick earlier Repeat Silence)) Silence
+  unfolding stepOf beginning onStatus
+  success-step x payload h = rw h refl
+
+module _ {w : List ℕ} {g : Grants} {sent : List (List ℕ)} (y : replies.Row) (r : Row Datum) (h : RowAs w g sent y r) where
+  pub newer-same : (x : ℕ) → ltb (r .exchange) x ≡ ltb (y .progress .last) x
+  newer-same x = rw (h .exchange)
+
+  pub repeats-same : (x : ℕ) → (eqb x (r .exchange) && eqb (r .turn) 1 && not (r .closed)) ≡ repeats (y .progress) x
+  repeats-same x =
+      rw (h .exchange, h .turn, h .closed) (and-assoc (eqb x (y .progress .last)) (eqb (y .progress .turn) 1) (not (y .progress .closed)))
+
+  pub own-same : (x : ℕ) → (eqb x (r .exchange) && not (r .closed)) ≡ own (y .progress) x
+  own-same x = rw (h .exchange, h .closed)
+
+  pub newest-same : (turn : ℕ) → (eqb turn (r .turn) && r .more) ≡ newest (y .progress) turn
+  newest-same turn = rw (h .turn, h .more)
+
+  pub earlier-same : (turn : ℕ) → (eqb (suc turn) (r .turn) && ltb 0 turn) ≡ earlier (y .progress) turn
+  earlier-same turn = rw (h .turn, add-one) (and-comm (eqb (suc turn) (y .progress .turn)) (ltb 0 turn))

@@ -1,0 +1,35 @@
+-- WHAT WAS SENT GROWS: a sign that stands for the protocol's still does, whatever else the panel has sent.
+use mathlib.Core.List.{List, _∷_, List·Memᴰ·tail}
+use Prim.Native.Nat.{ℕ}
+use Rattle.tlv.specs.Value.{Datum}
+use Rattle.acl.specs.declared.Grants.{Grants}
+use Rattle.replies.specs.declared.Row as replies
+use Rattle.server.specs.declared.State.{State}
+use Rattle.protocol.specs.Model.{Part, Row, Cluster}
+use Rattle.refinement.proofs.Bytes.{Wrote, ReplyAs, silent, reports, answers}
+use Rattle.refinement.proofs.Sign.{RowAs, SignAs}
+
+module _ (sent : List (List ℕ)) (m : List ℕ) where
+  wrote-still : {x e c a : ℕ} → Wrote sent x e c a → Wrote (m ∷ sent) x e c a
+  wrote-still o = record { given = o .given; version = o .version; value = o .value; fits = o .fits; there = List·Memᴰ·tail (o .there) }
+
+  reply-still : (w reply : List ℕ) (parts : List (Part Datum)) → ReplyAs w sent reply parts → ReplyAs w (m ∷ sent) reply parts
+  reply-still w reply parts (silent a b) = silent a b
+  reply-still w reply parts (reports p a b r) = reports p a b r
+  reply-still w reply parts (answers x o a b l f h) = answers x o a b l f (wrote-still h)
+
+  row-still : (w : List ℕ) (g : Grants) (x : replies.Row) (r : Row Datum) → RowAs w g sent x r → RowAs w g (m ∷ sent) x r
+  row-still w g x r h =
+      record {
+        exchange = h .exchange;
+        turn = h .turn;
+        more = h .more;
+        closed = h .closed;
+        going = h .going;
+        kept = reply-still w _ _ (h .kept);
+        whole = h .whole;
+      }
+
+  pub sign-still : (w defaults : List ℕ) (g : Grants) (edits : List ℕ) (s : State) (clusters : ℕ → Cluster Datum) (r : Row Datum) → SignAs w defaults g sent edits s clusters r → SignAs w defaults g (m ∷ sent) edits s clusters r
+  sign-still w defaults g edits s clusters r h =
+      record { valid = h .valid; versions-fit = h .versions-fit; held = h .held; row = row-still w g (s .row) r (h .row) }

@@ -1,0 +1,40 @@
+-- A panel's messages are no longer than a message may be.
+use mathlib.Core.Bool.{Bool}
+use mathlib.Core.List.{List, [], _∷_}
+use Prim.Native.Nat.{ℕ, _≤_}
+use lib.ListN.{length}
+use Rattle.tlv.specs.Value.{Datum, null, boolean, unsigned, signed, float, text, other}
+use Rattle.interaction.specs.declared.Wanted.{Wanted}
+use Rattle.interaction_writer.specs.Spelling.{Each}
+use Rattle.interaction_writer.specs.Block.{ShortText}
+use Rattle.round_trip.specs.Meant.{WantedFits}
+use Rattle.cached.specs.Limits.{maxClusters}
+use Rattle.cache_request.specs.Messages.{readMessage, writeMessage}
+use Rattle.cache_laws.proofs.BoundLaws.{Narrow, read-sized, write-sized}
+use Rattle.cache_trip.specs.Taken.{Takable}
+use Rattle.replies.specs.Messages.{maxMessage}
+use Rattle.refinement.proofs.Bytes.{WriteFits}
+
+each-narrow : (fs : List Wanted) → Each WantedFits fs → Each Narrow fs
+unfolding Each
+each-narrow [] h = tt
+each-narrow (f ∷ fs) (a, b) =
+    (record { endpoint = a .endpoint-fits; cluster = a .cluster-fits; version = a .version-fits }, each-narrow fs b)
+
+pub read-short : (exchange : ℕ) (fs : List Wanted) → Each WantedFits fs → length fs ≤ maxClusters → length (readMessage exchange fs) ≤ maxMessage
+read-short exchange fs h few = read-sized exchange fs (each-narrow fs h) few .fits
+
+short-text : (d : Datum) → Takable d → ShortText d
+unfolding Takable ShortText
+short-text null h = tt
+short-text (boolean b) h = tt
+short-text (unsigned n) h = tt
+short-text (signed z) h = tt
+short-text (float n) h = tt
+short-text (text b) h = h .1
+short-text other h = tt
+
+pub write-short : (exchange : ℕ) (given : Bool) (version e c a : ℕ) (d : Datum) → WriteFits version e c a d → length (writeMessage exchange given version e c a d) ≤ maxMessage
+write-short exchange given version e c a d f =
+    let p = f .path in
+    write-sized exchange given version e c a d (f .version-fits) (p .endpoint-fits) (p .cluster-fits) (p .attribute-fits) (short-text d (f .takable)) .fits

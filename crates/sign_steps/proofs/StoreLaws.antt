@@ -1,0 +1,113 @@
+-- ONE VALUE STORED is one change of the protocol where it differs from what was held, else nothing.
+use mathlib.Core.Path.{_≡_, refl, sym, ap, _∙_}
+use mathlib.Core.Logic.{_⊎_, inl, inr}
+use mathlib.Core.Bool.{true}
+use mathlib.Core.List.{List}
+use Prim.Native.Nat.{ℕ, suc, _+_, _^_, _<_}
+use native.Mathlib.Omega.{arith}
+use borrow.Author.Tests.{eqb-true, eqb-false, eq-eqb, ne-eqb}
+use lib.Dec.{eqb}
+use lib.ListN.{getD}
+use Rattle.tlv.specs.Value.{Datum}
+use Rattle.kinds.specs.Stored as kinds
+use Rattle.kinds.proofs.StoredLaws.{version-moves}
+use Rattle.schema.specs.Rows.{attributeRow, clusterCount, attributeCount}
+use Rattle.schema.proofs.BoolLaws.{by-test}
+use Rattle.schema.proofs.PathLaws.{cluster-there}
+use Rattle.values.specs.declared.Values.{Values}
+use Rattle.values.specs.Values.{datumAt}
+use Rattle.values.specs.Change.{changes, storedValues, storedEdits}
+use Rattle.values.proofs.StoreLaws.{Storing}
+use Rattle.values.proofs.MoveLaws.{version-stays, version-raised, stored-datum, other-datum}
+use Rattle.protocol.specs.Model as Model
+use Rattle.protocol.specs.Model.{System, change}
+use Rattle.refinement.proofs.Terms.{ClustersAs}
+use Rattle.refinement.proofs.Sign.{moved}
+
+-- the protocol has changed one value, or nothing
+abbrev pub Once : System Datum → System Datum → Type 0
+Once s t = (t ≡ s) ⊎ ((cluster : ℕ) × (attribute : ℕ) × (value : Datum) × (t ≡ change s cluster attribute value))
+
+-- what is held afterwards stands for what the protocol then has, and a cluster's version moved exactly where it counts a change
+pub record Holds (w defaults : List ℕ) (old : Values) (s t : System Datum) (new : Values) (edits : List ℕ) : Type 0 where
+  pub once : Once s t
+  pub versions-fit : (k : ℕ) → getD (new .versions) k 0 < 2 ^ 32
+  pub held : ClustersAs w defaults edits new (t .clusters)
+  pub counted : (k : ℕ) → k < clusterCount w → t .clusters k .changes ≡ s .clusters k .changes + moved (getD (old .versions) k 0) (getD (new .versions) k 0)
+
+moved-not : (a b : ℕ) → b ≡ a → (n : ℕ) → n ≡ n + moved a b
+moved-not a b e n = rw (eq-eqb a b (sym e)) (omega arith)
+
+moved-once : (a b : ℕ) → (b ≡ a → ⊥) → (n : ℕ) → suc n ≡ n + moved a b
+moved-once a b e n = rw (ne-eqb a b (λ q. e (sym q))) (omega arith)
+
+module _ (w defaults edits : List ℕ) (v : Values) (s : System Datum) (fit : (k : ℕ) → getD (v .versions) k 0 < 2 ^ 32) (held : ClustersAs w defaults edits v (s .clusters)) where
+  -- nothing was stored
+  pub unmoved : Holds w defaults v s s v edits
+  unmoved = record { once = inl refl; versions-fit = fit; held = held; counted = λ k l. moved-not (getD (v .versions) k 0) (getD (v .versions) k 0) refl (s .clusters k .changes) }
+
+  module _ (i : ℕ) (d : Datum) (st : Storing w defaults edits v i d) where
+    abbrev new : Values
+    new = storedValues w defaults edits v i d
+
+    abbrev page : List ℕ
+    page = storedEdits w defaults edits v i d
+
+    abbrev place : ℕ
+    place = attributeRow w i .clusterIndex
+
+    abbrev next : System Datum
+    next = change s place i d
+
+    there : place < clusterCount w
+    there = cluster-there w (st .rules) i (st .there)
+
+    module _ (c : changes w defaults edits v i d ≡ true) where
+      raised : getD (new .versions) place 0 ≡ kinds.nextVersion (getD (v .versions) place 0)
+      raised = version-raised w defaults edits v i d st c
+
+      raised-fits : (k : ℕ) → getD (new .versions) k 0 < 2 ^ 32
+      unfolding kinds.nextVersion
+      raised-fits k =
+          by-test (eqb k place) (λ t. rw (eqb-true k place t) (omega (arith, raised)))
+          (λ t. rw (version-stays w defaults edits v i d k (eqb-false k place t)) (fit k))
+
+      raised-version : (k : ℕ) → k < clusterCount w → next .clusters k .version ≡ getD (new .versions) k 0
+      unfolding change kinds.nextVersion
+      raised-version k l =
+          by-test (eqb k place)
+          (λ t. rw (t, eqb-true k place t) (sym (raised ∙ ap Model.nextVersion (sym (held .versions place there)))))
+          (λ t. rw (t, version-stays w defaults edits v i d k (eqb-false k place t)) (held .versions k l))
+
+      raised-value : (j : ℕ) → j < attributeCount w → next .clusters (attributeRow w j .clusterIndex) .values j ≡ datumAt w defaults page new j
+      unfolding change
+      raised-value j l =
+          by-test (eqb j i)
+          (λ t. let e = eqb-true j i t in rw (e, eq-eqb place place refl, eq-eqb i i refl) (sym (stored-datum w defaults edits v i d st)))
+          (λ t. let n = eqb-false j i t in
+          by-test (eqb (attributeRow w j .clusterIndex) place)
+          (λ u. rw (u, t, other-datum w defaults edits v i d st j n l, ← (eqb-true (attributeRow w j .clusterIndex) place u)) (held .values j l))
+          (λ u. rw (u, other-datum w defaults edits v i d st j n l) (held .values j l)))
+
+      raised-counted : (k : ℕ) → k < clusterCount w → next .clusters k .changes ≡ s .clusters k .changes + moved (getD (v .versions) k 0) (getD (new .versions) k 0)
+      unfolding change
+      raised-counted k l =
+          by-test (eqb k place)
+          (λ t. rw (t, eqb-true k place t) (moved-once _ _ (λ q. version-moves (getD (v .versions) place 0) (omega (arith, fit place)) (sym raised ∙ q)) (s .clusters place .changes)))
+          (λ t. rw t (moved-not _ _ (version-stays w defaults edits v i d k (eqb-false k place t)) (s .clusters k .changes)))
+
+      -- a change
+      changed-once : Holds w defaults v s next new page
+      changed-once =
+          record {
+            once = inr (place, i, d, refl);
+            versions-fit = raised-fits;
+            held = record { versions = raised-version; values = raised-value };
+            counted = raised-counted;
+          }
+
+    -- A VALUE that is allowed, stored
+    pub stored-as : (t : System Datum) × Holds w defaults v s t new page
+    unfolding storedValues storedEdits
+    stored-as =
+        by-test (changes w defaults edits v i d) (λ c. (next, changed-once c)) (λ c. (s, rw c unmoved))

@@ -1,0 +1,121 @@
+-- A WRITE of the panel, of one entry: at most one change of the protocol, and an answer that is no part of a report.
+use mathlib.Core.Path.{_≡_, refl, sym, ap, _∙_}
+use mathlib.Core.Logic.{inl, inr}
+use mathlib.Core.Bool.{Bool, true≢false}
+use mathlib.Core.List.{List, [], _∷_, List·Memᴰ}
+use Prim.Native.Nat.{ℕ, _^_, _<_}
+use native.Mathlib.Omega.{arith}
+use lib.Dec.{eqb}
+use lib.ListN.{drop}
+use Rattle.tlv.specs.Octet.{pick}
+use Rattle.tlv.specs.Value.{Datum, valueIn}
+use Rattle.members.specs.Scalar.{ABSENT}
+use Rattle.interaction.specs.Message.{firstOf}
+use Rattle.interaction_write.specs.declared.Entry.{Entry}
+use Rattle.interaction_write.specs.declared.WriteRequest.{WriteRequest}
+use Rattle.interaction_write.specs.Write.{writeIn, writeRead}
+use Rattle.kinds.proofs.SizedLaws.{value-in-sized}
+use Rattle.acl.specs.declared.Grants.{Grants}
+use Rattle.round_trip.specs.Meant.{writeAnswer, Outcome, OutcomeFits}
+use Rattle.writes.specs.Offer.{Held}
+use Rattle.writes.specs.Entry.{mayWrite, entryWritten, heldAfter, codesOf}
+use Rattle.writes.specs.Response.{answerTrees, responsePayload}
+use Rattle.writes.proofs.EntryLaws.{may-index}
+use Rattle.writes.proofs.StatusLaws.{codes-octets}
+use Rattle.cache_request.specs.Messages.{writeMessage}
+use Rattle.exchange.specs.declared.Progress.{Progress}
+use Rattle.replies.specs.Messages.{statusMessage, responseMessage}
+use Rattle.replies.specs.Row.{keeping, keptReply}
+use Rattle.replies.specs.Begin.{Left, answered, responseTo, writeBy, writeBegun}
+use Rattle.replies.proofs.KeptLaws.{write-reply}
+use Rattle.server.specs.Receive.{wrote}
+use Rattle.server.proofs.ReactLaws.{write-whole}
+use Rattle.protocol.specs.Model.{System, Store, storeAll, written}
+use Rattle.refinement.proofs.Bytes.{WriteFits, answerBytes, answers}
+use Rattle.refinement.proofs.Sign.{RowAs}
+use Rattle.sign_steps.proofs.Standing.{Standing}
+use Rattle.sign_steps.proofs.StoreLaws.{Once}
+use Rattle.sign_steps.proofs.ChangeLaws.{heldBy, Reached, placed-as, once-beside}
+use Rattle.sign_steps.proofs.ServeLaws.{Serving, Valid}
+
+-- at most one change, as what a write stores
+stores-of : (s t : System Datum) → Once s t → (stores : List (Store Datum)) × (storeAll s stores ≡ t)
+unfolding storeAll
+stores-of s t (inl e) = ([], sym e)
+stores-of s t (inr (k, i, d, e)) = (record { cluster = k; attribute = i; value = d } ∷ [], sym e)
+
+module _ {w defaults : List ℕ} {g : Grants} {sent : List (List ℕ)} (here : Standing w defaults g sent) (x : ℕ) (fx : x < 2 ^ 40) (given : Bool) (version e c a : ℕ) (d : Datum) (fits : WriteFits version e c a d) where
+  open Standing here using (edits, state as s, system as sys, stands)
+
+  abbrev now : Held
+  now = heldBy here
+
+  abbrev payload : List ℕ
+  payload = drop 8 (writeMessage x given version e c a d)
+
+  -- what the sign has read, and what it makes of it
+  module _ (n : ℕ) (read : writeRead (writeIn payload) ≡ writeAnswer given version e c a n) (there : List·Memᴰ (writeMessage x given version e c a d) sent) where
+    abbrev entry : Entry
+    entry = record { version = pick given version ABSENT; endpoint = e; cluster = c; attribute = a; place = n }
+
+    abbrev begun : Left
+    begun = writeBegun w g defaults now (s .row) x payload
+
+    abbrev outcome : Outcome
+    outcome = record { endpoint = e; cluster = c; attribute = a; code = entryWritten w g defaults payload now entry .code }
+
+    begun-held : begun .held ≡ entryWritten w g defaults payload now entry .held
+    unfolding writeBegun heldAfter firstOf
+    begun-held = ap (λ (q : WriteRequest). writeBy w g defaults now (s .row) x payload q .held) read
+
+    begun-progress : begun .row .progress ≡ answered x
+    unfolding writeBegun keeping firstOf
+    begun-progress = ap (λ (q : WriteRequest). writeBy w g defaults now (s .row) x payload q .row .progress) read
+
+    begun-reply : keptReply (begun .row) ≡ answerBytes x outcome
+    unfolding codesOf firstOf responseMessage responsePayload answerTrees answerBytes
+    begun-reply =
+        write-reply (s .row) (stands .row .whole) x payload w g defaults now
+        ∙ ap (λ (q : WriteRequest). pick (eqb (q .verdict) 0) (responseTo w g defaults payload now x q) (statusMessage x (q .verdict))) read
+
+    outcome-fits : OutcomeFits outcome
+    unfolding codesOf
+    outcome-fits = record { path-fits = fits .path; code-fits = codes-octets w g defaults payload now (entry ∷ []) 0 (omega arith) }
+
+    row-as : (t : System Datum) → RowAs w g sent (begun .row) (written t x .row)
+    unfolding written
+    row-as t =
+        record {
+          exchange = sym (ap (λ (p : Progress). p .last) begun-progress);
+          turn = sym (ap (λ (p : Progress). p .turn) begun-progress);
+          more = sym (ap (λ (p : Progress). p .promised) begun-progress);
+          closed = sym (ap (λ (p : Progress). p .closed) begun-progress);
+          going = λ h. absurd (true≢false (sym h));
+          kept = answers x outcome begun-reply refl fx outcome-fits (record { given = given; version = version; value = d; fits = fits; there = there });
+          whole = write-whole w g defaults now (s .row) x payload ∙ stands .row .whole;
+        }
+
+    reached : Reached here (entryWritten w g defaults payload now entry .held)
+    unfolding entryWritten
+    reached =
+        placed-as here payload (valueIn payload n) (value-in-sized payload n) (mayWrite w g (s .values .versions) entry)
+        (may-index w g (s .values .versions) entry)
+
+    -- A WRITE, served
+    pub write-served : Valid here (wrote begun) → (stores : List (Store Datum)) × Serving here (written (storeAll sys stores) x) (wrote begun)
+    unfolding written
+    write-served valid =
+        let (t, h) = rw (← begun-held) at reached in
+        let (stores, is) = stores-of sys t (h .once) in
+        let b = once-beside sys t (h .once) in (
+          stores,
+          rw is (record {
+            sign = record { valid = valid; versions-fit = h .versions-fit; held = h .held; row = row-as t };
+            made = [];
+            reply-is = row-as t .kept;
+            parts = b .parts;
+            cache = b .cache;
+            messages = b .messages;
+            counted = h .counted;
+          }),
+        )
