@@ -1,0 +1,11 @@
+pub mod MessageLaws
+pub mod Stands
+pub mod ReadableLaws
+pub mod StepLaws
+pub mod RunLaws
+pub mod AskLaws
+pub mod StageLaws
+pub mod FirstLaws
+pub mod SecondLaws
+pub mod NeverLaws
+pub mod Main

@@ -1,17 +1,18 @@
 -- DEMAND 3 OF THE PRODUCT, over both ends as they are: "whenever the panel calls a cluster whole at version v, the sign has held v and the panel's entries are exactly what it
 -- may read there, as held at v. And a read whose messages all arrive leaves every unchanged cluster whole."
 use mathlib.Core.Path.{_≡_}
-use mathlib.Core.Bool.{false}
+use mathlib.Core.Bool.{Bool, false}
 use mathlib.Core.List.{List, [], _∷_, List·Memᴰ}
 use Prim.Native.Nat.{ℕ, _^_, _<_, _≤_, max}
-use lib.ListN.{getD}
+use lib.ListN.{getD, drop}
 use Rattle.tlv.specs.declared.Value.{Value}
 use Rattle.tlv.specs.Decode.{Opt}
 use Rattle.tlv.specs.Decode.Opt.{just, nothing}
 use Rattle.envelope.specs.declared.Fields.{Fields}
 use Rattle.envelope.specs.declared.Envelope.{Envelope}
 use Rattle.envelope.specs.declared.Envelope.the-variants.{Whole, Short}
-use Rattle.envelope.specs.Envelope.{envelopeIn}
+use Rattle.envelope.specs.Envelope.{envelopeIn, envelopeLength}
+use Rattle.interaction_report.specs.Report.{PartAt, partIn}
 use Rattle.interaction_writer.specs.Block.{Block}
 use Rattle.schema.specs.declared.Found.{Found}
 use Rattle.schema.specs.declared.Found.the-variants.{At, Nothing}
@@ -72,6 +73,10 @@ exchangeOf (Whole f) = just (f .exchange)
 abbrev pub In : ℕ → List ℕ → Type 0
 In exchange m = exchangeOf (envelopeIn m) ≡ just exchange
 
+-- a last part: a report that does not promise more
+abbrev pub Last : List ℕ → Type 0
+Last m = (x : PartAt) × (partIn (drop envelopeLength m) ≡ just x) × (x .part .more ≡ 1 → ⊥)
+
 -- THE FIRST HALF: in every state that a run can reach, with fewer than 2^32 changes to the cluster
 abbrev pub FirstHalf : Type 0
 FirstHalf =
@@ -111,13 +116,13 @@ pub record Making {p : Plan} {u v : World} (run : Run p u v) (m : List ℕ) : Ty
   pub after : List·Memᴰ m (next .replies)
 
 -- A read is open. If each of its messages and each reply has arrived before the panel begins anything else, whatever else happens, then it has ended on its last part, and the
--- panel calls whole every cluster with something that it may read and that did not change between the taking of the request and the making of a last part, at the version it had
+-- panel calls whole every cluster with something that it may read and that did not change between the taking of the request and the making of that part, at the version it had
 abbrev pub SecondHalf : Type 0
 SecondHalf =
     (p : Plan) (b : Start p) (u v : World) (reach : Reach p b u) → u .panel .asked .stage ≡ reading
     → (run : Run p u v) → Calm run → Arrived run
     → Ended u v
-    × ((m : List ℕ) × In (u .panel .asked .exchange) m
+    × ((m : List ℕ) × In (u .panel .asked .exchange) m × Last m
     × (taking : Taking (join reach run) (u .panel .asked .exchange)) × (making : Making (join reach run) m)
     × ((endpoint cluster : ℕ) → endpoint < 2 ^ 16 → cluster < 2 ^ 32 → MayReadSome p v endpoint cluster
     → changesOf p (taking .at) endpoint cluster ≡ changesOf p (making .at) endpoint cluster
@@ -135,6 +140,7 @@ pub record Never : Type 0 where
   pub change-2 : (p : Plan) (b : Start p) (u : World) → Reach p b u → (endpoint cluster attribute : ℕ) (src : List ℕ) (new : Value) → altered p u endpoint cluster attribute src new .number ≡ 2 → ⊥
   pub panel-2 : (p : Plan) (b : Start p) (u : World) → Reach p b u → (m : List ℕ) (room : ℕ) → receive.received (u .page) (u .panel) m room .number ≡ 2 → ⊥
   pub read-2 : (p : Plan) (b : Start p) (u : World) → Reach p b u → (room : ℕ) → begin.beginsRead (u .page) (u .panel) room .number ≡ 2 → ⊥
+  pub write-2 : (p : Plan) (b : Start p) (u : World) → Reach p b u → (endpoint cluster attribute : ℕ) (given : Bool) (version : ℕ) (src : List ℕ) (new : Value) (room : ℕ) → begin.beginsWrite (u .page) (u .panel) endpoint cluster attribute given version src new room .number ≡ 2 → ⊥
   pub resend-2 : (p : Plan) (b : Start p) (u : World) → Reach p b u → (room : ℕ) → begin.resends (u .page) (u .panel) room .number ≡ 2 → ⊥
   pub panel-6 : (p : Plan) (b : Start p) (u : World) → Reach p b u → (m : List ℕ) → List·Memᴰ m (u .replies) → (room : ℕ) → receive.received (u .page) (u .panel) m room .number ≡ 6 → ⊥
   pub panel-7 : (p : Plan) (b : Start p) (u : World) → Reach p b u → (m : List ℕ) → List·Memᴰ m (u .replies) → (room : ℕ) → receive.received (u .page) (u .panel) m room .number ≡ 7 → ⊥

@@ -1,0 +1,134 @@
+-- What the ends answer, in the terms of the protocol: which cluster is called whole, what may be read of one path, what the panel has for it.
+use mathlib.Core.Path.{_≡_, refl, sym, ap, _∙_, subst}
+use mathlib.Core.Logic.{_⊎_, inl, inr}
+use mathlib.Core.Bool.{Bool, true, false, _&&_, not, true≢false}
+use mathlib.Core.List.{List, [], _∷_, List·Memᴰ}
+use Prim.Native.Nat.{ℕ, _^_, _<_}
+use native.Mathlib.Omega.{arith}
+use lib.Dec.{eqb}
+use lib.ListN.{getD}
+use Rattle.tlv.specs.Octet.{pick}
+use Rattle.tlv.specs.Value.{Datum}
+use Rattle.tlv.specs.Decode.{Opt}
+use Rattle.tlv.specs.Decode.Opt.{just, nothing}
+use Rattle.schema.specs.declared.Found.{Found}
+use Rattle.schema.specs.declared.Found.the-variants as found
+use Rattle.schema.specs.Rows.{clusterRow, attributeRow, clusterCount, attributeCount}
+use Rattle.schema.specs.Rules.{Path, path, pathAt, Rules}
+use Rattle.schema.specs.Find.{findCluster}
+use Rattle.schema.proofs.BoolLaws.{by-test, left, right}
+use Rattle.schema.proofs.RulesLaws.{path-word}
+use Rattle.schema.proofs.FindLaws.{cluster-found, cluster-none}
+use Rattle.schema.proofs.PathLaws.{one-path, one-cluster, cluster-there}
+use Rattle.interaction_writer.specs.Block.{Block}
+use Rattle.acl.specs.Access.{isGranted}
+use Rattle.selection.specs.declared.items.Item.{Item}
+use Rattle.selection.specs.declared.items.Item.the-variants as item
+use Rattle.selection.specs.declared.locate.Located.{Located}
+use Rattle.selection.specs.declared.locate.Located.the-variants.{Here, Refused}
+use Rattle.selection.specs.Status.{unsupportedRead, unsupportedAccess}
+use Rattle.selection.specs.Locate.{located}
+use Rattle.selection.specs.Items.{readItem, concreteFound, concreteItem}
+use Rattle.selection.proofs.LocateLaws.{located-here, located-refused}
+use Rattle.values.specs.Values.{datumAt, versionAt}
+use Rattle.report.specs.Blocks.{valueBlock, blockOf}
+use Rattle.cached.specs.Entries.{Entry, clusterWord, lookup}
+use Rattle.cache.specs.State.{panelRight}
+use Rattle.cache.specs.declared.State as cache
+use Rattle.cache_laws.proofs.BegunLaws.{ValidPanel, valid-right}
+use Rattle.cache_ask.specs.Ask.{Said, said, coherentOf, versionSaid, saysWhole, EntrySaid, entrySaid, saysEntry}
+use Rattle.protocol.specs.Model.{Place}
+use Rattle.refinement.proofs.Terms.{placeAt, mayRead}
+use Rattle.promises.specs.World.{Plan, World, granted}
+use Rattle.promises.specs.Claims.{CallsWhole, onRow, versionOf, changesOf, asked, shown, entryFor}
+
+-- A CLUSTER IS CALLED WHOLE exactly if it is coherent
+version-said : (o : Opt ℕ) (v : ℕ) → versionSaid o ≡ said 0 (v ∷ []) → o ≡ just v
+version-said nothing v h = let z : _≡_ {A = ℕ} 1 0 = ap (λ (x : Said). x .number) h in absurd (omega (arith, z))
+version-said (just x) v h = ap just (ap (λ (y : Said). getD (y .values) 0 0) h)
+
+module _ (page : List ℕ) (s : cache.State) (valid : ValidPanel page s) where
+  says-version : (e c : ℕ) → saysWhole page s e c ≡ versionSaid (coherentOf (s .held) (clusterWord e c))
+  says-version e c = rw (valid-right page s valid) refl
+
+  pub whole-coherent : (e c v : ℕ) → saysWhole page s e c ≡ said 0 (v ∷ []) → coherentOf (s .held) (clusterWord e c) ≡ just v
+  whole-coherent e c v h = version-said (coherentOf (s .held) (clusterWord e c)) v (sym (says-version e c) ∙ h)
+
+  pub coherent-whole : (e c v : ℕ) → coherentOf (s .held) (clusterWord e c) ≡ just v → saysWhole page s e c ≡ said 0 (v ∷ [])
+  coherent-whole e c v h = says-version e c ∙ ap versionSaid h
+
+  pub says-held : (e c a : ℕ) → saysEntry page s e c a ≡ entrySaid (lookup (s .held) page e c a)
+  says-held e c a = rw (valid-right page s valid) refl
+
+module _ (p : Plan) (rules : Rules (p .words)) where
+  abbrev w : List ℕ
+  w = p .words
+
+  -- THE ROW of a cluster
+  pub row-found : (k : ℕ) → k < clusterCount w → (e c : ℕ) → clusterRow w k .endpoint ≡ e → clusterRow w k .cluster ≡ c → findCluster w e c ≡ found.At k
+  row-found k l e c qe qc = go (findCluster w e c) refl
+    where
+      go : (f : Found) → findCluster w e c ≡ f → findCluster w e c ≡ found.At k
+      go (found.At j) h = let r = cluster-found w e c j h in h ∙ ap found.At (one-cluster w rules j k (r .0) l (r .1 ∙ sym qe) (r .2 ∙ sym qc))
+      go found.Nothing h = absurd (cluster-none w e c h k l qe qc)
+
+  module _ (k e c : ℕ) (h : findCluster w e c ≡ found.At k) where
+    pub version-at : (u : World) → versionOf p u e c ≡ just (getD (u .sign .values .versions) k 0)
+    version-at u = ap (onRow nothing (λ (j : ℕ). just (getD (u .sign .values .versions) j 0))) h
+
+    pub changes-at : (u : World) → changesOf p u e c ≡ u .changes k
+    changes-at u = ap (onRow 0 (u .changes)) h
+
+    -- an attribute of that path is of that row
+    pub of-cluster : (i a : ℕ) → i < attributeCount w → pathAt w i ≡ path e c a → attributeRow w i .clusterIndex ≡ k
+    of-cluster i a l q =
+        let j = attributeRow w i .clusterIndex in
+        let there : j < clusterCount w = cluster-there w rules i l in
+        let r = cluster-found w e c k h in
+        let is : path (clusterRow w j .endpoint) (clusterRow w j .cluster) (attributeRow w i .id) ≡ path e c a = sym (path-word w i there) ∙ q in
+        one-cluster w rules j k there (r .0) (ap (λ (x : Path). x .endpoint) is ∙ sym (r .1)) (ap (λ (x : Path). x .cluster) is ∙ sym (r .2))
+
+  -- WHAT MAY BE READ of one path
+  pub data Sees (u : World) (e c a : ℕ) : Type 0 where
+    value : (i : ℕ) → i < attributeCount w → pathAt w i ≡ path e c a → mayRead w (granted p) i ≡ true
+        → entryFor (shown p u e c a) ≡ just (record { version = versionAt w (u .sign .values) i; value = datumAt w (p .defaults) (u .edits) (u .sign .values) i }) → Sees u e c a
+    none : entryFor (shown p u e c a) ≡ nothing → ((i : ℕ) → i < attributeCount w → pathAt w i ≡ path e c a → mayRead w (granted p) i ≡ true → ⊥) → Sees u e c a
+
+  -- attribute i, by whether it may be read
+  item-read : (i : ℕ) → mayRead w (granted p) i ≡ true → readItem w (granted p) [] i ≡ item.Value i
+  unfolding mayRead readItem
+  item-read i t =
+      let open-is : eqb (attributeRow w i .read) 0 ≡ false = is-false (eqb (attributeRow w i .read) 0) (left _ _ t) in
+      rw (open-is, right (not (eqb (attributeRow w i .read) 0)) _ t) refl
+    where
+      is-false : (b : Bool) → not b ≡ true → b ≡ false
+      is-false true h = sym h
+      is-false false h = refl
+
+  item-refused : (i : ℕ) → mayRead w (granted p) i ≡ false → (code : ℕ) × (readItem w (granted p) [] i ≡ item.Status code)
+  unfolding mayRead readItem
+  item-refused i f = by-test (eqb (attributeRow w i .read) 0) (λ t. (unsupportedRead, rw t refl)) (λ n. (unsupportedAccess, rw (n, rw n at f) refl))
+
+  module _ (u : World) (e c a : ℕ) where
+    shown-as : (o : Located) → located w e c a ≡ o → shown p u e c a ≡ blockOf w (u .sign .values) (p .defaults) (u .edits) (asked e c a) (concreteFound w (granted p) [] o)
+    unfolding concreteItem
+    shown-as o h = ap (λ (x : Located). blockOf w (u .sign .values) (p .defaults) (u .edits) (asked e c a) (concreteFound w (granted p) [] x)) h
+
+    by-item : (o : Located) → located w e c a ≡ o → (x : Item) → concreteFound w (granted p) [] o ≡ x → entryFor (shown p u e c a) ≡ entryFor (blockOf w (u .sign .values) (p .defaults) (u .edits) (asked e c a) x)
+    by-item o h x q = ap entryFor (shown-as o h ∙ ap (blockOf w (u .sign .values) (p .defaults) (u .edits) (asked e c a)) q)
+
+    pub sees : Sees u e c a
+    unfolding blockOf valueBlock
+    sees = go (located w e c a) refl
+      where
+        one : (i : ℕ) → located w e c a ≡ Here i → mayRead w (granted p) i ≡ false → (j : ℕ) → j < attributeCount w → pathAt w j ≡ path e c a → mayRead w (granted p) j ≡ true → ⊥
+        one i h f j l q t =
+            let r = located-here w e c a i h in
+            true≢false (sym t ∙ ap (mayRead w (granted p)) (one-path w rules j i l (r .0) (q ∙ sym (r .1))) ∙ f)
+
+        go : (o : Located) → located w e c a ≡ o → Sees u e c a
+        go (Here i) h =
+            let r = located-here w e c a i h in
+            by-test (mayRead w (granted p) i) (λ t. value i (r .0) (r .1) t (by-item (Here i) h (item.Value i) (item-read i t)))
+            (λ f. let k = item-refused i f in none (by-item (Here i) h (item.Status (k .0)) (k .1)) (one i h f))
+        go (Refused code) h = none (by-item (Refused code) h (item.Status code) refl) (λ i l q _. located-refused w rules e c a code h i l q)

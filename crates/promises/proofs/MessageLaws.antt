@@ -1,0 +1,75 @@
+-- A message is read in one way: what it is in the protocol is told by its bytes, and so are its exchange and turn.
+use mathlib.Core.Path.{_≡_, refl, sym, ap, _∙_, subst}
+use mathlib.Core.List.{List, [], _∷_, map}
+use Prim.Native.Nat.{ℕ, _^_, _<_}
+use native.Mathlib.Omega.{arith}
+use lib.Dec.{eqb}
+use lib.ListN.{drop}
+use Rattle.tlv.specs.Octet.{pick}
+use Rattle.tlv.specs.Value.{Datum}
+use Rattle.tlv.specs.Decode.{Opt}
+use Rattle.tlv.specs.Decode.Opt.{just, nothing}
+use Rattle.interaction.specs.declared.Wanted.{Wanted}
+use Rattle.interaction.specs.Read.{Read, readIn}
+use Rattle.round_trip.specs.Meant.{readOctets, readMeans, Outcome, outcomesOctets}
+use Rattle.round_trip.proofs.BackLaws.{read-back}
+use Rattle.envelope.specs.declared.Envelope.{Envelope}
+use Rattle.envelope.specs.declared.Envelope.the-variants.{Whole, Short}
+use Rattle.envelope.specs.Envelope.{envelopeIn}
+use Rattle.envelope.proofs.BigLaws.{envelope-read}
+use Rattle.exchange.specs.Rules.{statusOpcode, readOpcode, reportOpcode, writeOpcode, writeResponseOpcode}
+use Rattle.cache_request.specs.Messages.{readMessage}
+use Rattle.cache_trip.specs.Begun.{envelopeAs}
+use Rattle.cache_trip.proofs.BeginLaws.{after-envelope, read-envelope, write-envelope, success-envelope}
+use Rattle.protocol.specs.Model.{Message, read, write, success, failure, Part, exchangeOf}
+use Rattle.refinement.proofs.Terms.{filtersAs}
+use Rattle.refinement.proofs.Bytes.{MessageAs, reads, writes, succeeds, partPayload, partBytes, PartRight, answerBytes}
+
+abbrev filtersIn : Opt Read → List Wanted
+filtersIn nothing = []
+filtersIn (just r) = r .filters
+
+abbrev byEnvelope : List ℕ → List ℕ → Envelope → Message
+byEnvelope w q Short = write 0
+byEnvelope w q (Whole f) =
+    pick (eqb (f .opcode) readOpcode) (read (f .exchange) (filtersAs w (filtersIn (readIn q))))
+    (pick (eqb (f .opcode) writeOpcode) (write (f .exchange)) (success (f .exchange) (f .turn)))
+
+-- WHAT A MESSAGE OF THE PANEL IS, from its bytes
+unfoldable meaning : List ℕ → List ℕ → Message
+meaning w m = byEnvelope w (drop 8 m) (envelopeIn m)
+
+meant : (w m : List ℕ) (u : Message) → MessageAs w m u → u ≡ meaning w m
+unfolding meaning readMessage
+meant w m u (reads x fs em eu fx fit few) =
+    eu ∙ ap (λ (o : Opt Read). read x (filtersAs w (filtersIn o))) (sym filters) ∙ ap (byEnvelope w (drop 8 m)) (sym (ap envelopeIn em ∙ read-envelope x fs fx))
+  where
+    filters : readIn (drop 8 m) ≡ just (readMeans fs)
+    filters = ap (λ (l : List ℕ). readIn (drop 8 l)) em ∙ ap readIn (after-envelope readOpcode x 0 (readOctets fs)) ∙ read-back fs fit
+meant w m u (writes x given version e c a d em eu fx fit) =
+    eu ∙ ap (byEnvelope w (drop 8 m)) (sym (ap envelopeIn em ∙ write-envelope x given version e c a d fx))
+meant w m u (succeeds x turn em eu fx ft) = eu ∙ ap (byEnvelope w (drop 8 m)) (sym (ap envelopeIn em ∙ success-envelope x turn fx ft))
+
+pub message-one : (w m : List ℕ) (u u′ : Message) → MessageAs w m u → MessageAs w m u′ → u ≡ u′
+message-one w m u u′ a b = meant w m u a ∙ sym (meant w m u′ b)
+
+-- its exchange
+abbrev pub InExchange : ℕ → Envelope → Type 0
+InExchange x Short = ⊥
+InExchange x (Whole f) = f .exchange ≡ x
+
+pub message-in : (w m : List ℕ) (u : Message) → MessageAs w m u → InExchange (exchangeOf u) (envelopeIn m)
+message-in w m u (reads x fs em eu fx fit few) = subst (InExchange (exchangeOf u)) (sym (ap envelopeIn em ∙ read-envelope x fs fx)) (ap exchangeOf (sym eu))
+message-in w m u (writes x given version e c a d em eu fx fit) =
+    subst (InExchange (exchangeOf u)) (sym (ap envelopeIn em ∙ write-envelope x given version e c a d fx)) (ap exchangeOf (sym eu))
+message-in w m u (succeeds x turn em eu fx ft) =
+    subst (InExchange (exchangeOf u)) (sym (ap envelopeIn em ∙ success-envelope x turn fx ft)) (ap exchangeOf (sym eu))
+
+-- A REPLY's envelope
+pub part-envelope : (w : List ℕ) (q : Part Datum) → PartRight w q → envelopeIn (partBytes w q) ≡ envelopeAs reportOpcode (q .exchange) (q .turn)
+unfolding partBytes
+part-envelope w q r = envelope-read reportOpcode (q .exchange) (q .turn) (omega arith) (r .exchange) (r .turn) (partPayload w q)
+
+pub answer-envelope : (x : ℕ) (o : Outcome) → x < 2 ^ 40 → envelopeIn (answerBytes x o) ≡ envelopeAs writeResponseOpcode x 1
+unfolding answerBytes
+answer-envelope x o fx = envelope-read writeResponseOpcode x 1 (omega arith) fx (omega arith) (outcomesOctets (o ∷ []))

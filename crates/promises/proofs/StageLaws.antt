@@ -1,0 +1,132 @@
+-- A read that is open, while the panel begins nothing, is open still or has ended on its last part: no status ends it.
+use mathlib.Core.Path.{_≡_, refl, sym, ap, _∙_, subst}
+use mathlib.Core.Logic.{_⊎_, inl, inr}
+use mathlib.Core.Bool.{Bool, true, false, _&&_}
+use mathlib.Core.List.{List, [], List·Memᴰ}
+use Prim.Native.Nat.{ℕ, _-_, _^_, _<_}
+use native.Mathlib.Omega.{arith}
+use borrow.Author.Tests.{eqb-true, ne-eqb}
+use lib.Dec.{eqb, ltb, leb}
+use lib.ListN.{length, drop}
+use Rattle.tlv.specs.declared.Value.{Value}
+use Rattle.tlv.specs.Decode.{Opt}
+use Rattle.tlv.specs.Decode.Opt.{just, nothing}
+use Rattle.tlv.specs.Value.{Datum}
+use Rattle.tlv.proofs.Picks.{pick-elim}
+use Rattle.schema.proofs.BoolLaws.{left, right, by-test}
+use Rattle.interaction_report.specs.Report.{PartAt, partIn}
+use Rattle.envelope.specs.declared.Fields.{Fields}
+use Rattle.envelope.specs.declared.Envelope.{Envelope}
+use Rattle.envelope.specs.declared.Envelope.the-variants.{Whole, Short}
+use Rattle.envelope.specs.Envelope.{envelopeIn, envelopeLength, maxMessage}
+use Rattle.exchange.specs.Rules.{statusOpcode, reportOpcode}
+use Rattle.cache_part.specs.Part.{blocksIn, judgedAll}
+use Rattle.cache.specs.declared.State.{State}
+use Rattle.cache.specs.State.{reading, writing, lastPart, isOpen, panelRight}
+use Rattle.cache.specs.Reaction.{Reaction, refusal}
+use Rattle.cache.specs.Begin as begin
+use Rattle.cache_receive.specs.Receive.{forCache, opcodeAwaited, awaited, endedAs, goesOn, pastTurns, partTaken, takesPart, takes, inEnvelope, received}
+use Rattle.protocol.specs.Model.{System}
+use Rattle.protocol.specs.Steps as model
+use Rattle.promises.specs.World.{Plan, World, Start, afterSign, afterPanel}
+use Rattle.promises.specs.Runs.{Step, alters, beginsRead, beginsWrite, resends, hears, overhears, gets, Run, none, then, Quiet, Calm}
+use Rattle.promises.proofs.MessageLaws.{part-envelope, answer-envelope}
+use Rattle.promises.proofs.Stands.{ReplyOf, part, answer, Stands}
+use Rattle.promises.proofs.StepLaws.{node}
+use Rattle.promises.proofs.RunLaws.{follow}
+
+-- an open read, or one that has ended on its last part
+abbrev pub Goes : State → Type 0
+Goes s = (s .asked .stage ≡ reading) ⊎ (s .asked .stage ≡ lastPart)
+
+not-writing : (s : State) → Goes s → s .asked .stage ≡ writing → ⊥
+not-writing s (inl e) h = omega (arith, e, h)
+not-writing s (inr e) h = omega (arith, e, h)
+
+-- a message that is no Status Response
+abbrev NoStatus : Envelope → Type 0
+NoStatus Short = Unit {0}
+NoStatus (Whole f) = f .opcode ≡ statusOpcode → ⊥
+
+module _ (page : List ℕ) (s : State) (g : Goes s) where
+  abbrev Keeps : Reaction → Type 0
+  Keeps x = Goes (x .state)
+
+  part-goes : (payload : List ℕ) → Keeps (takesPart page s payload)
+  unfolding takesPart goesOn begin.keeping endedAs
+  part-goes payload = go (partIn payload)
+    where
+      go : (o : Opt PartAt) → Keeps (partTaken page s payload o)
+      go nothing = g
+      go (just q) =
+          pick-elim Keeps (pastTurns (q .part .more) (s .asked .turn)) _ _ (λ _. g)
+          (λ _. pick-elim Keeps (eqb (judgedAll payload (record { number = 0; held = s .held }) (blocksIn payload) .number) 0) _ _
+          (λ _. pick-elim Keeps (eqb (q .part .more) 1) _ _ (λ _. g) (λ _. inr refl)) (λ _. g))
+
+  awaited-writing : (f : Fields) → awaited (s .asked) f ≡ true → eqb (f .opcode) statusOpcode ≡ false → eqb (f .opcode) reportOpcode ≡ false → s .asked .stage ≡ writing
+  unfolding awaited opcodeAwaited
+  awaited-writing f t a b =
+      let rest = right (eqb (f .turn) (s .asked .turn)) _ (right (eqb (f .exchange) (s .asked .exchange)) _ (right (isOpen (s .asked .stage)) _ t)) in
+      eqb-true (s .asked .stage) writing (rw (a, b) at rest)
+
+  takes-goes : (f : Fields) → (f .opcode ≡ statusOpcode → ⊥) → awaited (s .asked) f ≡ true → (payload : List ℕ) → Keeps (takes page s (f .opcode) payload)
+  unfolding takes
+  takes-goes f n t payload =
+      let other : eqb (f .opcode) statusOpcode ≡ false = ne-eqb (f .opcode) statusOpcode n in
+      pick-elim Keeps (eqb (f .opcode) statusOpcode) _ _ (λ h. absurd (n (eqb-true (f .opcode) statusOpcode h)))
+      (λ _. pick-elim Keeps (eqb (f .opcode) reportOpcode) _ _ (λ _. part-goes payload) (λ h. absurd (not-writing s g (awaited-writing f t other h))))
+
+  pub reply-goes : (m : List ℕ) (room : ℕ) → NoStatus (envelopeIn m) → Keeps (received page s m room)
+  unfolding received
+  reply-goes m room n =
+      pick-elim Keeps (panelRight page s) _ _ (λ _. pick-elim Keeps (ltb room maxMessage) _ _ (λ _. g) (λ _. go (envelopeIn m) n)) (λ _. g)
+    where
+      go : (e : Envelope) → NoStatus e → Keeps (inEnvelope page s m e)
+      go Short h = g
+      go (Whole f) h =
+          pick-elim Keeps (leb (length m) maxMessage && (eqb (f .edition) 0 && forCache (f .opcode))) _ _
+          (λ _. by-test (awaited (s .asked) f) (λ t. rw t (takes-goes f h t (drop envelopeLength m))) (λ z. rw z g)) (λ _. g)
+
+  -- a call that begins nothing is refused
+  abbrev Unbegun : Reaction → Type 0
+  Unbegun x = (x .number ≡ 0 → ⊥) → Keeps x
+
+  beginning-goes : (room : ℕ) (next : Reaction) → Unbegun next → Unbegun (begin.beginning page s room next)
+  beginning-goes room next f =
+      pick-elim Unbegun (panelRight page s) _ _
+      (λ _. pick-elim Unbegun (ltb room maxMessage) _ _ (λ _ _. g) (λ _. pick-elim Unbegun (ltb (s .asked .used) (2 ^ 40 - 1)) _ _ (λ _. f) (λ _ _. g))) (λ _ _. g)
+
+  read-goes : (room : ℕ) → Unbegun (begin.beginsRead page s room)
+  unfolding begin.beginsRead
+  read-goes room = beginning-goes room _ (λ n. absurd (n refl))
+
+  write-goes : (e c a : ℕ) (given : Bool) (version : ℕ) (src : List ℕ) (new : Value) (room : ℕ) → Unbegun (begin.beginsWrite page s e c a given version src new room)
+  unfolding begin.beginsWrite
+  write-goes e c a given version src new room = beginning-goes room _ (pick-elim Unbegun (begin.sendable src new) _ _ (λ _ n. absurd (n refl)) (λ _ _. g))
+
+  resent-goes : (room : ℕ) → Keeps (begin.resends page s room)
+  unfolding begin.resends
+  resent-goes room =
+      pick-elim Keeps (panelRight page s) _ _
+      (λ _. pick-elim Keeps (ltb room maxMessage) _ _ (λ _. g) (λ _. pick-elim Keeps (isOpen (s .asked .stage)) _ _ (λ _. g) (λ _. g))) (λ _. g)
+
+-- what the sign sends is no status
+reply-no-status : (p : Plan) (u : World) (s : System Datum) → Stands p u s → (m : List ℕ) → ReplyOf (p .words) (u .requests) (s .parts) m → NoStatus (envelopeIn m)
+reply-no-status p u s h m (part q i e) = subst NoStatus (sym (ap envelopeIn e ∙ part-envelope (p .words) q (h .parts q i .1))) (λ z. omega (arith, z))
+reply-no-status p u s h m (answer x o e fx fo k) = subst NoStatus (sym (ap envelopeIn e ∙ answer-envelope x o fx)) (λ z. omega (arith, z))
+
+step-goes : (p : Plan) {u v : World} (s : System Datum) → Stands p u s → (step : Step p u v) → Quiet step → Goes (u .panel) → Goes (v .panel)
+unfolding afterSign afterPanel
+step-goes p s h (alters e c a src new t) q g = g
+step-goes p {u} s h (beginsRead room) q g = read-goes (u .page) (u .panel) g room q
+step-goes p {u} s h (beginsWrite e c a given version src new room f l t) q g = write-goes (u .page) (u .panel) g e c a given version src new room q
+step-goes p {u} s h (resends room) q g = resent-goes (u .page) (u .panel) g room
+step-goes p s h (hears m room i) q g = g
+step-goes p s h (overhears subject m room n) q g = g
+step-goes p {u} s h (gets m room i) q g = reply-goes (u .page) (u .panel) g m room (reply-no-status p u s h m (h .replies m i))
+
+pub run-goes : (p : Plan) (b : Start p) {u v : World} (s : System Datum) → Stands p u s → model.Reach (node p b) s → (run : Run p u v) → Calm run → Goes (u .panel) → Goes (v .panel)
+run-goes p b s h reach none c g = g
+run-goes p b s h reach (then run step) c g =
+    let f = follow p b run s h reach in
+    step-goes p (f .end) (f .stands) step (c .1) (run-goes p b s h reach run (c .0) g)
