@@ -1,6 +1,6 @@
 -- THE FILTERS OF A READ ARE THE PROTOCOL'S: one for each coherent cluster and no other.
-use mathlib.Core.Path.{_≡_, refl, sym, ap, subst, _∙_}
-use mathlib.Core.List.{List, [], _∷_, map, List·Memᴰ, List·Memᴰ·head, List·Memᴰ·tail, List·Memᴰ·not-nil, Memᴰ·cast}
+use mathlib.Core.Path.{_≡_, refl, sym, subst, _∙_}
+use mathlib.Core.List.{List, [], _∷_, List·Memᴰ, List·Memᴰ·head, List·Memᴰ·tail, List·Memᴰ·not-nil, Memᴰ·cast, Memᴰ·map, Memᴰ·of-map}
 use Prim.Native.Nat.{ℕ, _/_, _%_, _^_, _<_}
 use native.Mathlib.Omega.{arith}
 use lib.ListN.{getD}
@@ -32,16 +32,11 @@ use Rattle.panel_parts.proofs.OnceLaws.{found-once}
 use Rattle.panel_steps.proofs.EntryLaws.{word-at, coherent-held, coherent-there}
 use Rattle.panel_steps.proofs.CoherentLaws.{of-row, coherent-row, coherent-as}
 
-mem-map : {A B : Type 0} (f : A → B) {x : A} {l : List A} → List·Memᴰ x l → List·Memᴰ (f x) (map f l)
-mem-map f (List·Memᴰ·head e) = List·Memᴰ·head (ap f e)
-mem-map f (List·Memᴰ·tail m) = List·Memᴰ·tail (mem-map f m)
-
--- what holds of the images of all that P holds of, holds of each of the images of a list of such
-each-image : {A B : Type 0} (P : A → Type 0) (Q : B → Type 0) (f : A → B) → ((x : A) → P x → Q (f x)) → (l : List A) → Each P l → (y : B) → List·Memᴰ y (map f l) → Q y
+each-at : {A : Type 0} (P : A → Type 0) (l : List A) → Each P l → (x : A) → List·Memᴰ x l → P x
 unfolding Each
-each-image P Q f law [] h y m = absurd (List·Memᴰ·not-nil m)
-each-image P Q f law (x ∷ l) h y (List·Memᴰ·head e) = subst Q (sym e) (law x (h .0))
-each-image P Q f law (x ∷ l) h y (List·Memᴰ·tail m) = each-image P Q f law l (h .1) y m
+each-at P [] h x m = absurd (List·Memᴰ·not-nil m)
+each-at P (y ∷ l) h x (List·Memᴰ·head e) = subst P (sym e) (h .0)
+each-at P (y ∷ l) h x (List·Memᴰ·tail m) = each-at P l (h .1) x m
 
 module _ (w : List ℕ) (rules : Rules w) where
   -- the row of a cluster is found
@@ -88,10 +83,11 @@ module _ (w : List ℕ) (rules : Rules w) where
         let (j, at, q) = coherent-held held row version (coherent-as w rules sent page s c panel cluster l version .1 h) in
         let (b, is) = word-at (held .clusters) (held .«cluster_count») row j at in
         let number : clusterNumber w (getD (held .clusters) j 0 / half % 2 ^ 16) (getD (held .clusters) j 0 % half) ≡ cluster = number-is cluster l _ _ (omega (arith, is, f .endpoint, f .cluster)) (omega (arith, is, f .cluster)) in
-        Memᴰ·cast (λ i. record { cluster = sym number i; version = version }) (mem-map (filterAs w) (filters-complete held (panel .held .clusters-once) j version b q))
+        Memᴰ·cast (λ i. record { cluster = sym number i; version = version }) (Memᴰ·map (filterAs w) (filters-complete held (panel .held .clusters-once) j version b q))
 
     pub filters-for : FiltersFor c (filtersAs w (filtersOf held))
     filters-for = record {
-      only = each-image (FilterOf held) (λ (f : Filter). CoherentIn c (f .cluster) (f .version)) (filterAs w) one-coherent (filtersOf held) (filters-exact held);
+      only = λ f m. let (g, there, is) = Memᴰ·of-map (filterAs w) (filtersOf held) m in
+          subst (λ (x : Filter). CoherentIn c (x .cluster) (x .version)) is (one-coherent g (each-at (FilterOf held) (filtersOf held) (filters-exact held) g there));
       all = all-filtered;
     }

@@ -1,4 +1,4 @@
--- Whether the panel is primed: blocks leave it so, and priming changes no entry.
+-- Blocks leave a panel primed or not as it was, and priming it changes no entry.
 use mathlib.Core.Path.{_≡_, refl, sym, _∙_}
 use mathlib.Core.List.{List, [], _∷_}
 use Prim.Native.Nat.{ℕ}
@@ -23,7 +23,7 @@ use Rattle.cache_trip.proofs.ReceivedLaws
 use Rattle.protocol.specs.Model.{Entry}
 use Rattle.refinement.proofs.Panel.{HeldAs}
 
--- blocks leave it as it is whether the panel is primed
+-- BLOCKS
 primed-one : (c : Cached) (f : Fate) → heldFor c f .primed ≡ c .primed
 unfolding heldFor withItem withEntry withCluster
 primed-one c Unusable = refl
@@ -39,7 +39,7 @@ unfolding heldAll
 primed-all s c [] = refl
 primed-all s c (r ∷ l) = primed-all s (heldFor c (fateIn s r)) l ∙ primed-one c (fateIn s r)
 
--- and priming changes no entry
+-- PRIMING
 primed-lookup : (page : List ℕ) (c : Cached) (e cl a : ℕ) → lookup c page e cl a ≡ lookup (primedAs c) page e cl a
 unfolding primedAs lookup cached.pathAt
 primed-lookup page c e cl a = go (cached.clusterAt c (cached.clusterWord e cl))
