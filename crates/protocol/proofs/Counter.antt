@@ -1,9 +1,10 @@
--- Runs of wrong ends, which break what is promised: each ends with the cache primed and cluster 0 at one version, though its entries are not what was held.
-use mathlib.Core.Path.{_≡_, refl}
-use mathlib.Core.Bool.{true}
+-- Runs of wrong ends, which break what is promised. Runs 1 to 4 end with the cache primed and cluster 0 at one version, though its entries are not what was held: the first half is false
+-- of them. Run 5 is one of true ends, at a state that a cache must not call coherent. After run 6, whose read has ended, nothing is coherent: the second half is false of it.
+use mathlib.Core.Path.{_≡_, refl, sym}
+use mathlib.Core.Bool.{true, false, true≢false}
 use mathlib.Core.List.{List, [], _∷_, map}
 use Prim.Native.Nat.{ℕ}
-use Rattle.protocol.specs.Model.{Entry, Filter, Node, read, success, Part, System, start, change, beginRead, serve, send, partOf, reported, remaining, skips, changesOf, receive, accept, setEntry, setEntries}
+use Rattle.protocol.specs.Model.{Entry, Filter, Node, read, success, Part, System, start, change, beginRead, serve, send, partOf, reported, remaining, skips, changesOf, receive, accept, setEntry, setEntries, CoherentIn}
 
 abbrev node : Node ℕ
 node =
@@ -38,7 +39,7 @@ primed-early : too-early .cache .primed ≡ true
 unfolding newest beginRead serve send partOf reported remaining skips receive accept setEntry setEntries
 primed-early = refl
 
--- 2. A server that makes the newest part anew where the kept one is due: the cache has taken a short first part, the server goes on behind a long one.
+-- 2. A server that makes the newest part anew where the kept one is due, as one does whose exchange can start twice: the cache has taken a short first part, the server goes on behind a long one.
 unfoldable anew : System ℕ → ℕ → ℕ → System ℕ
 anew s exchange size = send s (partOf (s .clusters) exchange 1 (node .readable) [] (changesOf (s .clusters)) size)
 
@@ -85,3 +86,68 @@ mixes = refl
 primed-mixed : mixed .cache .primed ≡ true
 unfolding change stale madeUp newest beginRead serve send partOf reported remaining skips receive accept setEntry setEntries
 primed-mixed = refl
+
+-- 4. A server whose first part says that all is sent: the read ends with it, and attributes 1 and 2 are never told.
+unfoldable allSent : System ℕ → Part ℕ → System ℕ
+allSent s m =
+    send s
+    record {
+      exchange = m .exchange;
+      turn = m .turn;
+      entries = m .entries;
+      more = false;
+      filters = m .filters;
+      before = m .before;
+      after = m .after;
+      since = m .since;
+      made = m .made;
+    }
+
+abbrev begun : System ℕ
+begun = beginRead (start node) []
+
+abbrev cut-off : System ℕ
+cut-off = take (allSent begun (partOf (begun .clusters) 1 1 (node .readable) [] (changesOf (begun .clusters)) 0))
+
+lacks-the-rest : cut-off .cache .entries ≡ entry 0 7 ∷ []
+unfolding allSent newest entry beginRead serve send partOf reported remaining skips receive accept setEntry setEntries
+lacks-the-rest = refl
+
+primed-cut-off : cut-off .cache .primed ≡ true
+unfolding allSent newest beginRead serve send partOf reported remaining skips receive accept setEntry setEntries
+primed-cut-off = refl
+
+-- 5. A cache that calls coherent what is not primed: of true ends, after the first part of a read, attribute 0 alone is there, and all entries share one version.
+always-coherent : given-up .cache .entries ≡ entry 0 7 ∷ []
+unfolding newest entry beginRead serve send partOf reported remaining skips receive accept setEntry setEntries
+always-coherent = refl
+
+not-primed : given-up .cache .primed ≡ false
+unfolding newest beginRead serve send partOf reported remaining skips receive accept setEntry setEntries
+not-primed = refl
+
+-- 6. A cache that is never primed: a whole read has ended, all entries are there at one version, and nothing is coherent.
+unfoldable neverPrimed : System ℕ → System ℕ
+neverPrimed s =
+    record {
+      clusters = s .clusters;
+      row = s .row;
+      cache = record { exchange = s .cache .exchange; reading = s .cache .reading; next = s .cache .next; entries = s .cache .entries; primed = false; filters = s .cache .filters };
+      messages = s .messages;
+      parts = s .parts;
+    }
+
+abbrev whole-read : System ℕ
+whole-read = neverPrimed (take (serve node begun (read 1 []) 5 []))
+
+has-all : whole-read .cache .entries ≡ entry 2 7 ∷ entry 1 7 ∷ entry 0 7 ∷ []
+unfolding neverPrimed newest entry beginRead serve send partOf reported remaining skips receive accept setEntry setEntries
+has-all = refl
+
+read-over : whole-read .cache .reading ≡ false
+unfolding neverPrimed newest beginRead serve send partOf reported remaining skips receive accept setEntry setEntries
+read-over = refl
+
+never-coherent : (cluster version : ℕ) → CoherentIn (whole-read .cache) cluster version → ⊥
+unfolding neverPrimed
+never-coherent cluster version w = true≢false (sym (w .primed-is))
