@@ -152,14 +152,14 @@ module _ (p : Plan) (b : Start p) (u : World) (reach : Reach p b u) where
   panel-fair m room = panel.never-2 (u .page) (u .panel) valid m room
 
 pub never : Never
-never =
+never p b u reach =
     record {
-      sign-2 = sign-fair;
-      change-2 = change-fair;
-      panel-2 = panel-fair;
-      read-2 = λ p b u reach room. read-fair (u .page) (u .panel) (valid p b u reach) room;
-      write-2 = λ p b u reach e c a given version src new room. write-fair (u .page) (u .panel) (valid p b u reach) room e c a given version src new;
-      resend-2 = λ p b u reach room. resend-fair (u .page) (u .panel) (valid p b u reach) room;
-      panel-6 = λ p b u reach. reply-fair p b u reach 6 (inl refl);
-      panel-7 = λ p b u reach. reply-fair p b u reach 7 (inr refl);
+      sign-2 = sign-fair p b u reach;
+      change-2 = change-fair p b u reach;
+      panel-2 = panel-fair p b u reach;
+      read-2 = λ room. read-fair (u .page) (u .panel) (valid p b u reach) room;
+      write-2 = λ e c a given version src new room. write-fair (u .page) (u .panel) (valid p b u reach) room e c a given version src new;
+      resend-2 = λ room. resend-fair (u .page) (u .panel) (valid p b u reach) room;
+      panel-6 = reply-fair p b u reach 6 (inl refl);
+      panel-7 = reply-fair p b u reach 7 (inr refl);
     }

@@ -134,13 +134,16 @@ FewParts =
     (p : Plan) (b : Start p) (u : World) → Reach p b u → (m : List ℕ) → List·Memᴰ m (u .replies) → (f : Fields) → envelopeIn m ≡ Whole f → f .opcode ≡ reportOpcode
     → f .turn ≤ max 1 (attributeCount (p .words))
 
--- NEVER 2 along a run, whatever either end is handed and asked; and the panel never answers 6 or 7 to what this sign sent it
-pub record Never : Type 0 where
-  pub sign-2 : (p : Plan) (b : Start p) (u : World) → Reach p b u → (subject : ℕ) (m : List ℕ) (room : ℕ) → answered p u subject m room .number ≡ 2 → ⊥
-  pub change-2 : (p : Plan) (b : Start p) (u : World) → Reach p b u → (endpoint cluster attribute : ℕ) (src : List ℕ) (new : Value) → altered p u endpoint cluster attribute src new .number ≡ 2 → ⊥
-  pub panel-2 : (p : Plan) (b : Start p) (u : World) → Reach p b u → (m : List ℕ) (room : ℕ) → receive.received (u .page) (u .panel) m room .number ≡ 2 → ⊥
-  pub read-2 : (p : Plan) (b : Start p) (u : World) → Reach p b u → (room : ℕ) → begin.beginsRead (u .page) (u .panel) room .number ≡ 2 → ⊥
-  pub write-2 : (p : Plan) (b : Start p) (u : World) → Reach p b u → (endpoint cluster attribute : ℕ) (given : Bool) (version : ℕ) (src : List ℕ) (new : Value) (room : ℕ) → begin.beginsWrite (u .page) (u .panel) endpoint cluster attribute given version src new room .number ≡ 2 → ⊥
-  pub resend-2 : (p : Plan) (b : Start p) (u : World) → Reach p b u → (room : ℕ) → begin.resends (u .page) (u .panel) room .number ≡ 2 → ⊥
-  pub panel-6 : (p : Plan) (b : Start p) (u : World) → Reach p b u → (m : List ℕ) → List·Memᴰ m (u .replies) → (room : ℕ) → receive.received (u .page) (u .panel) m room .number ≡ 6 → ⊥
-  pub panel-7 : (p : Plan) (b : Start p) (u : World) → Reach p b u → (m : List ℕ) → List·Memᴰ m (u .replies) → (room : ℕ) → receive.received (u .page) (u .panel) m room .number ≡ 7 → ⊥
+-- NEVER 2, whatever either end is handed and asked; and the panel never answers 6 or 7 to what this sign sent it
+pub record Fair (p : Plan) (u : World) : Type 0 where
+  pub sign-2 : (subject : ℕ) (m : List ℕ) (room : ℕ) → answered p u subject m room .number ≡ 2 → ⊥
+  pub change-2 : (endpoint cluster attribute : ℕ) (src : List ℕ) (new : Value) → altered p u endpoint cluster attribute src new .number ≡ 2 → ⊥
+  pub panel-2 : (m : List ℕ) (room : ℕ) → receive.received (u .page) (u .panel) m room .number ≡ 2 → ⊥
+  pub read-2 : (room : ℕ) → begin.beginsRead (u .page) (u .panel) room .number ≡ 2 → ⊥
+  pub write-2 : (endpoint cluster attribute : ℕ) (given : Bool) (version : ℕ) (src : List ℕ) (new : Value) (room : ℕ) → begin.beginsWrite (u .page) (u .panel) endpoint cluster attribute given version src new room .number ≡ 2 → ⊥
+  pub resend-2 : (room : ℕ) → begin.resends (u .page) (u .panel) room .number ≡ 2 → ⊥
+  pub panel-6 : (m : List ℕ) → List·Memᴰ m (u .replies) → (room : ℕ) → receive.received (u .page) (u .panel) m room .number ≡ 6 → ⊥
+  pub panel-7 : (m : List ℕ) → List·Memᴰ m (u .replies) → (room : ℕ) → receive.received (u .page) (u .panel) m room .number ≡ 7 → ⊥
+
+abbrev pub Never : Type 0
+Never = (p : Plan) (b : Start p) (u : World) → Reach p b u → Fair p u
