@@ -6,6 +6,7 @@ use Prim.Native.Nat.{ℕ, _<_}
 use lib.Dec.{eqb}
 use Rattle.tlv.specs.declared.Value.{Value}
 use Rattle.tlv.specs.Value.{Datum, datumIn}
+use Rattle.kinds.specs.declared.Verdict.the-variants.{Success}
 use Rattle.kinds.proofs.StoredLaws.{Sized}
 use Rattle.schema.specs.Rows.{attributeRow, attributeCount}
 use Rattle.schema.proofs.RulesLaws.{well-formed-rules}
@@ -18,7 +19,6 @@ use Rattle.selection.specs.Locate.{located}
 use Rattle.selection.proofs.LocateLaws.{located-here}
 use Rattle.writes.specs.Offer.{Held, verdictOn, storedIn, byPlace, changed}
 use Rattle.writes.proofs.HeldLaws.{placed-holds}
-use Rattle.kinds.specs.declared.Verdict.the-variants.{Success}
 use Rattle.server.specs.Start.{Altered, altered, alteredBy}
 use Rattle.server.proofs.StartLaws.{altered-right}
 use Rattle.server.proofs.KeptLaws.{change-kept}

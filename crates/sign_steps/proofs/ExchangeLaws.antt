@@ -1,6 +1,6 @@
 -- A REQUEST and A SUCCESS, whatever they ask: the exchange rules decide what the sign does, and the protocol decides the same.
 use mathlib.Core.Path.{_≡_, refl, sym, ap, _∙_}
-use mathlib.Core.Bool.{Bool, true, false, cond, not}
+use mathlib.Core.Bool.{Bool, true, false, cond, not, or-true}
 use mathlib.Core.List.{List, []}
 use Prim.Native.Nat.{ℕ, suc, _≤_, _<_}
 use borrow.Author.Tests.{eqb-true, lt-ltb}
@@ -31,6 +31,10 @@ for-status : forServer statusOpcode ≡ true
 unfolding forServer
 for-status = refl
 
+for-request : (opcode : ℕ) → beginning opcode ≡ true → forServer opcode ≡ true
+unfolding forServer
+for-request opcode b = rw b (or-true (eqb opcode statusOpcode))
+
 -- a message in its envelope, for which there is room
 module _ {w defaults : List ℕ} {g : Grants} {sent : List (List ℕ)} (here : Standing w defaults g sent) (node : Node Datum) (m : List ℕ) (room : ℕ) (enough : maxMessage ≤ room) (fits : length m ≤ maxMessage) where
   open Standing here using (edits, state as s, system as sys, stands)
@@ -46,7 +50,7 @@ module _ {w defaults : List ℕ} {g : Grants} {sent : List (List ℕ)} (here : S
       served w defaults edits s true g (getD w subjectWord 0) m room (stands .valid .right) refl enough e fits refl o refl
 
   -- A REQUEST: the newest exchange is begun, or its reply is given again
-  module _ (opcode x : ℕ) (found : envelopeIn m ≡ envelopeAs opcode x 0) (o : forServer opcode ≡ true) (b : beginning opcode ≡ true) (u : Message) (next : ℕ → List (Store Datum) → System Datum) where
+  module _ (opcode x : ℕ) (found : envelopeIn m ≡ envelopeAs opcode x 0) (b : beginning opcode ≡ true) (u : Message) (next : ℕ → List (Store Datum) → System Datum) where
     abbrev on : Step → Reaction
     on = reacted w defaults g s edits (fields opcode x 0) payload
 
@@ -56,7 +60,7 @@ module _ {w defaults : List ℕ} {g : Grants} {sent : List (List ℕ)} (here : S
 
     pub request-served : RequestAs (ltb (now .last) x) → (Valid here (on Begin) → (size : ℕ) × (stores : List (Store Datum)) × Serving here (next size stores) (on Begin)) → Served here node u (reaction here m room)
     request-served same begins =
-        reacted-as here m room (Served here node u) (opened opcode x 0 found o ∙ ap on (request-step now x opcode b payload)) (go (ltb (now .last) x) same)
+        reacted-as here m room (Served here node u) (opened opcode x 0 found (for-request opcode b) ∙ ap on (request-step now x opcode b payload)) (go (ltb (now .last) x) same)
       where
         go : (t : Bool) → RequestAs t → Valid here (on (pick t Begin (pick (repeats now x) Repeat Silence))) → Served here node u (on (pick t Begin (pick (repeats now x) Repeat Silence)))
         go true e valid = let (size, stores, h) = begins valid in (size, stores, rw (e size stores) h)

@@ -5,8 +5,8 @@ pub mod StoreLaws
 pub mod Standing
 pub mod ChangeLaws
 pub mod ServeLaws
+pub mod PartLaws
 pub mod ReadLaws
-pub mod RequestLaws
 pub mod WriteLaws
 pub mod RuleLaws
 pub mod ExchangeLaws

@@ -9,7 +9,7 @@ use Rattle.interaction.specs.declared.Wanted.{Wanted}
 use Rattle.interaction.specs.Read.{readIn, readRead}
 use Rattle.interaction_writer.specs.Spelling.{Each}
 use Rattle.acl.specs.declared.Grants.{Grants}
-use Rattle.exchange.specs.Rules.{readOpcode, writeOpcode, maxTurn, beginning, forServer}
+use Rattle.exchange.specs.Rules.{readOpcode, writeOpcode, maxTurn, beginning}
 use Rattle.round_trip.specs.Meant.{WantedFits, readAnswer, readOctets}
 use Rattle.round_trip.proofs.ReaderLaws.{read-answered}
 use Rattle.cache_request.specs.Messages.{readMessage, writeMessage, successMessage}
@@ -24,7 +24,7 @@ use Rattle.sign_steps.proofs.Standing.{Standing}
 use Rattle.sign_steps.proofs.SizeLaws.{read-short, write-short}
 use Rattle.sign_steps.proofs.RuleLaws.{newer-same, repeats-same}
 use Rattle.sign_steps.proofs.ServeLaws.{Served, reaction}
-use Rattle.sign_steps.proofs.RequestLaws.{first-served, next-served}
+use Rattle.sign_steps.proofs.ReadLaws.{first-served, next-served}
 use Rattle.sign_steps.proofs.WriteLaws.{write-served}
 use Rattle.sign_steps.proofs.ExchangeLaws.{request-served, success-served}
 
@@ -35,14 +35,6 @@ begins-read = refl
 begins-write : beginning writeOpcode ≡ true
 unfolding beginning
 begins-write = refl
-
-for-read : forServer readOpcode ≡ true
-unfolding forServer
-for-read = refl
-
-for-write : forServer writeOpcode ≡ true
-unfolding forServer
-for-write = refl
 
 -- with no ground to refuse it
 read-taken : (x : ℕ) (fs : List Wanted) → Each WantedFits fs → length fs ≤ 32 → readRead (readIn (drop 8 (readMessage x fs))) ≡ readAnswer fs
@@ -63,7 +55,7 @@ module _ {w defaults : List ℕ} {g : Grants} {sent : List (List ℕ)} (here : S
     read-as : (fs : List Wanted) → Each WantedFits fs → length fs ≤ 32 → Taken (readMessage x fs) (read x (filtersAs w fs))
     unfolding serve reacted
     read-as fs h few =
-        request-served here node (readMessage x fs) room enough (read-short x fs h few) readOpcode x (read-envelope x fs fx) for-read begins-read (read x (filtersAs w fs))
+        request-served here node (readMessage x fs) room enough (read-short x fs h few) readOpcode x (read-envelope x fs fx) begins-read (read x (filtersAs w fs))
         (λ size stores. send sys (partOf (sys .clusters) x 1 (node .readable) (filtersAs w fs) (changesOf (sys .clusters)) size))
         (λ size stores. rw (newer-same (s .row) (sys .row) (stands .row) x, repeats-same (s .row) (sys .row) (stands .row) x))
         (λ valid. let (size, t) = first-served here words-fit start x fx fs few (drop 8 (readMessage x fs)) (read-taken x fs h few) valid in (size, [], t))
@@ -72,7 +64,7 @@ module _ {w defaults : List ℕ} {g : Grants} {sent : List (List ℕ)} (here : S
     unfolding serve reacted
     write-as given version e c a d f there =
         let (n, answer, value) = write-taken x given version e c a d (f .version-fits) (f .path) (f .writable) (f .takable) in
-        request-served here node (writeMessage x given version e c a d) room enough (write-short x given version e c a d f) writeOpcode x (write-envelope x given version e c a d fx) for-write begins-write (write x)
+        request-served here node (writeMessage x given version e c a d) room enough (write-short x given version e c a d f) writeOpcode x (write-envelope x given version e c a d fx) begins-write (write x)
         (λ size stores. written (storeAll sys stores) x)
         (λ size stores. rw (newer-same (s .row) (sys .row) (stands .row) x, repeats-same (s .row) (sys .row) (stands .row) x))
         (λ valid. let (stores, t) = write-served here x fx given version e c a d f n answer there valid in (0, stores, t))

@@ -1,78 +1,95 @@
--- A PART of the read of everything: the row that keeps it stands for the protocol's.
-use mathlib.Core.Path.{_≡_, refl, ap, _∙_}
+-- WHAT A PANEL'S READ ASKS, as a sign's row has it: everything, with the filters that were given; its first part and its next ones.
+use mathlib.Core.Path.{_≡_, refl, sym}
 use mathlib.Core.List.{List, [], _∷_}
-use Prim.Native.Nat.{ℕ, _-_, _^_, _<_}
+use Prim.Native.Nat.{ℕ, suc, _+_, _-_, _^_, _≤_, _<_}
+use native.Mathlib.Omega.{arith}
+use native.Mathlib.Numerals.{add-one}
 use lib.ListN.{length, getD}
 use Rattle.tlv.specs.Value.{Datum}
+use Rattle.interaction.specs.declared.Wanted.{Wanted}
+use Rattle.interaction.specs.Message.{firstOf}
+use Rattle.interaction.specs.Read.{maxFilters, unwanted, readIn, readRead}
 use Rattle.schema.specs.Rows.{attributeCount}
 use Rattle.acl.specs.declared.Grants.{Grants}
 use Rattle.selection.specs.Asked.{askedFor}
-use Rattle.round_trip.specs.Meant.{everything}
+use Rattle.round_trip.specs.Meant.{everything, readAnswer}
 use Rattle.report.specs.declared.Place as report
 use Rattle.report.specs.declared.part.Request.{Request}
-use Rattle.report.specs.Blocks.{Placed, viewOf, blocksFrom}
-use Rattle.replies.specs.declared.Row as replies
-use Rattle.replies.specs.Messages.{maxMessage, reportMessage}
-use Rattle.replies.specs.Row.{keeping, keptReply, pathsOf, filtersOf, blocksOf, reported}
-use Rattle.replies.proofs.MessageLaws.{report-length}
-use Rattle.replies.proofs.RowLaws.{kept-back}
-use Rattle.replies.proofs.KeptLaws.{keeping-whole}
-use Rattle.server.specs.Receive.{withRow, replied}
-use Rattle.server.proofs.KeptLaws.{ValidSign}
-use Rattle.protocol.specs.Model.{Part, partOf, rowAfter, send}
-use Rattle.refinement.proofs.Terms.{readableFrom, filtersAs}
-use Rattle.refinement.proofs.Bytes.{reports}
-use Rattle.refinement.proofs.Sign.{RowAs}
-use Rattle.sign_parts.proofs.PartLaws.{Makes, part-made}
+use Rattle.exchange.specs.Rules.{maxTurn}
+use Rattle.writes.proofs.StatusLaws.{take-first}
+use Rattle.replies.specs.Row.{pathsOf, filtersOf, blocksOf, reported, nextPart}
+use Rattle.replies.specs.Begin.{beginningPlace, requestOf, readBegun}
+use Rattle.replies.proofs.RowLaws.{row-right}
+use Rattle.replies.proofs.BeginLaws.{read-answered}
+use Rattle.server.specs.Receive.{Reaction, replied}
+use Rattle.protocol.specs.Model.{Part, changesOf, partOf, send}
+use Rattle.refinement.proofs.Terms.{readableFrom, nodeOf, filtersAs}
+use Rattle.refinement.proofs.Sign.{Going}
 use Rattle.sign_steps.proofs.Standing.{Standing, right-of}
-use Rattle.sign_steps.proofs.ServeLaws.{Serving, part-as}
+use Rattle.sign_steps.proofs.ServeLaws.{Serving, Valid}
+use Rattle.sign_steps.proofs.PartLaws.{part-served}
+
+-- the request of a read with these filters
+module _ (fs : List Wanted) where
+  abbrev request : Request
+  request = requestOf (readAnswer fs)
+
+  all-asked : pathsOf request ≡ askedFor everything ∷ []
+  unfolding requestOf firstOf
+  all-asked = refl
+
+  filters-asked : length fs ≤ maxFilters → filtersOf request ≡ fs
+  unfolding requestOf
+  filters-asked few = take-first maxFilters unwanted fs (length fs) refl few
 
 module _ {w defaults : List ℕ} {g : Grants} {sent : List (List ℕ)} (here : Standing w defaults g sent) (words-fit : (k : ℕ) → getD w k 0 < 2 ^ 64) where
   open Standing here using (edits, state as s, system as sys, stands)
 
-  -- a request for everything, and the place that it has come to
-  module _ (x turn : ℕ) (q : Request) (index : ℕ) (all : pathsOf q ≡ askedFor everything ∷ []) where
-    abbrev at : report.Place
-    at = record { path = 0; index = index }
+  -- THE FIRST PART
+  module _ (start : List ℕ) (x : ℕ) (fx : x < 2 ^ 40) (fs : List Wanted) (few : length fs ≤ maxFilters) (payload : List ℕ) (read : readRead (readIn payload) ≡ readAnswer fs) where
+    abbrev begun : Reaction
+    begun = replied s edits (readBegun w (s .values) defaults edits g (s .row) x payload)
 
-    abbrev blocks : List Placed
-    blocks = blocksOf w (s .values) defaults edits g q at
+    -- the protocol's, of so many entries
+    abbrev first : ℕ → Part Datum
+    first size = partOf (sys .clusters) x 1 (nodeOf w defaults start g .readable) (filtersAs w fs) (changesOf (sys .clusters)) size
 
-    -- the row that keeps the part
-    abbrev row : replies.Row
-    row = reported (s .row) x turn q at blocks
+    begun-as : readBegun w (s .values) defaults edits g (s .row) x payload ≡ reported (s .row) x 1 (request fs) beginningPlace (blocksOf w (s .values) defaults edits g (request fs) beginningPlace)
+    begun-as = read-answered payload (sym read) w (s .values) defaults edits g (s .row) x refl refl
 
-    -- the part of the protocol, of so many entries
-    abbrev part : (ℕ → ℕ) → ℕ → Part Datum
-    part since size = partOf (sys .clusters) x turn (readableFrom w g (attributeCount w - index) index) (filtersAs w (filtersOf q)) since size
+    same-first : (size : ℕ) → partOf (sys .clusters) x 1 (readableFrom w g (attributeCount w - 0) 0) (filtersAs w (filtersOf (request fs))) (changesOf (sys .clusters)) size ≡ first size
+    same-first size =
+        let whole : attributeCount w - 0 ≡ attributeCount w = omega arith in
+        rw (whole, filters-asked fs few)
 
-    abbrev Made : Part Datum → Type 0
-    Made = Makes w defaults edits (s .values) g (filtersOf q) (sys .clusters) (right-of here .schema) (right-of here .values) (stands .versions-fit) words-fit (stands .held) x turn index
+    pub first-served : Valid here begun → (size : ℕ) × Serving here (send sys (first size)) begun
+    first-served valid =
+        let (size, m) = part-served here words-fit x 1 (request fs) 0 (all-asked fs) fx (omega arith) (changesOf (sys .clusters)) (rw begun-as at valid) in
+        (size, rw (begun-as, ← (same-first size)) m)
 
-    same-blocks : blocks ≡ blocksFrom (viewOf w (s .values) defaults edits g (filtersOf q)) (askedFor everything ∷ []) at
-    same-blocks = ap (λ ps. blocksFrom (viewOf w (s .values) defaults edits g (filtersOf q)) ps at) all
+  -- THE NEXT PART, of a read that goes on
+  module _ (going : Going w g (s .row) (sys .row)) (left : sys .row .turn < maxTurn) (x : ℕ) (own : x ≡ sys .row .exchange) where
+    abbrev after : Reaction
+    after = replied s edits (nextPart w (s .values) defaults edits g (s .row))
 
-    kept-bytes : keptReply row ≡ reportMessage x turn blocks
-    kept-bytes = kept-back (s .row) (stands .row .whole) _ _ _ _ (report-length x turn blocks)
+    abbrev next : ℕ → Part Datum
+    next size = partOf (sys .clusters) x (suc (sys .row .turn)) (sys .row .ahead) (sys .row .filters) (sys .row .since) size
 
-    kept-whole : length (row .kept) ≡ maxMessage
-    kept-whole = keeping-whole (s .row) _ _ _ _ ∙ stands .row .whole
+    abbrev from : report.Place
+    from = record { path = 0; index = s .row .place .index }
 
-    row-as : (since : ℕ → ℕ) (size : ℕ) → Made (part since size) → RowAs w g sent row (rowAfter (part since size))
-    unfolding keeping partOf
-    row-as since size m =
-        record {
-          exchange = refl;
-          turn = refl;
-          more = rw same-blocks (m .more);
-          closed = refl;
-          going = λ h. record { paths = all; filters = refl; path = rw same-blocks (m .path h); ahead = rw same-blocks (m .ahead h) };
-          kept = reports (part since size) (kept-bytes ∙ ap (reportMessage x turn) same-blocks ∙ m .bytes) refl (m .right);
-          whole = kept-whole;
-        }
+    same-place : s .row .place ≡ from
+    same-place = λ j. record { path = going .path j; index = s .row .place .index }
 
-    -- A PART is made, and the sign replies with it
-    pub part-served : x < 2 ^ 40 → turn < 2 ^ 16 → (since : ℕ → ℕ) → ValidSign w defaults edits (withRow s row) → (size : ℕ) × Serving here (send sys (part since size)) (replied s edits row)
-    part-served fx ft since valid =
-        let (size, m) = part-made w defaults edits (s .values) g (filtersOf q) (sys .clusters) (right-of here .schema) (right-of here .values) (stands .versions-fit) words-fit (stands .held) x turn index since fx ft in
-        (size, part-as here row (part since size) valid (row-as since size m))
+    after-as : nextPart w (s .values) defaults edits g (s .row) ≡ reported (s .row) (s .row .progress .last) (s .row .progress .turn + 1) (s .row .request) from (blocksOf w (s .values) defaults edits g (s .row .request) from)
+    unfolding nextPart
+    after-as = rw same-place
+
+    same-next : (size : ℕ) → partOf (sys .clusters) (s .row .progress .last) (s .row .progress .turn + 1) (readableFrom w g (attributeCount w - s .row .place .index) (s .row .place .index)) (filtersAs w (filtersOf (s .row .request))) (sys .row .since) size ≡ next size
+    same-next size = rw (own, stands .row .exchange, stands .row .turn, going .ahead, going .filters, add-one)
+
+    pub next-served : Valid here after → (size : ℕ) × Serving here (send sys (next size)) after
+    next-served valid =
+        let l = row-right (s .row) (right-of here .row) .exchange in
+        let (size, m) = part-served here words-fit (s .row .progress .last) (s .row .progress .turn + 1) (s .row .request) (s .row .place .index) (going .paths) l (omega (arith, left, stands .row .turn)) (sys .row .since) (rw after-as at valid) in
+        (size, rw (after-as, ← (same-next size)) m)

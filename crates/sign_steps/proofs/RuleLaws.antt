@@ -46,14 +46,15 @@ module _ (p : Progress) (turn : ℕ) where
   abbrev pub earlier : Bool
   earlier = leb 1 turn && eqb (turn + 1) (p .turn)
 
+  pub success-step : (x : ℕ) (payload : List ℕ) → responseIn payload ≡ just 0 → stepOf p (fields statusOpcode x turn) payload ≡ pick (own p x) (pick newest (pick (ltb (p .turn) maxTurn) Next Silence) (pick earlier Repeat Silence)) Silence
+  unfolding stepOf beginning onStatus
+  success-step x payload h = rw h refl
+
+  -- what is for the newest reply is not for the one before
   pub newest-only : newest ≡ true → earlier ≡ false
   newest-only h =
       let q : turn ≡ p .turn = eqb-true _ _ (left (eqb turn (p .turn)) _ h) in
       rw (ne-eqb (turn + 1) (p .turn) (λ z. omega arith)) (and-false (leb 1 turn))
-
-  pub success-step : (x : ℕ) (payload : List ℕ) → responseIn payload ≡ just 0 → stepOf p (fields statusOpcode x turn) payload ≡ pick (own p x) (pick newest (pick (ltb (p .turn) maxTurn) Next Silence) (pick earlier Repeat Silence)) Silence
-  unfolding stepOf beginning onStatus
-  success-step x payload h = rw h refl
 
 module _ {w : List ℕ} {g : Grants} {sent : List (List ℕ)} (y : replies.Row) (r : Row Datum) (h : RowAs w g sent y r) where
   pub newer-same : (x : ℕ) → ltb (r .exchange) x ≡ ltb (y .progress .last) x

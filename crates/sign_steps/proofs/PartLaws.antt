@@ -1,0 +1,78 @@
+-- A PART of the read of everything: the row that keeps it stands for the protocol's.
+use mathlib.Core.Path.{_≡_, refl, ap, _∙_}
+use mathlib.Core.List.{List, [], _∷_}
+use Prim.Native.Nat.{ℕ, _-_, _^_, _<_}
+use lib.ListN.{length, getD}
+use Rattle.tlv.specs.Value.{Datum}
+use Rattle.schema.specs.Rows.{attributeCount}
+use Rattle.acl.specs.declared.Grants.{Grants}
+use Rattle.selection.specs.Asked.{askedFor}
+use Rattle.round_trip.specs.Meant.{everything}
+use Rattle.report.specs.declared.Place as report
+use Rattle.report.specs.declared.part.Request.{Request}
+use Rattle.report.specs.Blocks.{Placed, viewOf, blocksFrom}
+use Rattle.replies.specs.declared.Row as replies
+use Rattle.replies.specs.Messages.{maxMessage, reportMessage}
+use Rattle.replies.specs.Row.{keeping, keptReply, pathsOf, filtersOf, blocksOf, reported}
+use Rattle.replies.proofs.MessageLaws.{report-length}
+use Rattle.replies.proofs.RowLaws.{kept-back}
+use Rattle.replies.proofs.KeptLaws.{keeping-whole}
+use Rattle.server.specs.Receive.{withRow, replied}
+use Rattle.server.proofs.KeptLaws.{ValidSign}
+use Rattle.protocol.specs.Model.{Part, partOf, rowAfter, send}
+use Rattle.refinement.proofs.Terms.{readableFrom, filtersAs}
+use Rattle.refinement.proofs.Bytes.{reports}
+use Rattle.refinement.proofs.Sign.{RowAs}
+use Rattle.sign_parts.proofs.PartLaws.{Makes, part-made}
+use Rattle.sign_steps.proofs.Standing.{Standing, right-of}
+use Rattle.sign_steps.proofs.ServeLaws.{Serving, part-as}
+
+module _ {w defaults : List ℕ} {g : Grants} {sent : List (List ℕ)} (here : Standing w defaults g sent) (words-fit : (k : ℕ) → getD w k 0 < 2 ^ 64) where
+  open Standing here using (edits, state as s, system as sys, stands)
+
+  -- a request for everything, and the place that it has come to
+  module _ (x turn : ℕ) (q : Request) (index : ℕ) (all : pathsOf q ≡ askedFor everything ∷ []) where
+    abbrev at : report.Place
+    at = record { path = 0; index = index }
+
+    abbrev blocks : List Placed
+    blocks = blocksOf w (s .values) defaults edits g q at
+
+    -- the row that keeps the part
+    abbrev row : replies.Row
+    row = reported (s .row) x turn q at blocks
+
+    -- the part of the protocol, of so many entries
+    abbrev part : (ℕ → ℕ) → ℕ → Part Datum
+    part since size = partOf (sys .clusters) x turn (readableFrom w g (attributeCount w - index) index) (filtersAs w (filtersOf q)) since size
+
+    abbrev Made : Part Datum → Type 0
+    Made = Makes w defaults edits (s .values) g (filtersOf q) (sys .clusters) (right-of here .schema) (right-of here .values) (stands .versions-fit) words-fit (stands .held) x turn index
+
+    same-blocks : blocks ≡ blocksFrom (viewOf w (s .values) defaults edits g (filtersOf q)) (askedFor everything ∷ []) at
+    same-blocks = ap (λ ps. blocksFrom (viewOf w (s .values) defaults edits g (filtersOf q)) ps at) all
+
+    kept-bytes : keptReply row ≡ reportMessage x turn blocks
+    kept-bytes = kept-back (s .row) (stands .row .whole) _ _ _ _ (report-length x turn blocks)
+
+    kept-whole : length (row .kept) ≡ maxMessage
+    kept-whole = keeping-whole (s .row) _ _ _ _ ∙ stands .row .whole
+
+    row-as : (since : ℕ → ℕ) (size : ℕ) → Made (part since size) → RowAs w g sent row (rowAfter (part since size))
+    unfolding keeping partOf
+    row-as since size m =
+        record {
+          exchange = refl;
+          turn = refl;
+          more = rw same-blocks (m .more);
+          closed = refl;
+          going = λ h. record { paths = all; filters = refl; path = rw same-blocks (m .path h); ahead = rw same-blocks (m .ahead h) };
+          kept = reports (part since size) (kept-bytes ∙ ap (reportMessage x turn) same-blocks ∙ m .bytes) refl (m .right);
+          whole = kept-whole;
+        }
+
+    -- A PART is made, and the sign replies with it
+    pub part-served : x < 2 ^ 40 → turn < 2 ^ 16 → (since : ℕ → ℕ) → ValidSign w defaults edits (withRow s row) → (size : ℕ) × Serving here (send sys (part since size)) (replied s edits row)
+    part-served fx ft since valid =
+        let (size, m) = part-made w defaults edits (s .values) g (filtersOf q) (sys .clusters) (right-of here .schema) (right-of here .values) (stands .versions-fit) words-fit (stands .held) x turn index since fx ft in
+        (size, part-as here row (part since size) valid (row-as since size m))
