@@ -126,7 +126,7 @@ pub fn judge(kind: Kind, nullable: bool, v: Value, src: &[u8]) -> Verdict
     }
 }
 
-fn float_holds(range: Range, word: u64) -> bool
+pub fn float_holds(range: Range, word: u64) -> bool
     ensures { λ r. ⌜ r ≡ (ltb word 4294967296 && inRange range word) ⌝ }
 {
     if word < 4294967296 {

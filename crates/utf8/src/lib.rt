@@ -115,6 +115,13 @@ fn up_to_four(s: &[u8]) -> bool
     good & !is_due(a, b, c)
 }
 
+// Whether every byte is below 128: bytes like that are well-formed, and so is each part of them.
+pub fn ascii(s: &[u8]) -> bool
+    ensures { λ r. ⌜ r ≡ allBelow 0x80 (now (s .entry)) ⌝ }
+{
+    greatest(s) < 0x80
+}
+
 // Whether the bytes are well-formed UTF-8: at once where all are below 128, else each byte by those before it, as many as the longest sequence there can
 // be asks for.
 pub fn valid(s: &[u8]) -> bool

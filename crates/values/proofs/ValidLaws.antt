@@ -9,9 +9,8 @@ use lib.ListN.{length, getD}
 use Rattle.schema.specs.Layout.{clusterLimit, attributeLimit, textSize}
 use Rattle.schema.specs.Rows.{attributeRow, attributeCount, isText}
 use Rattle.schema.specs.Check.{every, textCount}
-use Rattle.schema.proofs.BoolLaws.{both, left, right, by-test}
+use Rattle.schema.proofs.BoolLaws.{both, left, right, past, by-test}
 use Rattle.schema.proofs.CheckLaws.{every-at, every-all}
-use Rattle.kinds.specs.declared.Kind.{Kind}
 use Rattle.kinds.specs.Stored.{held}
 use Rattle.node.specs.Attributes.{kindOf}
 use Rattle.node.specs.Check.{numberRight, numbersRight}
@@ -23,14 +22,22 @@ use Rattle.values.specs.Valid.{shownRight, valueRight, valuesRight}
 abbrev pub withinLimits : List ℕ → ℕ → ℕ → Bool → Bool
 withinLimits w i word isNull = held (kindOf (attributeRow w i)) (eqb (attributeRow w i .nullable) 1) word isNull
 
--- as the code tests them
-pub limits : (w : List ℕ) (i word : ℕ) (isNull : Bool) (k : Kind) (nullable r : Bool) → k ≡ kindOf (attributeRow w i) → nullable ≡ eqb (attributeRow w i .nullable) 1 → r ≡ held k nullable word isNull → withinLimits w i word isNull ≡ r
-limits w i word isNull k nullable r e f h = sym (h ∙ rw (e, f))
-
 module _ (w defaults edits : List ℕ) (i word : ℕ) (isNull edited : Bool) where
-  pub past-limits : withinLimits w i word isNull ≡ false → false ≡ valueRight w defaults edits i word isNull edited
+  -- the code's first test: the limits allow the first value and what is held
+  abbrev pub limitsRight : Bool
+  limitsRight = numberRight (attributeRow w i) && withinLimits w i word isNull
+
+  pub past-limits : limitsRight ≡ false → false ≡ (numberRight (attributeRow w i) && valueRight w defaults edits i word isNull edited)
   unfolding valueRight
-  past-limits h = rw h
+  past-limits h =
+      by-test (numberRight (attributeRow w i))
+      (λ n. let l : withinLimits w i word isNull ≡ false = rw n at h in rw (n, l)) (λ n. rw n)
+
+  -- where it is passed, what is held decides
+  pub with-first : (b : Bool) → limitsRight ≡ true → (withinLimits w i word isNull ≡ true → b ≡ valueRight w defaults edits i word isNull edited) → b ≡ (numberRight (attributeRow w i) && valueRight w defaults edits i word isNull edited)
+  with-first b h f =
+      f (right (numberRight (attributeRow w i)) (withinLimits w i word isNull) h)
+      ∙ past (numberRight (attributeRow w i)) _ (left (numberRight (attributeRow w i)) (withinLimits w i word isNull) h)
 
   pub null-right : withinLimits w i word isNull ≡ true → isNull ≡ true → true ≡ valueRight w defaults edits i word isNull edited
   unfolding valueRight
