@@ -6,13 +6,13 @@ ghost use Prim.Native.Nat.{_<_, _≤_};
 ghost use Rattle.tlv.specs.Octet.{pick};
 ghost use Rattle.utf8.specs.Bytewise.{allBelow};
 ghost use Rattle.schema.specs.Layout.{attributeLimit};
-ghost use Rattle.schema.specs.Rows.{attributeRow};
+ghost use Rattle.schema.specs.Rows.{attributeRow, isText};
 ghost use Rattle.node.specs.Check.{numberRight, numbersRight};
-ghost use Rattle.node.specs.Pages.{shownIn};
 ghost use Rattle.values.specs.Valid.{shownRight, valueRight, valuesRight};
 ghost use Rattle.values.specs.Plain.{someMark, plainPage};
 use super::Values;
 use super::text_at;
+use kinds::TEXT_MAX;
 use node::held::limits_hold;
 use schema::ATTRIBUTES;
 use schema::TEXT_SIZE;
@@ -71,7 +71,36 @@ fn of_page(edited: bool, edits: bool, defaults: bool) -> bool
     if edited { edits } else { defaults }
 }
 
-// The first value and the value of attribute i, with its shown text. `plain` says that the page which it is shown from is ASCII.
+// The value of attribute i, which is a text. `plain_defaults` and `plain_edits` say of a page that it is ASCII.
+fn text_ok<'a>(
+    w: &'a [u64; WORDS],
+    defaults: &'a [u8],
+    edits: &'a [u8],
+    i: usize,
+    word: u64,
+    null: bool,
+    edited: bool,
+    plain_defaults: bool,
+    plain_edits: bool,
+) -> bool
+    requires { ⌜ (i < attributeLimit) × (isText (attributeRow (now w) i) ≡ true) × («plain_defaults» ≡ true → allBelow 0x80 (now defaults) ≡ true) × («plain_edits» ≡ true → allBelow 0x80 (now edits) ≡ true) ⌝ }
+    ensures { λ r. ⌜ r ≡ valueRight (now (w .entry)) (now (defaults .entry)) (now (edits .entry)) i word null edited ⌝ }
+{
+    if null {
+        return if schema::is_nullable(w, i) {
+            word == 0
+        } else {
+            false
+        };
+    }
+    if (TEXT_MAX as u64) < word {
+        return false;
+    }
+    let plain = of_page(edited, plain_edits, plain_defaults);
+    shown_ok(text_at(w, defaults, edits, i, word, edited), word, plain)
+}
+
+// The first value and the value of attribute i. A text is told from the other kinds first: it has no number to compare, and they have no page.
 fn attribute_ok<'a>(
     w: &'a [u64; WORDS],
     defaults: &'a [u8],
@@ -80,21 +109,26 @@ fn attribute_ok<'a>(
     word: u64,
     null: bool,
     edited: bool,
-    plain: bool,
+    plain_defaults: bool,
+    plain_edits: bool,
 ) -> bool
-    requires { ⌜ (i < attributeLimit) × (plain ≡ true → allBelow 0x80 (shownIn (now defaults) (now edits) edited) ≡ true) ⌝ }
+    requires { ⌜ (i < attributeLimit) × («plain_defaults» ≡ true → allBelow 0x80 (now defaults) ≡ true) × («plain_edits» ≡ true → allBelow 0x80 (now edits) ≡ true) ⌝ }
     ensures { λ r. ⌜ r ≡ (numberRight (attributeRow (now (w .entry)) i) && valueRight (now (w .entry)) (now (defaults .entry)) (now (edits .entry)) i word null edited) ⌝ }
 {
-    if !limits_hold(w, i, word, null) {
-        return false;
+    if schema::is_text(w, i) {
+        return text_ok(
+            w,
+            defaults,
+            edits,
+            i,
+            word,
+            null,
+            edited,
+            plain_defaults,
+            plain_edits,
+        );
     }
-    if null {
-        return true;
-    }
-    if !schema::is_text(w, i) {
-        return true;
-    }
-    shown_ok(text_at(w, defaults, edits, i, word, edited), word, plain)
+    limits_hold(w, i, word, null)
 }
 
 // Every first number and every value within its limits, every shown text right, and the page of edits of its size.
@@ -109,9 +143,17 @@ pub fn values_ok<'a>(w: &'a [u64; WORDS], defaults: &'a [u8], edits: &'a [u8], v
     let plain_edits = is_plain(edits, &v.edited, n, true);
     let mut i = 0;
     while i < n {
-        let edited = v.edited[i];
-        let plain = of_page(edited, plain_edits, plain_defaults);
-        if !attribute_ok(w, defaults, edits, i, v.words[i], v.nulls[i], edited, plain) {
+        if !attribute_ok(
+            w,
+            defaults,
+            edits,
+            i,
+            v.words[i],
+            v.nulls[i],
+            v.edited[i],
+            plain_defaults,
+            plain_edits,
+        ) {
             return false;
         }
         i += 1;

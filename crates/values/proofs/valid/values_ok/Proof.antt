@@ -1,14 +1,13 @@
 use Rattle.values.proofs.ValidLaws.{bothAt, wrong-size, wrong-at, right-done}
 use mathlib.Core.Path.{_≡_, refl, sym, _∙_}
-use mathlib.Core.Bool.{true, false}
+use mathlib.Core.Bool.{true}
 use Prim.Native.Nat.{_≤_, _-_}
 use borrow.Author.Needs.{needs}
 use borrow.Author.Tests.{not-true, not-false}
-use lib.ListN.{getD}
 use Rattle.schema.specs.Rows.{attributeCount}
 use Rattle.schema.specs.Check.{every}
 use Rattle.schema.proofs.CheckLaws.{every-more, every-done}
-use Rattle.values.proofs.PlainLaws.{plain-below, plain-shown}
+use Rattle.values.proofs.PlainLaws.{plain-below}
 use Rattle.values.proofs.valid.values_ok.Statement.{statement}
 use Rattle.values.proofs.valid.values_ok.Tie as tie
 
@@ -37,12 +36,6 @@ loop-holds : tie.Need-loop-holds Inv-loop μ-loop
 unfolding every
 loop-holds c = (search needs, c .before .before .before .before .before .before .attribute-count .ensures, refl)
 
-element-copy-out-edited : tie.Need-element-copy-out-edited Inv-loop μ-loop
-element-copy-out-edited c = search needs
-
-of-page-requires : tie.Need-of-page-requires Inv-loop μ-loop
-of-page-requires c κs = search needs
-
 mul-attribute-ok : tie.Need-mul-attribute-ok Inv-loop μ-loop
 mul-attribute-ok c = search needs
 
@@ -52,13 +45,15 @@ element-copy-out-attribute-ok c = search needs
 element-copy-out-attribute-ok-2 : tie.Need-element-copy-out-attribute-ok-2 Inv-loop μ-loop
 element-copy-out-attribute-ok-2 c = search needs
 
+element-copy-out-attribute-ok-3 : tie.Need-element-copy-out-attribute-ok-3 Inv-loop μ-loop
+element-copy-out-attribute-ok-3 c = search needs
+
 attribute-ok-requires : tie.Need-attribute-ok-requires Inv-loop μ-loop
 attribute-ok-requires c κs =
-    let a = c .before .before .before .before .before .before .before .before .before .before .before .before .before .before .before .before .before .args in
-    (search needs, λ p. plain-shown (a .defaults .now) (a .edits .now) (getD (a .t4 .edited) (c .before .before .before .before .before .loop .i) false) (c .before .before .before .before .before .before .is-plain2 .result) (c .before .before .before .before .before .before .before .before .before .is-plain .result) (λ d. plain-below _ _ _ _ (sym (c .before .before .before .before .before .before .before .before .before .is-plain .ensures) ∙ d)) (λ e. plain-below _ _ _ _ (sym (c .before .before .before .before .before .before .is-plain2 .ensures) ∙ e)) (sym (c .before .before .of-page .ensures) ∙ p))
+    (search needs, (λ d. plain-below _ _ _ _ (sym (c .before .before .before .before .before .before .before .before .is-plain .ensures) ∙ d)), (λ e. plain-below _ _ _ _ (sym (c .before .before .before .before .before .is-plain2 .ensures) ∙ e)))
 
 returns-2 : tie.Need-returns-2 Inv-loop μ-loop
-returns-2 c = let a = c .before .before .before .before .before .before .before .before .before .before .before .before .before .before .before .before .before .before .before .args in wrong-at (a .w .now) (a .defaults .now) (a .edits .now) (a .t4) (c .before .before .before .before .before .before .before .loop .i) (search needs) (sym (c .before .attribute-ok .ensures) ∙ not-true _ (c .if2 .taken))
+returns-2 c = let a = c .before .before .before .before .before .before .before .before .before .before .before .before .before .before .before .before .before .before .args in wrong-at (a .w .now) (a .defaults .now) (a .edits .now) (a .t4) (c .before .before .before .before .before .before .loop .i) (search needs) (sym (c .before .attribute-ok .ensures) ∙ not-true _ (c .if2 .taken))
 
 add-i : tie.Need-add-i Inv-loop μ-loop
 add-i c = search needs
@@ -67,7 +62,7 @@ loop-less : tie.Need-loop-less Inv-loop μ-loop
 loop-less c = search needs
 
 loop-again : tie.Need-loop-again Inv-loop μ-loop
-loop-again c = let a = c .before .before .before .before .before .before .before .before .before .before .before .before .before .before .before .before .before .before .before .args in (search needs, c .before .before .before .before .before .before .before .loop .inv .1, every-more (bothAt (a .w .now) (a .defaults .now) (a .edits .now) (a .t4)) _ (c .before .before .before .before .before .before .before .loop .inv .2) (sym (c .before .attribute-ok .ensures) ∙ not-false _ (c .if2 .left)))
+loop-again c = let a = c .before .before .before .before .before .before .before .before .before .before .before .before .before .before .before .before .before .before .args in (search needs, c .before .before .before .before .before .before .loop .inv .1, every-more (bothAt (a .w .now) (a .defaults .now) (a .edits .now) (a .t4)) _ (c .before .before .before .before .before .before .loop .inv .2) (sym (c .before .attribute-ok .ensures) ∙ not-false _ (c .if2 .left)))
 
 returns-3 : tie.Need-returns-3 Inv-loop μ-loop
 returns-3 c = let a = c .before .before .before .before .before .before .before .before .before .before .before .before .before .args in right-done (a .w .now) (a .defaults .now) (a .edits .now) (a .t4) (c .before .before .before .before .before .before .before .before .before .if1 .left ∙ c .before .before .before .before .before .before .before .before .before .before .edits-size .ensures) (sym (every-done (bothAt (a .w .now) (a .defaults .now) (a .edits .now) (a .t4)) _ _ (search needs) (search needs) (c .before .loop .inv .2)))
@@ -84,11 +79,10 @@ values-ok-spec =
     is-plain-requires
     is-plain-requires-2
     loop-holds
-    element-copy-out-edited
-    of-page-requires
     mul-attribute-ok
     element-copy-out-attribute-ok
     element-copy-out-attribute-ok-2
+    element-copy-out-attribute-ok-3
     attribute-ok-requires
     returns-2
     add-i
