@@ -1,10 +1,9 @@
-// A new value against a kind and its limits, and a stored one.
+// A new value against a kind and its limits, and a stored float. (Stored values of every kind are judged by their words: `node::held`.)
 use super::Kind;
 use super::Range;
 use super::TEXT_MAX;
 use super::Verdict;
 use super::float::in_range;
-use super::stored::signed_of;
 use tlv::Value;
 ghost use mathlib.Core.Path.{_≡_};
 ghost use mathlib.Core.List.{List};
@@ -13,7 +12,6 @@ ghost use Prim.Native.Nat.{ℕ};
 ghost use lib.Dec.{ltb};
 ghost use Rattle.kinds.specs.Float.{inRange};
 ghost use Rattle.kinds.specs.Limits.{statusCode, between, betweenZ, limited, nullOf, againstIn, judgedIn};
-ghost use Rattle.kinds.specs.Stored.{held};
 
 // The status code of document 01.
 pub fn status_code(v: Verdict) -> u8
@@ -126,29 +124,13 @@ pub fn judge(kind: Kind, nullable: bool, v: Value, src: &[u8]) -> Verdict
     }
 }
 
-fn float_holds(range: Range, word: u64) -> bool
+// Whether a stored word is a float of 32 bits in this range.
+pub fn float_holds(range: Range, word: u64) -> bool
     ensures { λ r. ⌜ r ≡ (ltb word 4294967296 && inRange range word) ⌝ }
 {
     if word < 4294967296 {
         in_range(range, word as u32)
     } else {
         false
-    }
-}
-
-// Whether the limits allow a stored word and null flag. A text's word is its length; its bytes are judged where they lie. Null is
-// stored as word 0, so that a value has one stored form.
-pub fn holds(kind: Kind, nullable: bool, word: u64, null: bool) -> bool
-    ensures { λ r. ⌜ r ≡ held kind nullable word null ⌝ }
-{
-    if null {
-        return if nullable { word == 0 } else { false };
-    }
-    match kind {
-        Kind::Boolean => word <= 1,
-        Kind::Unsigned { low, high } => unsigned_within(low, word, high),
-        Kind::Signed { low, high } => signed_within(low, signed_of(word), high),
-        Kind::Float(range) => float_holds(range, word),
-        Kind::Text => word <= TEXT_MAX as u64,
     }
 }

@@ -21,7 +21,7 @@ use Rattle.node.specs.Rules.{FirstAllowed, FloatRules, FactoryRules}
 use Rattle.node.proofs.KindLaws.{other-code, kind-unsigned, kind-signed, kind-float, kind-text, kind-boolean}
 
 -- a code is one of the four above boolean's, or none of them
-by-code : {P : Type 0} (k : ℕ) → (k ≡ 1 → P) → (k ≡ 2 → P) → (k ≡ 3 → P) → (k ≡ 4 → P) → ((k ≡ 1 → ⊥) → (k ≡ 2 → ⊥) → (k ≡ 3 → ⊥) → (k ≡ 4 → ⊥) → P) → P
+pub by-code : {P : Type 0} (k : ℕ) → (k ≡ 1 → P) → (k ≡ 2 → P) → (k ≡ 3 → P) → (k ≡ 4 → P) → ((k ≡ 1 → ⊥) → (k ≡ 2 → ⊥) → (k ≡ 3 → ⊥) → (k ≡ 4 → ⊥) → P) → P
 by-code k u s f t b =
     by-test (eqb k 1) (λ e. u (eqb-true k 1 e))
     (λ h₁. by-test (eqb k 2) (λ e. s (eqb-true k 2 e))

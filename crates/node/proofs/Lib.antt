@@ -1,5 +1,6 @@
 pub mod KindLaws
 pub mod FirstLaws
+pub mod HeldLaws
 pub mod RulesLaws
 pub mod PageLaws
 pub mod TextLaws

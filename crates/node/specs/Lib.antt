@@ -1,4 +1,5 @@
 pub mod Attributes
 pub mod Check
+pub mod Held
 pub mod Rules
 pub mod Pages

@@ -17,7 +17,7 @@ ghost use Rattle.schema.specs.Rows.{attributeRow};
 ghost use Rattle.kinds.specs.Float.{rangeOf};
 ghost use Rattle.node.specs.Attributes.{kindOf, firstWord, ofText, attributeOf};
 
-fn low_half(x: u64) -> u32
+pub fn low_half(x: u64) -> u32
     ensures { λ r. ⌜ r ≡ x % half ⌝ }
 {
     (x % HALF) as u32

@@ -18,7 +18,7 @@ ghost use Rattle.schema.specs.Layout.{attributeLimit};
 ghost use Rattle.schema.specs.Rows.{attributeRow};
 ghost use Rattle.node.specs.Check.{floatRight, numberRight, factoryRight, textRight, numbersRight, textsRight};
 
-fn unsigned_within(low: u64, n: u64, high: u64) -> bool
+pub fn unsigned_within(low: u64, n: u64, high: u64) -> bool
     ensures { λ r. ⌜ r ≡ between low n high ⌝ }
 {
     if low <= n { n <= high } else { false }
@@ -31,14 +31,14 @@ fn signed_within(low: i64, z: i64, high: i64) -> bool
 }
 
 // Signed numbers in two's complement, compared by value.
-fn signed_ok(low: u64, n: u64, high: u64) -> bool
+pub fn signed_ok(low: u64, n: u64, high: u64) -> bool
     ensures { λ r. ⌜ r ≡ betweenZ (toZ w64 low) (toZ w64 n) (toZ w64 high) ⌝ }
 {
     signed_within(signed_of(low), signed_of(n), signed_of(high))
 }
 
 // A float's lowest, highest and first value: 32 bits each, finite and in order.
-fn float_ok(low: u64, high: u64, first: u64) -> bool
+pub fn float_ok(low: u64, high: u64, first: u64) -> bool
     ensures { λ r. ⌜ r ≡ floatRight low high first ⌝ }
 {
     if HALF <= low {

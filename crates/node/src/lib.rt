@@ -6,6 +6,7 @@ ghost use Rattle.node.specs.Check.{checked};
 
 pub mod decode;
 pub mod first;
+pub mod held;
 pub mod pages;
 
 // An attribute of the schema, decoded from its words.

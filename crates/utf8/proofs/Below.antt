@@ -2,12 +2,12 @@
 use mathlib.Core.Path.{_≡_, refl, sym, _∙_}
 use mathlib.Core.Bool.{Bool, true, _&&_}
 use mathlib.Core.List.{List, [], _∷_}
-use Prim.Native.Nat.{ℕ, _+_, _≤_, _<_}
+use Prim.Native.Nat.{ℕ, zero, suc, _+_, _≤_, _<_}
 use native.Mathlib.Numerals.{add-one}
 use native.Mathlib.Omega.{arith}
 use borrow.Author.Tests.{ltb-true, lt-ltb, le-ltb}
 use lib.Dec.{ltb}
-use lib.ListN.{length, getD, drop, drop-of-length-le}
+use lib.ListN.{length, getD, take, drop, drop-of-length-le}
 use lib.Seq.{drop-cons}
 use Rattle.utf8.specs.WellFormed.{table, completes, wellFormed}
 use Rattle.utf8.specs.Bytewise.{allBelow, Greatest}
@@ -28,6 +28,23 @@ raised k l h [] b = refl
 raised k l h (a ∷ s) b =
     let x = ltb-true a k (and-l (ltb a k) (allBelow k s) b) in
     rw (lt-ltb a l (omega arith)) (raised k l h s (and-r (ltb a k) (allBelow k s) b))
+
+-- all bytes below a bound: so are those of each part
+below-rest : (k n : ℕ) (s : List ℕ) → allBelow k s ≡ true → allBelow k (drop n s) ≡ true
+unfolding allBelow
+below-rest k zero s b = b
+below-rest k (suc n) [] b = refl
+below-rest k (suc n) (a ∷ s) b = below-rest k n s (and-r (ltb a k) (allBelow k s) b)
+
+below-first : (k n : ℕ) (s : List ℕ) → allBelow k s ≡ true → allBelow k (take n s) ≡ true
+unfolding allBelow
+below-first k zero s b = refl
+below-first k (suc n) [] b = refl
+below-first k (suc n) (a ∷ s) b =
+    rw (and-l (ltb a k) (allBelow k s) b) (below-first k n s (and-r (ltb a k) (allBelow k s) b))
+
+pub below-part : (k n start : ℕ) (s : List ℕ) → allBelow k s ≡ true → allBelow k (take n (drop start s)) ≡ true
+below-part k n start s b = below-first k n (drop start s) (below-rest k start s b)
 
 -- the greater of two bytes decides for both
 greater : (k m b : ℕ) (x : Bool) → m ≤ b → (ltb m k && (ltb b k && x)) ≡ (ltb b k && x)

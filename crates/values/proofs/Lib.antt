@@ -1,6 +1,7 @@
 pub mod ChangeLaws
 pub mod ValueLaws
 pub mod ValidLaws
+pub mod PlainLaws
 pub mod FreshLaws
 pub mod AcceptedLaws
 pub mod ExactLaws

@@ -1,9 +1,9 @@
 -- The check of a sign's values, test by test.
-use mathlib.Core.Path.{_≡_, refl, sym, _∙_}
+use mathlib.Core.Path.{_≡_, refl, sym, ap, _∙_}
 use mathlib.Core.Bool.{Bool, true, false, _&&_, false≢true}
 use mathlib.Core.List.{List}
-use Prim.Native.Nat.{ℕ, _*_, _<_}
-use borrow.Author.Tests.{eqb-true, eq-eqb, ne-eqb}
+use Prim.Native.Nat.{ℕ, _*_, _≤_, _<_}
+use borrow.Author.Tests.{eqb-true, eq-eqb, ne-eqb, le-leb, lt-leb}
 use lib.Dec.{eqb}
 use lib.ListN.{length, getD}
 use Rattle.schema.specs.Layout.{clusterLimit, attributeLimit, textSize}
@@ -11,10 +11,13 @@ use Rattle.schema.specs.Rows.{attributeRow, attributeCount, isText}
 use Rattle.schema.specs.Check.{every, textCount}
 use Rattle.schema.proofs.BoolLaws.{both, left, right, by-test}
 use Rattle.schema.proofs.CheckLaws.{every-at, every-all}
-use Rattle.kinds.specs.declared.Kind.{Kind}
+use Rattle.tlv.specs.Octet.{pick}
+use Rattle.kinds.specs.declared.Kind.the-variants.{Text}
+use Rattle.kinds.specs.Limits.{textMax}
 use Rattle.kinds.specs.Stored.{held}
 use Rattle.node.specs.Attributes.{kindOf}
 use Rattle.node.specs.Check.{numberRight, numbersRight}
+use Rattle.node.proofs.KindLaws.{kind-text}
 use Rattle.values.specs.declared.Values.{Values}
 use Rattle.values.specs.Values.{textAt}
 use Rattle.values.specs.Valid.{shownRight, valueRight, valuesRight}
@@ -23,15 +26,7 @@ use Rattle.values.specs.Valid.{shownRight, valueRight, valuesRight}
 abbrev pub withinLimits : List ℕ → ℕ → ℕ → Bool → Bool
 withinLimits w i word isNull = held (kindOf (attributeRow w i)) (eqb (attributeRow w i .nullable) 1) word isNull
 
--- as the code tests them
-pub limits : (w : List ℕ) (i word : ℕ) (isNull : Bool) (k : Kind) (nullable r : Bool) → k ≡ kindOf (attributeRow w i) → nullable ≡ eqb (attributeRow w i .nullable) 1 → r ≡ held k nullable word isNull → withinLimits w i word isNull ≡ r
-limits w i word isNull k nullable r e f h = sym (h ∙ rw (e, f))
-
 module _ (w defaults edits : List ℕ) (i word : ℕ) (isNull edited : Bool) where
-  pub past-limits : withinLimits w i word isNull ≡ false → false ≡ valueRight w defaults edits i word isNull edited
-  unfolding valueRight
-  past-limits h = rw h
-
   pub null-right : withinLimits w i word isNull ≡ true → isNull ≡ true → true ≡ valueRight w defaults edits i word isNull edited
   unfolding valueRight
   null-right h n = rw (h, n)
@@ -44,11 +39,55 @@ module _ (w defaults edits : List ℕ) (i word : ℕ) (isNull edited : Bool) whe
   unfolding valueRight
   text-right h n t = rw (h, n, t)
 
--- ---- the check by index
+-- ---- the code's tests
 
 and-false : (x : Bool) → (x && false) ≡ false
 and-false true = refl
 and-false false = refl
+
+and-true : (x : Bool) → x ≡ (x && true)
+and-true true = refl
+and-true false = refl
+
+-- the limits alone decide where there is no text
+limits-alone : (b n t x : Bool) → t ≡ false → b ≡ (b && pick n true (pick t x true))
+limits-alone true true t x e = refl
+limits-alone true false t x e = rw e
+limits-alone false n t x e = refl
+
+module _ (w defaults edits : List ℕ) (i word : ℕ) (isNull edited : Bool) where
+  pub number-row : isText (attributeRow w i) ≡ false → (numberRight (attributeRow w i) && withinLimits w i word isNull) ≡ (numberRight (attributeRow w i) && valueRight w defaults edits i word isNull edited)
+  unfolding valueRight
+  number-row t =
+      ap (λ (b : Bool). numberRight (attributeRow w i) && b)
+      (limits-alone (withinLimits w i word isNull) isNull (isText (attributeRow w i)) (shownRight (textAt w defaults edits i word edited) word) t)
+
+  module _ (t : isText (attributeRow w i) ≡ true) where
+    -- a text has no first number
+    pub text-first : numberRight (attributeRow w i) ≡ true
+    unfolding numberRight
+    text-first = rw (eqb-true (attributeRow w i .kind) 4 t)
+
+    text-kind : kindOf (attributeRow w i) ≡ Text
+    text-kind = kind-text (attributeRow w i) (eqb-true (attributeRow w i .kind) 4 t)
+
+    pub null-allowed : isNull ≡ true → eqb (attributeRow w i .nullable) 1 ≡ true → eqb word 0 ≡ valueRight w defaults edits i word isNull edited
+    unfolding valueRight held
+    null-allowed n y = rw (text-kind, n, y) (and-true (eqb word 0))
+
+    pub null-refused : isNull ≡ true → eqb (attributeRow w i .nullable) 1 ≡ false → false ≡ valueRight w defaults edits i word isNull edited
+    unfolding valueRight held
+    null-refused n y = rw (text-kind, n, y)
+
+    pub too-long : isNull ≡ false → textMax < word → false ≡ valueRight w defaults edits i word isNull edited
+    unfolding valueRight held
+    too-long n l = rw (text-kind, n, lt-leb word textMax l)
+
+    pub shown-right : isNull ≡ false → word ≤ textMax → shownRight (textAt w defaults edits i word edited) word ≡ valueRight w defaults edits i word isNull edited
+    unfolding valueRight held
+    shown-right n l = rw (text-kind, n, le-leb word textMax l, t)
+
+-- ---- the check by index
 
 -- attribute i holds what it may
 abbrev pub rightAt : List ℕ → List ℕ → List ℕ → Values → ℕ → Bool

@@ -1,21 +1,29 @@
 use mathlib.Core.Path.{sym, _∙_}
 use borrow.Author.Needs.{needs}
-use borrow.Author.Tests.{not-true, not-false}
-use Rattle.schema.proofs.BoolLaws.{past, fails}
+use Rattle.schema.proofs.BoolLaws.{past}
+use Rattle.values.proofs.ValidLaws.{number-row, text-first}
 use Rattle.values.proofs.valid.attribute_ok.Statement.{statement}
 use Rattle.values.proofs.valid.attribute_ok.Tie as tie
 
-first-ok-requires : tie.Need-first-ok-requires
-first-ok-requires c κs = search needs
+is-text-requires : tie.Need-is-text-requires
+is-text-requires c κs = search needs
+
+text-ok-requires : tie.Need-text-ok-requires
+text-ok-requires c κs = let q = c .before .before .before .before .pre in (q .0, sym (c .before .is-text .ensures) ∙ c .if1 .taken, q .1, q .2)
 
 returns : tie.Need-returns
-returns c = fails _ _ (sym (c .before .first-ok .ensures) ∙ not-true _ (c .if1 .taken))
+returns c =
+    let a = c .before .before .before .before .before .args in
+    c .text-ok .ensures ∙ past _ _ (text-first (a .w .now) (a .defaults .now) (a .edits .now) (a .i) (a .word) (a .null) (a .edited) (sym (c .before .before .is-text .ensures) ∙ c .before .if1 .taken))
 
-value-ok-requires : tie.Need-value-ok-requires
-value-ok-requires c κs = search needs
+limits-hold-requires : tie.Need-limits-hold-requires
+limits-hold-requires c κs = search needs
 
 returns-2 : tie.Need-returns-2
-returns-2 c = c .value-ok .ensures ∙ past _ _ (sym (c .before .before .first-ok .ensures) ∙ not-false _ (c .before .if1 .left))
+returns-2 c =
+    let a = c .before .before .before .before .before .args in
+    c .limits-hold .ensures ∙ number-row (a .w .now) (a .defaults .now) (a .edits .now) (a .i) (a .word) (a .null) (a .edited) (sym (c .before .before .is-text .ensures) ∙ c .before .if1 .left)
 
 pub attribute-ok-spec : {M : Type 1} → statement M
-attribute-ok-spec = tie.close (tie.spec first-ok-requires returns value-ok-requires returns-2)
+attribute-ok-spec =
+    tie.close (tie.spec is-text-requires text-ok-requires returns limits-hold-requires returns-2)

@@ -7,14 +7,15 @@ use borrow.Author.Tests.{not-true, not-false}
 use Rattle.schema.specs.Rows.{attributeCount}
 use Rattle.schema.specs.Check.{every}
 use Rattle.schema.proofs.CheckLaws.{every-more, every-done}
+use Rattle.values.proofs.PlainLaws.{plain-below}
 use Rattle.values.proofs.valid.values_ok.Statement.{statement}
 use Rattle.values.proofs.valid.values_ok.Tie as tie
 
 abbrev Inv-loop : tie.InvT-loop
-Inv-loop w defaults edits v n i₀ i = (i ≤ n) × (n ≡ attributeCount w) × (every (bothAt w defaults edits v) i ≡ true)
+Inv-loop w defaults edits v n plain-defaults plain-edits i₀ i = (i ≤ n) × (n ≡ attributeCount w) × (every (bothAt w defaults edits v) i ≡ true)
 
 abbrev μ-loop : tie.MeasureT-loop
-μ-loop w defaults edits v n i₀ i = n - i
+μ-loop w defaults edits v n plain-defaults plain-edits i₀ i = n - i
 
 edits-size-requires : tie.Need-edits-size-requires Inv-loop μ-loop
 edits-size-requires c κs = search needs
@@ -25,9 +26,15 @@ returns c = let a = c .before .before .before .before .args in wrong-size (a .w 
 attribute-count-requires : tie.Need-attribute-count-requires Inv-loop μ-loop
 attribute-count-requires c κs = search needs
 
+is-plain-requires : tie.Need-is-plain-requires Inv-loop μ-loop
+is-plain-requires c κs = search needs
+
+is-plain-requires-2 : tie.Need-is-plain-requires-2 Inv-loop μ-loop
+is-plain-requires-2 c κs = search needs
+
 loop-holds : tie.Need-loop-holds Inv-loop μ-loop
 unfolding every
-loop-holds c = (search needs, c .attribute-count .ensures, refl)
+loop-holds c = (search needs, c .before .before .before .before .before .before .attribute-count .ensures, refl)
 
 mul-attribute-ok : tie.Need-mul-attribute-ok Inv-loop μ-loop
 mul-attribute-ok c = search needs
@@ -42,10 +49,11 @@ element-copy-out-attribute-ok-3 : tie.Need-element-copy-out-attribute-ok-3 Inv-l
 element-copy-out-attribute-ok-3 c = search needs
 
 attribute-ok-requires : tie.Need-attribute-ok-requires Inv-loop μ-loop
-attribute-ok-requires c κs = search needs
+attribute-ok-requires c κs =
+    (search needs, (λ d. plain-below _ _ _ _ (sym (c .before .before .before .before .before .before .before .before .is-plain .ensures) ∙ d)), (λ e. plain-below _ _ _ _ (sym (c .before .before .before .before .before .is-plain2 .ensures) ∙ e)))
 
 returns-2 : tie.Need-returns-2 Inv-loop μ-loop
-returns-2 c = let a = c .before .before .before .before .before .before .before .before .before .before .before .before .args in wrong-at (a .w .now) (a .defaults .now) (a .edits .now) (a .t4) (c .before .before .before .before .before .before .loop .i) (search needs) (sym (c .before .attribute-ok .ensures) ∙ not-true _ (c .if2 .taken))
+returns-2 c = let a = c .before .before .before .before .before .before .before .before .before .before .before .before .before .before .before .before .before .before .args in wrong-at (a .w .now) (a .defaults .now) (a .edits .now) (a .t4) (c .before .before .before .before .before .before .loop .i) (search needs) (sym (c .before .attribute-ok .ensures) ∙ not-true _ (c .if2 .taken))
 
 add-i : tie.Need-add-i Inv-loop μ-loop
 add-i c = search needs
@@ -54,10 +62,10 @@ loop-less : tie.Need-loop-less Inv-loop μ-loop
 loop-less c = search needs
 
 loop-again : tie.Need-loop-again Inv-loop μ-loop
-loop-again c = let a = c .before .before .before .before .before .before .before .before .before .before .before .before .args in (search needs, c .before .before .before .before .before .before .loop .inv .1, every-more (bothAt (a .w .now) (a .defaults .now) (a .edits .now) (a .t4)) _ (c .before .before .before .before .before .before .loop .inv .2) (sym (c .before .attribute-ok .ensures) ∙ not-false _ (c .if2 .left)))
+loop-again c = let a = c .before .before .before .before .before .before .before .before .before .before .before .before .before .before .before .before .before .before .args in (search needs, c .before .before .before .before .before .before .loop .inv .1, every-more (bothAt (a .w .now) (a .defaults .now) (a .edits .now) (a .t4)) _ (c .before .before .before .before .before .before .loop .inv .2) (sym (c .before .attribute-ok .ensures) ∙ not-false _ (c .if2 .left)))
 
 returns-3 : tie.Need-returns-3 Inv-loop μ-loop
-returns-3 c = let a = c .before .before .before .before .before .before .before .args in right-done (a .w .now) (a .defaults .now) (a .edits .now) (a .t4) (c .before .before .before .if1 .left ∙ c .before .before .before .before .edits-size .ensures) (sym (every-done (bothAt (a .w .now) (a .defaults .now) (a .edits .now) (a .t4)) _ _ (search needs) (search needs) (c .before .loop .inv .2)))
+returns-3 c = let a = c .before .before .before .before .before .before .before .before .before .before .before .before .before .args in right-done (a .w .now) (a .defaults .now) (a .edits .now) (a .t4) (c .before .before .before .before .before .before .before .before .before .if1 .left ∙ c .before .before .before .before .before .before .before .before .before .before .edits-size .ensures) (sym (every-done (bothAt (a .w .now) (a .defaults .now) (a .edits .now) (a .t4)) _ _ (search needs) (search needs) (c .before .loop .inv .2)))
 
 pub values-ok-spec : {M : Type 1} → statement M
 values-ok-spec =
@@ -68,6 +76,8 @@ values-ok-spec =
     edits-size-requires
     returns
     attribute-count-requires
+    is-plain-requires
+    is-plain-requires-2
     loop-holds
     mul-attribute-ok
     element-copy-out-attribute-ok
