@@ -1,0 +1,2 @@
+pub mod SignCalls
+pub mod PanelCalls
