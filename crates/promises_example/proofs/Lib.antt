@@ -1,2 +1,5 @@
 pub mod SignCalls
 pub mod PanelCalls
+pub mod Holds
+pub mod Start
+pub mod Run

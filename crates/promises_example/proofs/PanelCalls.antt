@@ -43,10 +43,11 @@ use Rattle.cache_part.specs.Part.{blocksIn, heldAll, judgedAll, pageAll}
 use Rattle.cache.specs.Begin.{askedAs, beginsRead, fresh, keeping, resends, unknownAfter}
 use Rattle.cache.specs.State.{askedRight, isOpen, panelRight}
 use Rattle.cache_receive.specs.Receive.{awaited, byAnswer, byStatus, endedAs, endedWith, forCache, goesOn, ofWrite, opcodeAwaited, pastTurns, primedAs, received, takes, takesPart}
+use Rattle.cache_ask.specs.Ask.{coherentOf}
 use Rattle.promises_example.specs.Plan.{page, words}
 use Rattle.promises_example.specs.States.{keptRequest, keptSuccess, page2, page3, panel1, panel2, panel3, part1, part2, request, success}
 use Rattle.promises_example.specs.Calls.{PanelCalls}
 
 pub panel-calls : PanelCalls
-unfolding bytesOf Number.numberOf store after completes table trailing wellFormed within closedAt headAt headOctets numberWidth tagWidth complement signedOf valueIn valueOf allowedIn elementBy elementEnd foldAt foldBy booleanOctets datumOctets floatOctets formOf headFor labelOf nullOctets openOctets signedOctets textOctets unsignedOctets leastOf leastSignedWidth leastWidth twos widthCode eachStep optionalIn requiredIn fieldStep fieldsAt fieldsFrom insideAt placeOf putAt slotOf flagIn flagOf numberIn wideIn wideOf Scalar.numberOf anyIn dataAt dataFrom maybeIn reportAt reportFrom banned exactP pathAt pathFrom soundPath answerAt answerFrom soundStatus statusAt statusFrom listAt messageAt openedIn untagged responseFrom responseIn firstIn partFrom partIn answeredFrom answeredIn answerMembers blockTree dataBlockTree dataMembers pathTree statusBlockTree statusTree bigNumber bigOctets envelopeOctets envelopeWord reportEnding reportMembers revision statusMembers members primitiveD spelling spellings writerTag envelopeIn fieldsOf clusterTree filterMembers filterTree pathsTree readMembers wildcardTree wordOf every first allAre coherentAt versionsOf wordAt clusterPlace entryPlace withCluster withEntry clustersRight entriesRight entryRight heldRight wordRight betterOf filterFor filtersFrom filtersOf leastBy readMessage successMessage concreteP fateBy fateOf insideUsable longV usableIn entrySpot heldFor kindV numberFor pageFor spotOf textStored withItem worse blocksIn heldAll judgedAll pageAll askedAs beginsRead fresh keeping resends unknownAfter askedRight isOpen panelRight awaited byAnswer byStatus endedAs endedWith forCache goesOn ofWrite opcodeAwaited pastTurns primedAs received takes takesPart page words keptRequest keptSuccess page2 page3 panel1 panel2 panel3 part1 part2 request success
-panel-calls = record { begins = refl; resends = refl; takes = refl; refuses = refl; ends = refl }
+unfolding bytesOf Number.numberOf store after completes table trailing wellFormed within closedAt headAt headOctets numberWidth tagWidth complement signedOf valueIn valueOf allowedIn elementBy elementEnd foldAt foldBy booleanOctets datumOctets floatOctets formOf headFor labelOf nullOctets openOctets signedOctets textOctets unsignedOctets leastOf leastSignedWidth leastWidth twos widthCode eachStep optionalIn requiredIn fieldStep fieldsAt fieldsFrom insideAt placeOf putAt slotOf flagIn flagOf numberIn wideIn wideOf Scalar.numberOf anyIn dataAt dataFrom maybeIn reportAt reportFrom banned exactP pathAt pathFrom soundPath answerAt answerFrom soundStatus statusAt statusFrom listAt messageAt openedIn untagged responseFrom responseIn firstIn partFrom partIn answeredFrom answeredIn answerMembers blockTree dataBlockTree dataMembers pathTree statusBlockTree statusTree bigNumber bigOctets envelopeOctets envelopeWord reportEnding reportMembers revision statusMembers members primitiveD spelling spellings writerTag envelopeIn fieldsOf clusterTree filterMembers filterTree pathsTree readMembers wildcardTree wordOf every first allAre coherentAt versionsOf wordAt clusterPlace entryPlace withCluster withEntry clustersRight entriesRight entryRight heldRight wordRight betterOf filterFor filtersFrom filtersOf leastBy readMessage successMessage concreteP fateBy fateOf insideUsable longV usableIn entrySpot heldFor kindV numberFor pageFor spotOf textStored withItem worse blocksIn heldAll judgedAll pageAll askedAs beginsRead fresh keeping resends unknownAfter askedRight isOpen panelRight awaited byAnswer byStatus endedAs endedWith forCache goesOn ofWrite opcodeAwaited pastTurns primedAs received takes takesPart coherentOf page words keptRequest keptSuccess page2 page3 panel1 panel2 panel3 part1 part2 request success
+panel-calls = record { page-size = refl; begins = refl; resends = refl; takes = refl; refuses = refl; ends = refl; request-sent = λ l. refl; success-sent = λ l. refl; whole = refl; not-whole = refl }

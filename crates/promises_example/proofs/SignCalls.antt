@@ -3,6 +3,7 @@ use mathlib.Core.Path.{refl}
 use Rattle.octets.specs.Number.{bytesOf}
 use Rattle.octets.specs.Number as Number
 use Rattle.octets.specs.Store.{store}
+use Rattle.utf8.specs.Bytewise.{allBelow}
 use Rattle.utf8.specs.WellFormed.{completes, table, trailing, within}
 use Rattle.utf8.specs.WellFormed as Utf8
 use Rattle.tlv.specs.Head.{closedAt, headAt}
@@ -38,7 +39,7 @@ use Rattle.schema.specs.Rows.{rowsFrom}
 use Rattle.schema.specs.Search.{first}
 use Rattle.acl.specs.Access.{coversPlace, givenBy, grantsOf, isGranted, levelOf, privilegeOk, privilegesOk, tableOk}
 use Rattle.node.specs.Attributes.{kindOf}
-use Rattle.node.specs.Check.{floatRight, numberRight, numbersRight}
+use Rattle.node.specs.Check.{accepted, factoryRight, floatRight, numberRight, numbersRight, textRight, textsRight}
 use Rattle.node.specs.Pages.{shownText}
 use Rattle.values.specs.Change.{differsFrom, editsSet, setAt, storedEdits, storedValues, wordFor}
 use Rattle.values.specs.Change as values
@@ -61,7 +62,7 @@ use Rattle.replies.specs.Begin.{readBegun, requestOf, writeBegun}
 use Rattle.replies.specs.Messages.{reportMessage, responseMessage, statusMessage}
 use Rattle.replies.specs.Row.{keeping, nextPart, rowRight}
 use Rattle.server.specs.Receive.{reacted, received, stepOf}
-use Rattle.server.specs.Start.{alteredBy, freshRow}
+use Rattle.server.specs.Start.{alteredBy, freshRow, started}
 use Rattle.server.specs.State.{signRight}
 use Rattle.cache_request.specs.Messages.{readMessage, successMessage}
 use Rattle.promises_example.specs.Plan.{access, defaults, edits, plan, words}
@@ -69,5 +70,5 @@ use Rattle.promises_example.specs.States.{changedEdits, changedValues, p
 use Rattle.promises_example.specs.Calls.{SignCalls}
 
 pub sign-calls : SignCalls
-unfolding bytesOf Number.numberOf store completes table trailing within Utf8.after Utf8.wellFormed closedAt headAt headOctets numberWidth tagWidth complement signedOf valueIn valueOf allowedIn elementBy elementEnd foldAt foldBy booleanOctets datumOctets floatOctets formOf headFor labelOf nullOctets openOctets signedOctets textOctets unsignedOctets leastOf leastSignedWidth leastWidth twos widthCode eachStep optionalIn requiredIn fieldStep fieldsAt fieldsFrom insideAt placeOf putAt slotOf flagIn flagOf numberIn wideIn wideOf Scalar.numberOf anyIn dataAt dataFrom clusterAt clusterFrom filterAt filterFrom soundCluster askableP banned exactP loose pathAt pathFrom soundPath firstOf listAt messageAt untagged askedAt askedOf localF readFrom readIn readVerdict wantedAt wantedIf responseFrom responseIn entryAt unchunked writeFrom writeIn writeVerdict answerMembers answerTree blockTree dataBlockTree dataMembers pathTree statusBlockTree statusTree bigNumber bigOctets envelopeOctets envelopeWord reportEnding reportMembers responseMembers revision statusMembers members primitiveD spelling spellings writerTag envelopeIn fieldsOf clusterTree filterMembers filterTree pathsTree readMembers wildcardTree floatOf inRange rangeOf rangeOk against judged judgedIn statusCode equal held nextVersion count every rises Schema.changes Schema.wellFormed rowsFrom first coversPlace givenBy grantsOf isGranted levelOf privilegeOk privilegesOk tableOk kindOf floatRight numberRight numbersRight shownText differsFrom editsSet setAt storedEdits storedValues wordFor values.changes freshValues shownRight valueRight valuesRight datumAt heldDatum textAt askedFor asksFor concrete agree on skipsBy skipsOf some concreteItem itemAt readItem span wildcardItem located beginning forServer onRequest onStatus blockOf blocksFrom collect pathBlocks pathsBlocks valueBlock left taken report.after partPayload allowedAt codesOf entryWritten heldAfter mayWrite changed offered answerTrees responsePayload readBegun requestOf writeBegun reportMessage responseMessage statusMessage keeping nextPart rowRight reacted received stepOf alteredBy freshRow signRight readMessage successMessage access defaults edits plan words changedEdits changedValues part1 part2 request row1 row2 sign0 sign1 sign2 sign3 success
-sign-calls = record { begins = refl; repeats = refl; alters = refl; goes-on = refl }
+unfolding bytesOf Number.numberOf store allBelow completes table trailing within Utf8.after Utf8.wellFormed closedAt headAt headOctets numberWidth tagWidth complement signedOf valueIn valueOf allowedIn elementBy elementEnd foldAt foldBy booleanOctets datumOctets floatOctets formOf headFor labelOf nullOctets openOctets signedOctets textOctets unsignedOctets leastOf leastSignedWidth leastWidth twos widthCode eachStep optionalIn requiredIn fieldStep fieldsAt fieldsFrom insideAt placeOf putAt slotOf flagIn flagOf numberIn wideIn wideOf Scalar.numberOf anyIn dataAt dataFrom clusterAt clusterFrom filterAt filterFrom soundCluster askableP banned exactP loose pathAt pathFrom soundPath firstOf listAt messageAt untagged askedAt askedOf localF readFrom readIn readVerdict wantedAt wantedIf responseFrom responseIn entryAt unchunked writeFrom writeIn writeVerdict answerMembers answerTree blockTree dataBlockTree dataMembers pathTree statusBlockTree statusTree bigNumber bigOctets envelopeOctets envelopeWord reportEnding reportMembers responseMembers revision statusMembers members primitiveD spelling spellings writerTag envelopeIn fieldsOf clusterTree filterMembers filterTree pathsTree readMembers wildcardTree floatOf inRange rangeOf rangeOk against judged judgedIn statusCode equal held nextVersion count every rises Schema.changes Schema.wellFormed rowsFrom first coversPlace givenBy grantsOf isGranted levelOf privilegeOk privilegesOk tableOk kindOf accepted factoryRight floatRight numberRight numbersRight textRight textsRight shownText differsFrom editsSet setAt storedEdits storedValues wordFor values.changes freshValues shownRight valueRight valuesRight datumAt heldDatum textAt askedFor asksFor concrete agree on skipsBy skipsOf some concreteItem itemAt readItem span wildcardItem located beginning forServer onRequest onStatus blockOf blocksFrom collect pathBlocks pathsBlocks valueBlock left taken report.after partPayload allowedAt codesOf entryWritten heldAfter mayWrite changed offered answerTrees responsePayload readBegun requestOf writeBegun reportMessage responseMessage statusMessage keeping nextPart rowRight reacted received stepOf alteredBy freshRow started signRight readMessage successMessage access defaults edits plan words changedEdits changedValues part1 part2 request row1 row2 sign0 sign1 sign2 sign3 success
+sign-calls = record { accepts = refl; words-fit = refl; table-right = refl; edits-size = refl; made = refl; begins = refl; repeats = refl; alters = refl; goes-on = refl; part1-sent = λ l. refl; part2-sent = λ l. refl; row6 = refl; stands = (refl, refl, refl, refl) }
