@@ -3,3 +3,4 @@ pub mod PanelCalls
 pub mod Holds
 pub mod Start
 pub mod Run
+pub mod Main
