@@ -16,7 +16,8 @@ use Rattle.promises.specs.Claims.{CallsWhole, versionOf, changesOf, onRow, show
 use Rattle.promises.proofs.Main.{first-half, second-half}
 use Rattle.protocol.proofs.SmallLaws.{all-cons}
 use Rattle.promises_example.specs.Plan.{plan}
-use Rattle.promises_example.specs.States.{request, success, part1, part2, new, panel1}
+use Rattle.promises_example.specs.Messages.{request, success, part1, part2, new}
+use Rattle.promises_example.specs.Panel.{panel1}
 use Rattle.promises_example.proofs.SignCalls.{sign-calls}
 use Rattle.promises_example.proofs.PanelCalls.{panel-calls}
 use Rattle.promises_example.proofs.Start.{start}

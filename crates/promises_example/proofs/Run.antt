@@ -10,7 +10,9 @@ use Rattle.cache_receive.specs.Receive as receive
 use Rattle.promises.specs.World.{World, subjectOf, with, afterSign, afterPanel, answered, altered}
 use Rattle.promises.specs.World as world
 use Rattle.promises_example.specs.Plan.{plan, edits, page}
-use Rattle.promises_example.specs.States.{request, success, part1, part2, new, sign0, sign1, sign2, sign3, changedEdits, panel1, panel2, panel3, page2, page3}
+use Rattle.promises_example.specs.Messages.{request, success, part1, part2, new}
+use Rattle.promises_example.specs.Sign.{sign0, sign1, sign2, sign3, changedEdits}
+use Rattle.promises_example.specs.Panel.{panel1, panel2, panel3, page2, page3}
 use Rattle.promises_example.specs.Calls.{given, renewed}
 use Rattle.promises_example.proofs.SignCalls.{sign-calls}
 use Rattle.promises_example.proofs.PanelCalls.{panel-calls}

@@ -25,7 +25,9 @@ use Rattle.cache_receive.specs.Receive as receive
 use Rattle.cache_ask.specs.Ask.{said, saysWhole}
 use Rattle.promises.specs.World.{subjectOf, granted, with}
 use Rattle.promises_example.specs.Plan.{edits, page, plan}
-use Rattle.promises_example.specs.States.{request, success, part1, part2, new, sign0, sign1, sign2, sign3, changedEdits, panel1, panel2, panel3, page2, page3}
+use Rattle.promises_example.specs.Messages.{request, success, part1, part2, new}
+use Rattle.promises_example.specs.Sign.{sign0, sign1, sign2, sign3, changedEdits}
+use Rattle.promises_example.specs.Panel.{panel1, panel2, panel3, page2, page3}
 
 -- the plan's subject hands a message to the sign, with a buffer of full size
 abbrev pub given : List ℕ → server.State → List ℕ → sign.Reaction

@@ -1,3 +1,5 @@
 pub mod Plan
-pub mod States
+pub mod Messages
+pub mod Sign
+pub mod Panel
 pub mod Calls
