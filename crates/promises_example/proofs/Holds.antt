@@ -1,0 +1,52 @@
+-- What stands in a state of the run, and what a call makes of it.
+use mathlib.Core.Path.{_≡_, refl, ap, _∙_}
+use mathlib.Core.List.{List}
+use Prim.Native.Nat.{ℕ}
+use Rattle.server.specs.declared.State as server
+use Rattle.cache.specs.declared.State as cache
+use Rattle.cache.specs.Reaction as panel
+use Rattle.promises.specs.World.{World, with, afterSign, afterPanel}
+use Rattle.promises_example.specs.Calls.{version6, reacts}
+
+pub record Holds (u : World) (s : server.State) (e : List ℕ) (c : cache.State) (t : List ℕ) (qs rs : List (List ℕ)) : Type 0 where
+  pub sign-is : u .sign ≡ s
+  pub edits-are : u .edits ≡ e
+  pub panel-is : u .panel ≡ c
+  pub page-is : u .page ≡ t
+  pub requests-are : u .requests ≡ qs
+  pub replies-are : u .replies ≡ rs
+  -- cluster 6, the schema's first, has not changed
+  pub unchanged : u .changes 0 ≡ 0
+
+module _ {u : World} {s : server.State} {e : List ℕ} {c : cache.State} {t : List ℕ} {qs rs : List (List ℕ)} (h : Holds u s e c t qs rs) where
+  -- a call of the sign that leaves cluster 6 at its version
+  pub served : (f : List ℕ → server.State → server.State) (g r : List ℕ → server.State → List ℕ) {s′ : server.State} {e′ : List ℕ} {rs′ : List (List ℕ)}
+      → f e s ≡ s′ → g e s ≡ e′ → with (r e s) rs ≡ rs′ → version6 s ≡ 5 → version6 s′ ≡ 5
+      → Holds (afterSign u (f (u .edits) (u .sign)) (g (u .edits) (u .sign)) (r (u .edits) (u .sign))) s′ e′ c t qs rs′
+  unfolding afterSign
+  served f g r to page reply old new =
+      record {
+        sign-is = rw (h .edits-are, h .sign-is) to;
+        edits-are = rw (h .edits-are, h .sign-is) page;
+        panel-is = h .panel-is;
+        page-is = h .page-is;
+        requests-are = h .requests-are;
+        replies-are = rw (h .edits-are, h .sign-is, h .replies-are) reply;
+        unchanged = rw (h .unchanged, h .edits-are, h .sign-is, to, old, new) refl;
+      }
+
+  -- a call of the panel
+  pub reacted : (f : List ℕ → cache.State → panel.Reaction) {n : ℕ} {c′ : cache.State} {t′ q : List ℕ} {qs′ : List (List ℕ)}
+      → f t c ≡ reacts n c′ t′ q → with q qs ≡ qs′
+      → Holds (afterPanel u (f (u .page) (u .panel))) s e c′ t′ qs′ rs
+  unfolding afterPanel
+  reacted f to sent =
+      record {
+        sign-is = h .sign-is;
+        edits-are = h .edits-are;
+        panel-is = rw (h .page-is, h .panel-is, to) refl;
+        page-is = rw (h .page-is, h .panel-is, to) refl;
+        requests-are = rw (h .page-is, h .panel-is, to, h .requests-are) sent;
+        replies-are = h .replies-are;
+        unchanged = h .unchanged;
+      }

@@ -1,0 +1,112 @@
+-- THE STATES OF THE RUN: a read in two parts. The first part is lost, asked for again and arrives twice; the second cluster changes between the parts.
+use mathlib.Core.Path.{_≡_, refl, ap, _∙_}
+use mathlib.Core.List.{List, [], _∷_}
+use Prim.Native.Nat.{ℕ}
+use Rattle.tlv.specs.declared.Value.the-variants.{Text}
+use Rattle.envelope.specs.Envelope.{maxMessage}
+use Rattle.cache.specs.Begin as begin
+use Rattle.cache.specs.Begin.{fresh}
+use Rattle.cache_receive.specs.Receive as receive
+use Rattle.promises.specs.World.{World, subjectOf, with, afterSign, afterPanel, answered, altered}
+use Rattle.promises.specs.World as world
+use Rattle.promises_example.specs.Plan.{plan, edits, page}
+use Rattle.promises_example.specs.Messages.{request, success, part1, part2, new}
+use Rattle.promises_example.specs.Sign.{sign0, sign1, sign2, sign3, changedEdits}
+use Rattle.promises_example.specs.Panel.{panel1, panel2, panel3, page2, page3}
+use Rattle.promises_example.specs.Calls.{given, renewed}
+use Rattle.promises_example.proofs.SignCalls.{sign-calls}
+use Rattle.promises_example.proofs.PanelCalls.{panel-calls}
+use Rattle.promises_example.proofs.Holds.{Holds, served, reacted}
+use Rattle.promises_example.proofs.Start.{start}
+
+-- a message handed to the sign, and a reply to the panel, each with a buffer of full size
+abbrev heard : World → List ℕ → World
+heard u m =
+    afterSign u (answered plan u (subjectOf plan) m maxMessage .state) (answered plan u (subjectOf plan) m maxMessage .edits) (answered plan u (subjectOf plan) m maxMessage .reply)
+
+abbrev got : World → List ℕ → World
+got u m = afterPanel u (receive.received (u .page) (u .panel) m maxMessage)
+
+-- THE STATES: the read begun; its first part sent, and lost; the request resent, and answered again
+unfoldable pub begun : World
+begun = afterPanel (world.begin plan start) (begin.beginsRead (world.begin plan start .page) (world.begin plan start .panel) maxMessage)
+
+unfoldable pub lost : World
+lost = heard begun request
+
+unfoldable pub resent : World
+resent = afterPanel lost (begin.resends (lost .page) (lost .panel) maxMessage)
+
+unfoldable pub repeated : World
+repeated = heard resent request
+
+-- the first part taken, and once more refused
+unfoldable pub taken : World
+taken = got repeated part1
+
+unfoldable pub refused : World
+refused = got taken part1
+
+-- a text of cluster 8 changed; the second part sent, and taken
+unfoldable pub changed : World
+changed = afterSign refused (altered plan refused 1 8 2 new (Text 0 3) .state) (altered plan refused 1 8 2 new (Text 0 3) .edits) []
+
+unfoldable pub sent : World
+sent = heard changed success
+
+unfoldable pub ended : World
+ended = got sent part2
+
+-- what stands in each
+fresh-holds : Holds (world.begin plan start) sign0 edits fresh page [] []
+unfolding start
+fresh-holds =
+    record {
+      sign-is = ap (λ x. x .state) (sign-calls .made);
+      edits-are = refl;
+      panel-is = refl;
+      page-is = refl;
+      requests-are = refl;
+      replies-are = refl;
+      unchanged = refl;
+    }
+
+pub begun-holds : Holds begun sign0 edits panel1 page (request ∷ []) []
+unfolding begun
+begun-holds = reacted fresh-holds (λ t c. begin.beginsRead t c maxMessage) (panel-calls .begins) (panel-calls .request-sent [])
+
+pub lost-holds : Holds lost sign1 edits panel1 page (request ∷ []) (part1 ∷ [])
+unfolding lost
+lost-holds = served begun-holds (λ e s. given e s request .state) (λ e s. given e s request .edits) (λ e s. given e s request .reply) (ap (λ x. x .state) (sign-calls .begins)) (ap (λ x. x .edits) (sign-calls .begins))
+    (ap (λ x. with (x .reply) []) (sign-calls .begins) ∙ sign-calls .part1-sent []) (sign-calls .stands .0) (sign-calls .stands .1)
+
+pub resent-holds : Holds resent sign1 edits panel1 page (request ∷ request ∷ []) (part1 ∷ [])
+unfolding resent
+resent-holds = reacted lost-holds (λ t c. begin.resends t c maxMessage) (panel-calls .resends) (panel-calls .request-sent (request ∷ []))
+
+pub repeated-holds : Holds repeated sign1 edits panel1 page (request ∷ request ∷ []) (part1 ∷ part1 ∷ [])
+unfolding repeated
+repeated-holds = served resent-holds (λ e s. given e s request .state) (λ e s. given e s request .edits) (λ e s. given e s request .reply) (ap (λ x. x .state) (sign-calls .repeats)) (ap (λ x. x .edits) (sign-calls .repeats))
+    (ap (λ x. with (x .reply) (part1 ∷ [])) (sign-calls .repeats) ∙ sign-calls .part1-sent (part1 ∷ [])) (sign-calls .stands .1) (sign-calls .stands .1)
+
+pub taken-holds : Holds taken sign1 edits panel2 page2 (success ∷ request ∷ request ∷ []) (part1 ∷ part1 ∷ [])
+unfolding taken
+taken-holds = reacted repeated-holds (λ t c. receive.received t c part1 maxMessage) (panel-calls .takes) (panel-calls .success-sent (request ∷ request ∷ []))
+
+pub refused-holds : Holds refused sign1 edits panel2 page2 (success ∷ request ∷ request ∷ []) (part1 ∷ part1 ∷ [])
+unfolding refused
+refused-holds = reacted taken-holds (λ t c. receive.received t c part1 maxMessage) (panel-calls .refuses) refl
+
+pub changed-holds : Holds changed sign2 changedEdits panel2 page2 (success ∷ request ∷ request ∷ []) (part1 ∷ part1 ∷ [])
+unfolding changed
+changed-holds = served refused-holds (λ e s. renewed e s .state) (λ e s. renewed e s .edits) (λ e s. []) (ap (λ x. x .state) (sign-calls .alters)) (ap (λ x. x .edits) (sign-calls .alters)) refl
+    (sign-calls .stands .1) (sign-calls .stands .2)
+
+pub sent-holds : Holds sent sign3 changedEdits panel2 page2 (success ∷ request ∷ request ∷ []) (part2 ∷ part1 ∷ part1 ∷ [])
+unfolding sent
+sent-holds = served changed-holds (λ e s. given e s success .state) (λ e s. given e s success .edits) (λ e s. given e s success .reply) (ap (λ x. x .state) (sign-calls .goes-on)) (ap (λ x. x .edits) (sign-calls .goes-on))
+    (ap (λ x. with (x .reply) (part1 ∷ part1 ∷ [])) (sign-calls .goes-on) ∙ sign-calls .part2-sent (part1 ∷ part1 ∷ [])) (sign-calls .stands .2) (sign-calls .stands .3)
+
+pub ended-holds : Holds ended sign3 changedEdits panel3 page3 (success ∷ request ∷ request ∷ []) (part2 ∷ part1 ∷ part1 ∷ [])
+unfolding ended
+ended-holds = reacted sent-holds (λ t c. receive.received t c part2 maxMessage) (panel-calls .ends) refl

@@ -1,0 +1,87 @@
+-- THE CALLS of the run, each with all that it answers and leaves.
+use mathlib.Core.Path.{_≡_}
+use mathlib.Core.Bool.{true}
+use mathlib.Core.List.{List, [], _∷_}
+use Prim.Native.Nat.{ℕ, _*_, _^_}
+use lib.ListN.{length, getD}
+use Rattle.utf8.specs.Bytewise.{allBelow}
+use Rattle.tlv.specs.declared.Value.the-variants.{Text}
+use Rattle.envelope.specs.Envelope.{maxMessage}
+use Rattle.schema.specs.declared.Found.the-variants.{At}
+use Rattle.schema.specs.Layout.{textSize}
+use Rattle.schema.specs.Check.{textCount}
+use Rattle.schema.specs.Find.{findCluster}
+use Rattle.node.specs.Check.{accepted}
+use Rattle.acl.specs.Access.{tableOk}
+use Rattle.server.specs.declared.State as server
+use Rattle.server.specs.Receive as sign
+use Rattle.server.specs.Start.{Altered, started, alteredBy}
+use Rattle.cached.specs.Limits.{pageSize}
+use Rattle.cache.specs.declared.State as cache
+use Rattle.cache.specs.Reaction as panel
+use Rattle.cache.specs.Begin as begin
+use Rattle.cache.specs.Begin.{fresh}
+use Rattle.cache_receive.specs.Receive as receive
+use Rattle.cache_ask.specs.Ask.{said, saysWhole}
+use Rattle.promises.specs.World.{subjectOf, granted, with}
+use Rattle.promises_example.specs.Plan.{edits, page, plan}
+use Rattle.promises_example.specs.Messages.{request, success, part1, part2, new}
+use Rattle.promises_example.specs.Sign.{sign0, sign1, sign2, sign3, changedEdits}
+use Rattle.promises_example.specs.Panel.{panel1, panel2, panel3, page2, page3}
+
+-- the plan's subject hands a message to the sign, with a buffer of full size
+abbrev pub given : List ℕ → server.State → List ℕ → sign.Reaction
+given e s m = sign.received (plan .words) (plan .defaults) e s (tableOk (plan .table)) (granted plan) (subjectOf plan) m maxMessage
+
+-- the last text of cluster 8 is changed at the sign
+abbrev pub renewed : List ℕ → server.State → Altered
+renewed e s = alteredBy (plan .words) (plan .defaults) e s 1 8 2 new (Text 0 3)
+
+abbrev pub answers : server.State → List ℕ → List ℕ → sign.Reaction
+answers s e reply = record { number = 0; state = s; edits = e; reply = reply }
+
+-- the version of cluster 6, the schema's first
+abbrev pub version6 : server.State → ℕ
+version6 s = getD (s .values .versions) 0 0
+
+-- a message is one: it is not silence
+abbrev pub Sent : List ℕ → Type 0
+Sent m = (l : List (List ℕ)) → with m l ≡ m ∷ l
+
+pub record SignCalls : Type 0 where
+  -- the plan keeps the rules, and a sign is made of it
+  pub accepts : accepted (plan .words) (plan .defaults) ≡ true
+  pub words-fit : allBelow (2 ^ 64) (plan .words) ≡ true
+  pub table-right : tableOk (plan .table) ≡ true
+  pub edits-size : length edits ≡ textSize * textCount (plan .words)
+  pub made : started (plan .words) (plan .defaults) ≡ record { number = 0; state = sign0 }
+  -- the request begins the exchange, and once more gets the very same bytes
+  pub begins : given edits sign0 request ≡ answers sign1 edits part1
+  pub repeats : given edits sign1 request ≡ answers sign1 edits part1
+  pub alters : renewed edits sign1 ≡ record { number = 0; state = sign2; edits = changedEdits }
+  -- the success gets the second part
+  pub goes-on : given changedEdits sign2 success ≡ answers sign3 changedEdits part2
+  pub part1-sent : Sent part1
+  pub part2-sent : Sent part2
+  -- cluster 6 is at version 5 throughout
+  pub row6 : findCluster (plan .words) 1 6 ≡ At 0
+  pub stands : (version6 sign0 ≡ 5) × (version6 sign1 ≡ 5) × (version6 sign2 ≡ 5) × (version6 sign3 ≡ 5)
+
+-- a panel reacts so
+abbrev pub reacts : ℕ → cache.State → List ℕ → List ℕ → panel.Reaction
+reacts n s texts reply = record { number = n; state = s; page = texts; reply = reply }
+
+pub record PanelCalls : Type 0 where
+  pub page-size : length page ≡ pageSize
+  pub begins : begin.beginsRead page fresh maxMessage ≡ reacts 0 panel1 page request
+  pub resends : begin.resends page panel1 maxMessage ≡ reacts 0 panel1 page request
+  -- part 1 is taken, and once more refused with 5, nothing touched
+  pub takes : receive.received page panel1 part1 maxMessage ≡ reacts 0 panel2 page2 success
+  pub refuses : receive.received page2 panel2 part1 maxMessage ≡ reacts 5 panel2 page2 []
+  -- part 2 ends the read
+  pub ends : receive.received page2 panel2 part2 maxMessage ≡ reacts 1 panel3 page3 []
+  pub request-sent : Sent request
+  pub success-sent : Sent success
+  -- then cluster 6 is whole at version 5, and cluster 8, whose entries are of two versions, is not
+  pub whole : saysWhole page3 panel3 1 6 ≡ said 0 (5 ∷ [])
+  pub not-whole : saysWhole page3 panel3 1 8 ≡ said 1 []

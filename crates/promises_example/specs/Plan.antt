@@ -1,0 +1,72 @@
+-- The sign and the panel of the run: a schema of five texts in two clusters, so that a part of a report has room for four of them.
+use mathlib.Core.Bool.{true, false}
+use mathlib.Core.List.{List, [], _∷_, _++_}
+use Prim.Native.Nat.{ℕ, _+_, _*_, _-_, _^_}
+use lib.ListN.{length, replicate}
+use Rattle.schema.specs.Layout.{clusterLimit, attributeLimit, half, textSize}
+use Rattle.acl.specs.declared.Entry.{Entry}
+use Rattle.cached.specs.Limits.{pageSize}
+use Rattle.promises.specs.World.{Plan}
+
+-- a column of the schema, filled up with 0
+abbrev column : ℕ → List ℕ → List ℕ
+column n l = l ++ replicate (n - length l) 0
+
+-- attribute `id` of the cluster at a place of the list of clusters
+abbrev pub key : ℕ → ℕ → ℕ
+key place id = place * half + id
+
+-- a text, readable with View, writable with Operate
+abbrev traits : ℕ
+traits = 4 + 1 * 2 ^ 16 + 2 * 2 ^ 24
+
+-- the word of a cluster on endpoint 1
+abbrev pub path : ℕ → ℕ
+path cluster = 1 * half + cluster
+
+-- subject 1. Endpoint 1 has clusters 6 and 8, at versions 5 and FFFFFFFF, with two and with three texts of 200 bytes
+unfoldable pub words : List ℕ
+words =
+    (2 ∷ 5 ∷ 1 ∷ 0 ∷ [])
+    ++ (column clusterLimit (path 6 ∷ path 8 ∷ [])
+    ++ (column clusterLimit (5 ∷ 0xFFFF_FFFF ∷ [])
+    ++ (column attributeLimit (key 0 0 ∷ key 0 1 ∷ key 1 0 ∷ key 1 1 ∷ key 1 2 ∷ [])
+    ++ (column attributeLimit (replicate 5 traits)
+    ++ (column attributeLimit (0 ∷ 200 ∷ 400 ∷ 600 ∷ 800 ∷ [])
+    ++ (column attributeLimit (replicate 5 200)
+    ++ column attributeLimit (0 ∷ 1 ∷ 2 ∷ 3 ∷ 4 ∷ [])))))))
+
+-- 200 times the same byte
+abbrev pub text : ℕ → List ℕ
+text byte = replicate textSize byte
+
+-- the factory texts are of A, of B, .. of E
+unfoldable pub defaults : List ℕ
+defaults = text 0x41 ++ (text 0x42 ++ (text 0x43 ++ (text 0x44 ++ text 0x45)))
+
+-- a page for the edits of five texts
+unfoldable pub edits : List ℕ
+edits = replicate (5 * textSize) 0
+
+-- the panel's page of texts
+unfoldable pub page : List ℕ
+page = replicate pageSize 0
+
+-- subject 1 may operate every cluster of endpoint 1
+abbrev operator : Entry
+operator =
+    record {
+      privilege = 2;
+      «any_subject» = false;
+      subject = 1;
+      «any_endpoint» = false;
+      endpoint = 1;
+      «any_cluster» = true;
+      cluster = 0;
+    }
+
+unfoldable pub access : List Entry
+access = operator ∷ []
+
+unfoldable pub plan : Plan
+plan = record { words = words; defaults = defaults; table = access }

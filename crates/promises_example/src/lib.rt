@@ -1,0 +1,1 @@
+// No code: a run of both ends in bytes, computed, in which the promises say something.
