@@ -1,5 +1,10 @@
 // Lines that ask the panel what it holds.
+ghost use mathlib.Core.Path.{_≡_};
+ghost use Rattle.octets.specs.Store.{store};
+ghost use Rattle.interaction_writer.specs.Envelope.{bigOctets};
 ghost use Rattle.tlv_writer.specs.Element.{InPage};
+ghost use Rattle.script_answer.specs.declared.Said.the-variants as says;
+ghost use Rattle.script_panel.specs.Shown.{wholeShown, outcomeShown, unknownShown, Shows};
 use cache::State;
 use cache_ask::Abandoned;
 use cache_ask::Ended;
@@ -23,7 +28,9 @@ const VERSION_SIZE: usize = 4;
 const EXCHANGE_SIZE: usize = 5;
 
 // A version's four bytes, the most significant first.
-fn put_version(out: &mut [u8; MAX_MESSAGE], v: u32) {
+fn put_version(out: &mut [u8; MAX_MESSAGE], v: u32)
+    ensures { λ _. ⌜ now (out .exit) ≡ store (now (out .entry)) 0 (bigOctets 4 v) ⌝ }
+{
     out[0] = (v / 16_777_216 % 256) as u8;
     out[1] = (v / 65_536 % 256) as u8;
     out[2] = (v / 256 % 256) as u8;
@@ -31,7 +38,9 @@ fn put_version(out: &mut [u8; MAX_MESSAGE], v: u32) {
 }
 
 // An exchange's five bytes, likewise.
-fn put_exchange(out: &mut [u8; MAX_MESSAGE], n: u64) {
+fn put_exchange(out: &mut [u8; MAX_MESSAGE], n: u64)
+    ensures { λ _. ⌜ now (out .exit) ≡ store (now (out .entry)) 0 (bigOctets 5 n) ⌝ }
+{
     out[0] = (n / 4_294_967_296 % 256) as u8;
     out[1] = (n / 16_777_216 % 256) as u8;
     out[2] = (n / 65_536 % 256) as u8;
@@ -67,8 +76,54 @@ fn put_value(out: &mut [u8], v: Value, page: &[u8]) -> usize {
     tlv_writer::put_value(out, VERSION_SIZE, Tag::Anonymous, shown, page)
 }
 
-fn said(number: u8, len: usize) -> Said {
+fn said(number: u8, len: usize) -> Said
+    ensures { λ r. ⌜ r ≡ says.Line number len ⌝ }
+{
     Said::Line { number, len }
+}
+
+fn say_whole(w: Whole, out: &mut [u8; MAX_MESSAGE]) -> Said
+    ensures { λ r. ⌜ Shows (wholeShown w) (now (out .entry)) (now (out .exit)) r ⌝ }
+{
+    match w {
+        Whole::Broken => said(cache::BROKEN, 0),
+        Whole::No => said(cache::NOTHING, 0),
+        Whole::At(v) => {
+            put_version(out, v);
+            said(cache::DONE, VERSION_SIZE)
+        }
+    }
+}
+
+fn say_outcome(e: Ended, out: &mut [u8; MAX_MESSAGE]) -> Said
+    ensures { λ r. ⌜ Shows (outcomeShown e) (now (out .entry)) (now (out .exit)) r ⌝ }
+{
+    match e {
+        Ended::Broken => said(cache::BROKEN, 0),
+        Ended::NoneYet => said(cache::NOTHING, 0),
+        Ended::Open => {
+            out[0] = 0;
+            said(cache::NOTHING, 1)
+        }
+        Ended::LastPart => said(cache::DONE, 0),
+        Ended::Status(code) => {
+            out[0] = code;
+            said(cache::DONE, 1)
+        }
+    }
+}
+
+fn say_unknown(a: Abandoned, out: &mut [u8; MAX_MESSAGE]) -> Said
+    ensures { λ r. ⌜ Shows (unknownShown a) (now (out .entry)) (now (out .exit)) r ⌝ }
+{
+    match a {
+        Abandoned::Broken => said(cache::BROKEN, 0),
+        Abandoned::Nothing => said(cache::NOTHING, 0),
+        Abandoned::Exchange(n) => {
+            put_exchange(out, n);
+            said(cache::DONE, EXCHANGE_SIZE)
+        }
+    }
 }
 
 fn whole_line(
@@ -82,14 +137,7 @@ fn whole_line(
     if !is_done(a.next) {
         return Said::Wrong(UNREADABLE);
     }
-    match cache_ask::coherent(page, panel, a.endpoint, a.cluster) {
-        Whole::Broken => said(cache::BROKEN, 0),
-        Whole::No => said(cache::NOTHING, 0),
-        Whole::At(v) => {
-            put_version(out, v);
-            said(cache::DONE, VERSION_SIZE)
-        }
-    }
+    say_whole(cache_ask::coherent(page, panel, a.endpoint, a.cluster), out)
 }
 
 fn entry_line(
@@ -122,19 +170,7 @@ fn outcome_line(
     if !is_done(s) {
         return Said::Wrong(UNREADABLE);
     }
-    match cache_ask::outcome(page, panel) {
-        Ended::Broken => said(cache::BROKEN, 0),
-        Ended::NoneYet => said(cache::NOTHING, 0),
-        Ended::Open => {
-            out[0] = 0;
-            said(cache::NOTHING, 1)
-        }
-        Ended::LastPart => said(cache::DONE, 0),
-        Ended::Status(code) => {
-            out[0] = code;
-            said(cache::DONE, 1)
-        }
-    }
+    say_outcome(cache_ask::outcome(page, panel), out)
 }
 
 fn unknown_line(
@@ -146,14 +182,7 @@ fn unknown_line(
     if !is_done(s) {
         return Said::Wrong(UNREADABLE);
     }
-    match cache_ask::unknown(page, panel) {
-        Abandoned::Broken => said(cache::BROKEN, 0),
-        Abandoned::Nothing => said(cache::NOTHING, 0),
-        Abandoned::Exchange(n) => {
-            put_exchange(out, n);
-            said(cache::DONE, EXCHANGE_SIZE)
-        }
-    }
+    say_unknown(cache_ask::unknown(page, panel), out)
 }
 
 // A line that is none of the others, if it is one at all.
