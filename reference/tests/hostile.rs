@@ -4,59 +4,8 @@
 use std::io::Write;
 use std::process::{Command, Stdio};
 
-use reference::generate;
+use reference::generate::hostile;
 use reference::player::run;
-use reference::rng::Rng;
-
-const WORDS: [&str; 24] = [
-    "",
-    "-",
-    "*",
-    "0",
-    "1",
-    "-1",
-    "00",
-    "FF",
-    "G0",
-    "#",
-    "65535",
-    "65536",
-    "4294967295",
-    "4294967296",
-    "18446744073709551615",
-    "18446744073709551616",
-    "-9223372036854775808",
-    "-9223372036854775809",
-    "1099511627775",
-    "null",
-    "text",
-    "float",
-    "7FC00000",
-    "+1",
-];
-
-const STARTS: [&str; 20] = [
-    "subject",
-    "cluster",
-    "attribute",
-    "access",
-    "start",
-    "buffer",
-    "sign",
-    "change",
-    "read",
-    "resend",
-    "write",
-    "panel",
-    "forward",
-    "back",
-    "whole",
-    "entry",
-    "outcome",
-    "unknown",
-    "used",
-    "nothing",
-];
 
 /// The run either went through or named a line that is there.
 fn play(script: &[u8]) -> bool {
@@ -71,100 +20,24 @@ fn play(script: &[u8]) -> bool {
     stopped.is_some()
 }
 
-/// Changes some words of a line, or its bytes.
-fn damage(rng: &mut Rng, line: &str) -> Vec<u8> {
-    let mut words: Vec<String> = line.split(' ').map(str::to_string).collect();
-    let at = rng.below(words.len());
-    match rng.below(6) {
-        0 => {
-            words.remove(at);
-        }
-        1 => words.insert(at, rng.pick(&WORDS).to_string()),
-        2 => words[at] = rng.pick(&WORDS).to_string(),
-        3 => words[0] = rng.pick(&STARTS).to_string(),
-        4 => words.truncate(at),
-        _ => {
-            let mut bytes = line.as_bytes().to_vec();
-            let at = rng.below(bytes.len().max(1)).min(bytes.len());
-            bytes.insert(at, rng.draw() as u8);
-            return bytes;
-        }
-    }
-    words.join(" ").into_bytes()
-}
-
 #[test]
-fn damaged_lines() {
-    let mut stopped = 0;
-    for seed in 0..1500 {
-        let mut rng = Rng::new(seed ^ 0xDA3A);
-        let mut script = Vec::new();
-        for line in generate::script(seed % 300).lines {
-            if rng.chance(3) {
-                script.extend(damage(&mut rng, &line));
-            } else {
-                script.extend(line.as_bytes());
-            }
-            script.push(b'\n');
-        }
-        stopped += usize::from(play(&script));
-    }
+fn lines_damaged() {
+    let stopped = (0..1500).filter(|seed| play(&hostile::damaged_lines(*seed))).count();
     assert!(stopped > 500, "hardly a line was damaged: {stopped}");
 }
 
-/// Lines put together from words that mean something elsewhere.
 #[test]
-fn lines_of_any_words() {
+fn words_and_bytes() {
     for seed in 0..4000 {
-        let mut rng = Rng::new(seed);
-        let mut script =
-            String::from("subject 7\ncluster 1 6 5\nattribute 1 6 0 1 1 1 bool 1\nstart\n");
-        for _ in 0..20 {
-            script.push_str(rng.pick::<&str>(&STARTS));
-            for _ in 0..rng.below(7) {
-                script.push(' ');
-                script.push_str(rng.pick::<&str>(&WORDS));
-            }
-            script.push('\n');
-        }
-        play(script.as_bytes());
+        play(&hostile::lines_of_any_words(seed));
+        play(&hostile::any_bytes(seed));
     }
 }
 
 #[test]
-fn any_bytes() {
-    for seed in 0..2000 {
-        let mut rng = Rng::new(seed);
-        let length = rng.below(300);
-        play(&rng.bytes(length));
-    }
-}
-
-/// Messages of any bytes behind an envelope that is let in, so that the readers get to see them.
-#[test]
-fn any_payload() {
-    const CONTROLS: [u8; 16] = [
-        0x15, 0x35, 0x36, 0x37, 0x16, 0x17, 0x18, 0x24, 0x25, 0x26, 0x27, 0x2C, 0x33, 0x29, 0x28,
-        0xD5,
-    ];
+fn payloads() {
     for seed in 0..3000 {
-        let mut rng = Rng::new(seed);
-        let mut script =
-            String::from("subject 7\ncluster 1 6 5\nattribute 1 6 0 1 1 1 text\nstart\nread\n");
-        for exchange in 1..10 {
-            let mut payload = vec![0x15];
-            for _ in 0..rng.below(40) {
-                let known = *rng.pick(&CONTROLS);
-                payload.push(if rng.chance(60) { known } else { rng.below(8) as u8 });
-            }
-            let hex: String = payload.iter().map(|byte| format!(" {byte:02X}")).collect();
-            let opcode = *rng.pick(&[1, 2, 6]);
-            script
-                .push_str(&format!("sign 7 {opcode:02X} 00 00 00 00 {exchange:02X} 00 00{hex}\n"));
-            let opcode = *rng.pick(&[1, 5, 7]);
-            script.push_str(&format!("panel {opcode:02X} 00 00 00 00 01 00 01{hex}\n"));
-        }
-        assert!(!play(script.as_bytes()));
+        assert!(!play(&hostile::any_payload(seed)));
     }
 }
 

@@ -1,78 +1,86 @@
 // One line of a script, by its first word.
-use super::ask::ask_line;
-use super::attribute::attribute_line;
-use super::panel::is_panel;
-use super::panel::panel_side;
-use super::plan::start;
-use super::player::NO_SIGN;
-use super::player::PAGE;
 use super::player::Played;
 use super::player::Player;
-use super::player::UNREADABLE;
-use super::player::quietly;
-use super::setup::access_line;
-use super::setup::cluster_line;
-use super::setup::subject_line;
-use super::sign::is_sign;
-use super::sign::sign_side;
+use super::player::started;
 use super::turns::acted;
 use super::turns::buffer_line;
 use super::turns::given;
+use super::turns::quiet;
 use super::turns::replied;
 use super::turns::used_line;
 use super::turns::wrong;
+use cached::PAGE_SIZE;
+use envelope::MAX_MESSAGE;
 use kinds::stored::same_bytes;
-use replies::MAX_MESSAGE;
-use schema::ATTRIBUTES;
 use schema::WORDS;
 use script::Scan;
 use script::is_done;
+use script_answer::NO_SIGN;
+use script_answer::UNREADABLE;
+use script_panel::ask::ask_line;
+use script_panel::is_panel;
+use script_panel::panel_line;
+use script_setup::PAGE;
+use script_setup::SETUP;
+use script_setup::access::access_line;
+use script_setup::is_setup;
+use script_setup::plan::set_schema;
+use script_setup::setup_line;
+use script_sign::is_sign;
+use script_sign::sign_line;
 
+// `start`
 fn start_line(
     s: Scan,
     p: Player,
-    setup: &[u64; WORDS],
-    paths: &[u64; ATTRIBUTES],
-    texts: &[u8; PAGE],
+    setup: &[u64; SETUP],
     words: &mut [u64; WORDS],
-    defaults: &mut [u8; PAGE],
+    defaults: &[u8; PAGE],
 ) -> Played {
     if !is_done(s) {
         return wrong(p, UNREADABLE);
     }
-    start(p, setup, paths, texts, words, defaults)
+    set_schema(setup, words);
+    started(p, words, defaults)
 }
 
-// Whether a line sets up a sign.
-fn is_setup(name: &[u8]) -> bool {
-    if same_bytes(name, b"subject") {
+// Whether a line wants no sign: it is skipped, or it sets one up.
+fn wants_none(name: &[u8], line: &[u8]) -> bool {
+    if script::is_skipped(line) {
         return true;
     }
-    if same_bytes(name, b"cluster") {
+    if is_setup(name) {
         return true;
     }
-    same_bytes(name, b"attribute")
+    if same_bytes(name, b"access") {
+        return true;
+    }
+    same_bytes(name, b"start")
 }
 
-fn setup_line(
+// Such a line. A factory text stands at a place that no sign made before it looks at, so it goes to the page at once.
+fn setting_up(
     name: &[u8],
     line: &[u8],
     s: Scan,
-    setup: &mut [u64; WORDS],
-    paths: &mut [u64; ATTRIBUTES],
-    texts: &mut [u8; PAGE],
-) -> bool {
-    if same_bytes(name, b"subject") {
-        return subject_line(line, s, setup);
+    p: Player,
+    setup: &mut [u64; SETUP],
+    words: &mut [u64; WORDS],
+    defaults: &mut [u8; PAGE],
+) -> Played {
+    if script::is_skipped(line) {
+        return quiet(p, true);
     }
-    if same_bytes(name, b"cluster") {
-        return cluster_line(line, s, setup);
+    if is_setup(name) {
+        return quiet(p, setup_line(name, line, s, setup, defaults));
     }
-    attribute_line(line, s, setup, paths, texts)
+    if same_bytes(name, b"access") {
+        return given(p, access_line(line, s, p.given));
+    }
+    start_line(s, p, setup, words, defaults)
 }
 
-// Every line that wants a sign.
-fn end_line<'a>(
+fn sign_turn<'a>(
     name: &[u8],
     line: &[u8],
     s: Scan,
@@ -80,30 +88,35 @@ fn end_line<'a>(
     words: &'a [u64; WORDS],
     defaults: &'a [u8; PAGE],
     edits: &mut [u8; PAGE],
-    page: &mut [u8; PAGE],
     out: &mut [u8; MAX_MESSAGE],
 ) -> Played {
-    if !p.live {
-        return wrong(p, NO_SIGN);
-    }
-    if is_sign(name) {
-        let r = sign_side(
-            name,
-            line,
-            s,
-            p.sign,
-            p.table,
-            p.sent,
-            words,
-            defaults,
-            edits,
-            out,
-            p.room,
-        );
-        return replied(p, r, out);
-    }
+    let r = sign_line(
+        name,
+        line,
+        s,
+        p.sign,
+        p.table,
+        p.sent,
+        words,
+        defaults,
+        edits,
+        out,
+        p.room,
+    );
+    replied(p, r, out)
+}
+
+// A line for the panel, or one about the run itself.
+fn panel_turn(
+    name: &[u8],
+    line: &[u8],
+    s: Scan,
+    p: Player,
+    page: &mut [u8; PAGE_SIZE],
+    out: &mut [u8; MAX_MESSAGE],
+) -> Played {
     if is_panel(name) {
-        let a = panel_side(name, line, s, p.panel, p.replied, page, out, p.room);
+        let a = panel_line(name, line, s, p.panel, p.replied, page, out, p.room);
         return acted(p, a, out);
     }
     if same_bytes(name, b"buffer") {
@@ -116,35 +129,43 @@ fn end_line<'a>(
     Played { player: p, said }
 }
 
-// A line that is not skipped.
+// Every line that wants a sign.
+fn end_line<'a>(
+    name: &[u8],
+    line: &[u8],
+    s: Scan,
+    p: Player,
+    words: &'a [u64; WORDS],
+    defaults: &'a [u8; PAGE],
+    edits: &mut [u8; PAGE],
+    page: &mut [u8; PAGE_SIZE],
+    out: &mut [u8; MAX_MESSAGE],
+) -> Played {
+    if !p.live {
+        return wrong(p, NO_SIGN);
+    }
+    if is_sign(name) {
+        return sign_turn(name, line, s, p, words, defaults, edits, out);
+    }
+    panel_turn(name, line, s, p, page, out)
+}
+
 pub fn play_line(
     line: &[u8],
     p: Player,
-    setup: &mut [u64; WORDS],
-    paths: &mut [u64; ATTRIBUTES],
-    texts: &mut [u8; PAGE],
+    setup: &mut [u64; SETUP],
     words: &mut [u64; WORDS],
     defaults: &mut [u8; PAGE],
     edits: &mut [u8; PAGE],
-    page: &mut [u8; PAGE],
+    page: &mut [u8; PAGE_SIZE],
     out: &mut [u8; MAX_MESSAGE],
 ) -> Played {
     let w = script::next_word(line, script::begin());
     let from = w.start;
     let to = w.end;
     let name = &line[from..to];
-    if is_setup(name) {
-        let ok = setup_line(name, line, w.next, setup, paths, texts);
-        return Played {
-            player: p,
-            said: quietly(ok),
-        };
-    }
-    if same_bytes(name, b"access") {
-        return given(p, access_line(line, w.next, p.given));
-    }
-    if same_bytes(name, b"start") {
-        return start_line(w.next, p, setup, paths, texts, words, defaults);
+    if wants_none(name, line) {
+        return setting_up(name, line, w.next, p, setup, words, defaults);
     }
     end_line(name, line, w.next, p, words, defaults, edits, page, out)
 }

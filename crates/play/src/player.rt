@@ -1,21 +1,12 @@
 // What a script has made so far, and what a line of it says.
-use super::setup::Table;
-use acl::ENTRIES;
-use acl::Entry;
-use replies::MAX_MESSAGE;
+use envelope::MAX_MESSAGE;
 use schema::WORDS;
-
-// A page of texts: 256 texts of 200 bytes.
-pub const PAGE: usize = cached::PAGE_SIZE;
-
-// A message of up to this many bytes can be written on a line, and one more is kept, to tell an overlong one.
-pub const SPELLED: usize = 2_049;
-
-// The newest message that an end has answered with; none yet where len is 0.
-pub struct Message {
-    pub bytes: [u8; MAX_MESSAGE],
-    pub len: usize,
-}
+use script_answer::Said;
+use script_answer::message::Message;
+use script_answer::message::no_message;
+use script_setup::PAGE;
+use script_setup::access::Table;
+use script_setup::access::no_entries;
 
 pub struct Player {
     // The access table that the lines so far give.
@@ -32,51 +23,9 @@ pub struct Player {
     pub replied: Message,
 }
 
-// What a line says: nothing; a line of answer, its bytes at the start of the buffer; or what is wrong, which stops the run.
-pub enum Said {
-    Nothing,
-    Line { number: u8, len: usize },
-    Wrong(u8),
-}
-
-// What can be wrong; 0 for nothing.
-pub const UNREADABLE: u8 = 1;
-
-pub const NO_SIGN: u8 = 2;
-
-pub const NOT_SENT: u8 = 3;
-
-pub const NOT_REPLIED: u8 = 4;
-
-pub const OVERLONG: u8 = 5;
-
 pub struct Played {
     pub player: Player,
     pub said: Said,
-}
-
-const ANYBODY: Entry = Entry {
-    privilege: 0,
-    any_subject: true,
-    subject: 0,
-    any_endpoint: true,
-    endpoint: 0,
-    any_cluster: true,
-    cluster: 0,
-};
-
-fn no_entries() -> Table {
-    Table {
-        entries: [ANYBODY; ENTRIES],
-        count: 0,
-    }
-}
-
-pub fn no_message() -> Message {
-    Message {
-        bytes: [0u8; MAX_MESSAGE],
-        len: 0,
-    }
 }
 
 // Before any line: no sign and no panel.
@@ -95,11 +44,24 @@ pub fn fresh(words: &[u64; WORDS], defaults: &[u8; PAGE]) -> Player {
     }
 }
 
-// Nothing to say, or a line that could not be read.
-pub fn quietly(ok: bool) -> Said {
-    if ok {
-        Said::Nothing
-    } else {
-        Said::Wrong(UNREADABLE)
+// Both ends anew, of everything that was set up so far; or 11, and there are none.
+pub fn started(p: Player, words: &[u64; WORDS], defaults: &[u8; PAGE]) -> Played {
+    let s = server::start::start(words, defaults);
+    let number = s.number;
+    let sign = s.state;
+    let given = p.given;
+    let player = Player {
+        given,
+        live: number == server::DONE,
+        table: given,
+        room: p.room,
+        sign,
+        panel: cache::begin::fresh(),
+        sent: no_message(),
+        replied: no_message(),
+    };
+    Played {
+        player,
+        said: Said::Line { number, len: 0 },
     }
 }

@@ -1,55 +1,23 @@
 // What the program writes: one line an answer on standard output, and what is wrong on standard error.
-ghost use Prim.Native.Nat.{_<_};
-use super::player::NO_SIGN;
-use super::player::NOT_REPLIED;
-use super::player::NOT_SENT;
-use super::player::OVERLONG;
-use super::player::Said;
-use super::sizes::clip;
-use super::sizes::least;
+use envelope::MAX_MESSAGE;
 use libc::STDERR_FILENO;
 use libc::STDOUT_FILENO;
-use replies::MAX_MESSAGE;
-
-// Room for a space and two digits a byte, and the line's end.
-const TEXT: usize = 3 * MAX_MESSAGE + 1;
-
-// The capital hex digit of a number below 16.
-fn digit(n: u8) -> u8
-    requires { ⌜ n < 16 ⌝ }
-{
-    if n < 10 { b'0' + n } else { b'A' + (n - 10) }
-}
-
-// A space and the two digits of each byte, then the line's end; answers how many bytes that takes.
-fn spell(out: &[u8; MAX_MESSAGE], len: usize, text: &mut [u8; TEXT]) -> usize {
-    let n = least(len, MAX_MESSAGE);
-    let mut at = 0;
-    let mut i = 0;
-    while i < n {
-        let x = out[i];
-        text[at] = b' ';
-        text[at + 1] = digit(x / 16 % 16);
-        text[at + 2] = digit(x % 16);
-        at += 3;
-        i += 1;
-    }
-    text[at] = b'\n';
-    at + 1
-}
-
-// The first bytes of a text.
-fn write_first(text: &[u8; TEXT], n: usize) {
-    let whole: &[u8] = text;
-    let k = clip(n, whole);
-    io::write_all(STDOUT_FILENO, &whole[..k]);
-}
+use script::sizes::clip;
+use script_answer::NO_SIGN;
+use script_answer::NOT_REPLIED;
+use script_answer::NOT_SENT;
+use script_answer::OVERLONG;
+use script_answer::Said;
+use script_answer::text::TEXT;
+use script_answer::text::answer_line;
 
 fn answer(number: u8, out: &[u8; MAX_MESSAGE], len: usize) {
     let mut text = [0u8; TEXT];
-    let n = spell(out, len, &mut text);
-    io::print_decimal(STDOUT_FILENO, number as u64);
-    write_first(&text, n);
+    let whole: &[u8] = out;
+    let n = clip(len, whole);
+    let end = answer_line(&mut text, number, &whole[..n]);
+    let k = clip(end, &text);
+    io::write_all(STDOUT_FILENO, &text[..k]);
 }
 
 fn complain(text: &[u8]) {

@@ -1,16 +1,16 @@
 // What a line leaves behind: the ends after it, and the newest messages.
-use super::message::keep;
-use super::panel::Acted;
 use super::player::Played;
 use super::player::Player;
-use super::player::Said;
-use super::player::quietly;
-use super::setup::Given;
-use super::sign::Replied;
-use replies::MAX_MESSAGE;
+use envelope::MAX_MESSAGE;
 use script::Scan;
 use script::is_done;
 use script::number::read_number;
+use script_answer::Said;
+use script_answer::message::newer;
+use script_answer::quietly;
+use script_panel::Acted;
+use script_setup::access::Given;
+use script_sign::Replied;
 
 // The last exchange number of 40 bits.
 const LAST_EXCHANGE: u64 = 1_099_511_627_775;
@@ -22,6 +22,14 @@ pub fn wrong(player: Player, fault: u8) -> Played {
     }
 }
 
+// A line that says nothing, if it could be read.
+pub fn quiet(player: Player, ok: bool) -> Played {
+    Played {
+        player,
+        said: quietly(ok),
+    }
+}
+
 // The sign after a line; its reply, if it made one, is its newest.
 pub fn replied(p: Player, r: Replied, out: &[u8; MAX_MESSAGE]) -> Played {
     if r.fault != 0 {
@@ -29,18 +37,12 @@ pub fn replied(p: Player, r: Replied, out: &[u8; MAX_MESSAGE]) -> Played {
     }
     let o = r.outcome;
     let sign = o.state;
-    let mut player = p;
-    player.sign = sign;
     let number = o.number;
     let len = o.len;
-    if 0 < len {
-        let reply = keep(out, len);
-        player.replied = reply;
-        return Played {
-            player,
-            said: Said::Line { number, len },
-        };
-    }
+    let reply = newer(p.replied, out, len);
+    let mut player = p;
+    player.sign = sign;
+    player.replied = reply;
     Played {
         player,
         said: Said::Line { number, len },
@@ -54,18 +56,12 @@ pub fn acted(p: Player, a: Acted, out: &[u8; MAX_MESSAGE]) -> Played {
     }
     let o = a.outcome;
     let panel = o.state;
-    let mut player = p;
-    player.panel = panel;
     let number = o.number;
     let len = o.len;
-    if 0 < len {
-        let message = keep(out, len);
-        player.sent = message;
-        return Played {
-            player,
-            said: Said::Line { number, len },
-        };
-    }
+    let message = newer(p.sent, out, len);
+    let mut player = p;
+    player.panel = panel;
+    player.sent = message;
     Played {
         player,
         said: Said::Line { number, len },
@@ -77,10 +73,7 @@ pub fn given(p: Player, g: Given) -> Played {
     let table = g.table;
     let mut player = p;
     player.given = table;
-    Played {
-        player,
-        said: quietly(g.ok),
-    }
+    quiet(player, g.ok)
 }
 
 // `buffer`: the length of the buffer lent from here on.
@@ -88,10 +81,7 @@ pub fn buffer_line(line: &[u8], s: Scan, p: Player) -> Played {
     let n = read_number(line, s, u64::MAX);
     let mut player = p;
     player.room = n.value as usize;
-    Played {
-        player,
-        said: quietly(is_done(n.next)),
-    }
+    quiet(player, is_done(n.next))
 }
 
 // The panel's exchange numbers up to n count as used; that never lowers them.
@@ -111,8 +101,5 @@ pub fn used_line(line: &[u8], s: Scan, p: Player) -> Played {
     let panel = used_up(p.panel, n.value);
     let mut player = p;
     player.panel = panel;
-    Played {
-        player,
-        said: quietly(is_done(n.next)),
-    }
+    quiet(player, is_done(n.next))
 }

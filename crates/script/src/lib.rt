@@ -1,11 +1,11 @@
 // The lines of a script: words separated by single spaces, numbers, bytes and values. No input and no output.
-ghost use Prim.Native.Nat.{_≤_};
 ghost use lib.ListN.{length};
 ghost use Rattle.script.specs.Words.{Within};
 
-pub mod bytes; // bytes.rt: bytes of two hex digits each
+pub mod hex; // hex.rt: bytes of two hex digits each
 pub mod number; // number.rt: decimal and hexadecimal numbers
 pub mod path; // path.rt: endpoint, cluster and attribute
+pub mod sizes; // sizes.rt: numbers held to what there is
 pub mod value; // value.rt: a value of one of the kinds, or null
 
 // How far a line has been read. What can't be read makes every later step fail, so that one test at the end of a line is enough.
@@ -55,21 +55,6 @@ pub fn is_skipped(line: &[u8]) -> bool {
     line[0] == b'#'
 }
 
-// Where a byte next stands from here on, or the end.
-pub fn find(s: &[u8], at: usize, byte: u8) -> usize
-    requires { ⌜ at ≤ length (now s) ⌝ }
-    ensures { λ r. ⌜ (at ≤ r) × (r ≤ length (now (s .entry))) ⌝ }
-{
-    let mut i = at;
-    while i < s.len() {
-        if s[i] == byte {
-            return i;
-        }
-        i += 1;
-    }
-    i
-}
-
 // The next word; an empty one where none is left, which could not be read. Two spaces side by side have an empty word between them.
 pub fn next_word(line: &[u8], s: Scan) -> Word
     ensures { λ r. ⌜ Within r (length (now (line .entry))) ⌝ }
@@ -81,7 +66,7 @@ pub fn next_word(line: &[u8], s: Scan) -> Word
     if line.len() < at {
         return missing(at);
     }
-    let end = find(line, at, b' ');
+    let end = bytes::scan::find(line, at, line.len(), b' ');
     if end < line.len() {
         return Word {
             start: at,

@@ -2,7 +2,7 @@
 ghost use Prim.Native.Nat.{_≤_};
 ghost use lib.ListN.{length};
 use super::Scan;
-use super::bytes::rest;
+use super::hex::rest;
 use super::is_done;
 use super::next_word;
 use super::number::read_flag;

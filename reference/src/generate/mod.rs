@@ -5,6 +5,7 @@ mod damage;
 mod disguise;
 mod filter_scenes;
 mod honest_scenes;
+pub mod hostile;
 mod limit_scenes;
 pub mod maker;
 mod panel_scenes;

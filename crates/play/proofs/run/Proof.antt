@@ -4,51 +4,48 @@ use Rattle.play.proofs.run.Statement.{statement}
 use Rattle.play.proofs.run.Tie as tie
 
 abbrev Inv-loop : tie.InvT-loop
-Inv-loop input₀ setup₀ paths₀ texts₀ words₀ defaults₀ edits₀ page₀ out₀ player₀ number₀ kept₀ turns₀ input setup paths texts words defaults edits page out player number kept turns =
+Inv-loop input₀ setup₀ words₀ defaults₀ edits₀ page₀ out₀ player₀ reader₀ turns₀ input setup words defaults edits page out player reader turns =
     Unit {0}
 
 abbrev μ-loop : tie.MeasureT-loop
-μ-loop input₀ setup₀ paths₀ texts₀ words₀ defaults₀ edits₀ page₀ out₀ player₀ number₀ kept₀ turns₀ input setup paths texts words defaults edits page out player number kept turns =
+μ-loop input₀ setup₀ words₀ defaults₀ edits₀ page₀ out₀ player₀ reader₀ turns₀ input setup words defaults edits page out player reader turns =
     turns
+
+begin-requires : tie.Need-begin-requires Inv-loop μ-loop
+begin-requires c κs = search needs
 
 loop-holds : tie.Need-loop-holds Inv-loop μ-loop
 loop-holds c = search needs
 
-more-requires : tie.Need-more-requires Inv-loop μ-loop
-more-requires c κs = search needs
-
-whole-lines-requires : tie.Need-whole-lines-requires Inv-loop μ-loop
-whole-lines-requires c κs = search needs
+next-line-requires : tie.Need-next-line-requires Inv-loop μ-loop
+next-line-requires c κs = search needs
 
 returns : tie.Need-returns Inv-loop μ-loop
 returns c = search needs
 
+line-of-requires : tie.Need-line-of-requires Inv-loop μ-loop
+line-of-requires c κs = search needs
+
+play-line-requires : tie.Need-play-line-requires Inv-loop μ-loop
+play-line-requires c κs = search needs
+
+show-requires : tie.Need-show-requires Inv-loop μ-loop
+show-requires c κs = search needs
+
 returns-2 : tie.Need-returns-2 Inv-loop μ-loop
 returns-2 c = search needs
 
-shift-requires : tie.Need-shift-requires Inv-loop μ-loop
-shift-requires c κs = search needs
-
-wrapping-add-u64-requires : tie.Need-wrapping-add-u64-requires Inv-loop μ-loop
-wrapping-add-u64-requires c κs = search needs
-
-wrong-requires : tie.Need-wrong-requires Inv-loop μ-loop
-wrong-requires c κs = search needs
-
-returns-3 : tie.Need-returns-3 Inv-loop μ-loop
-returns-3 c = search needs
-
 sub-turns : tie.Need-sub-turns Inv-loop μ-loop
-sub-turns c = omega (arith, c .before .before .before .before .before .before .before .before .before .before .before .before .before .before .before .before .before .before .before .loop-test .taken)
+sub-turns c = omega (arith, c .before .before .before .before .before .before .before .before .before .before .before .before .before .before .before .before .loop-test .taken)
 
 loop-less : tie.Need-loop-less Inv-loop μ-loop
-loop-less c = omega (arith, c .before .before .before .before .before .before .before .before .before .before .before .before .before .before .before .before .before .before .before .loop-test .taken)
+loop-less c = omega (arith, c .before .before .before .before .before .before .before .before .before .before .before .before .before .before .before .before .loop-test .taken)
 
 loop-again : tie.Need-loop-again Inv-loop μ-loop
 loop-again c = search needs
 
-returns-4 : tie.Need-returns-4 Inv-loop μ-loop
-returns-4 c = search needs
+returns-3 : tie.Need-returns-3 Inv-loop μ-loop
+returns-3 c = search needs
 
 pub run-spec : {M : Type 1} → statement M
 run-spec =
@@ -56,16 +53,15 @@ run-spec =
     (tie.spec
     Inv-loop
     μ-loop
+    begin-requires
     loop-holds
-    more-requires
-    whole-lines-requires
+    next-line-requires
     returns
+    line-of-requires
+    play-line-requires
+    show-requires
     returns-2
-    shift-requires
-    wrapping-add-u64-requires
-    wrong-requires
-    returns-3
     sub-turns
     loop-less
     loop-again
-    returns-4)
+    returns-3)

@@ -1,0 +1,30 @@
+// What a line of a script says, and the messages that lines hand over. No input and no output.
+pub mod message; // message.rt: messages spelled on a line or kept of an end
+pub mod text; // text.rt: an answer as a line of text
+
+// What a line says: nothing; a line of answer, its bytes at the start of the buffer; or what is wrong, which stops the run.
+pub enum Said {
+    Nothing,
+    Line { number: u8, len: usize },
+    Wrong(u8),
+}
+
+// What can be wrong; 0 for nothing.
+pub const UNREADABLE: u8 = 1;
+
+pub const NO_SIGN: u8 = 2;
+
+pub const NOT_SENT: u8 = 3;
+
+pub const NOT_REPLIED: u8 = 4;
+
+pub const OVERLONG: u8 = 5;
+
+// Nothing to say, or a line that could not be read.
+pub fn quietly(ok: bool) -> Said {
+    if ok {
+        Said::Nothing
+    } else {
+        Said::Wrong(UNREADABLE)
+    }
+}

@@ -1,0 +1,77 @@
+// The messages that lines hand over: spelled on the line, or the newest one that an end has made.
+use super::UNREADABLE;
+use envelope::MAX_MESSAGE;
+use script::Scan;
+use script::hex::SPELLED;
+use script::hex::rest;
+use script::is_done;
+use script::sizes::least;
+
+// The first len of the bytes; an end that has made no message yet has one of length 0.
+pub struct Message {
+    pub bytes: [u8; SPELLED],
+    pub len: usize,
+}
+
+// The message that a line hands over, or what is wrong with the line.
+pub struct Handed {
+    pub message: Message,
+    pub fault: u8,
+}
+
+pub fn no_message() -> Message {
+    Message {
+        bytes: [0u8; SPELLED],
+        len: 0,
+    }
+}
+
+// The newest message of an end that has just answered: what stands in the buffer, or what it was if nothing was sent.
+pub fn newer(old: Message, out: &[u8; MAX_MESSAGE], len: usize) -> Message {
+    if len == 0 {
+        return old;
+    }
+    let mut bytes = [0u8; SPELLED];
+    octets::put_bytes(&mut bytes, 0, out);
+    Message {
+        bytes,
+        len: least(len, MAX_MESSAGE),
+    }
+}
+
+fn nothing(fault: u8) -> Handed {
+    Handed {
+        message: no_message(),
+        fault,
+    }
+}
+
+// The bytes on the rest of the line.
+pub fn spelled(line: &[u8], s: Scan) -> Handed {
+    let mut bytes = [0u8; SPELLED];
+    let b = rest(line, s, &mut bytes);
+    if !b.ok {
+        return nothing(UNREADABLE);
+    }
+    if SPELLED <= b.len {
+        return nothing(UNREADABLE);
+    }
+    Handed {
+        message: Message { bytes, len: b.len },
+        fault: 0,
+    }
+}
+
+// The newest message of an end, for a line that has no word more; what is wrong if there is none.
+pub fn newest(s: Scan, m: Message, none: u8) -> Handed {
+    if !is_done(s) {
+        return nothing(UNREADABLE);
+    }
+    if m.len == 0 {
+        return nothing(none);
+    }
+    Handed {
+        message: m,
+        fault: 0,
+    }
+}

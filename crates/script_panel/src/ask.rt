@@ -1,0 +1,210 @@
+// Lines that ask the panel what it holds.
+ghost use mathlib.Core.Path.{_≡_};
+ghost use Rattle.octets.specs.Store.{store};
+ghost use Rattle.interaction_writer.specs.Envelope.{bigOctets};
+ghost use Rattle.tlv_writer.specs.Element.{InPage};
+ghost use Rattle.script_answer.specs.declared.Said.the-variants as says;
+ghost use Rattle.script_panel.specs.Shown.{wholeShown, outcomeShown, unknownShown, Shows};
+use cache::State;
+use cache_ask::Abandoned;
+use cache_ask::Ended;
+use cache_ask::Held;
+use cache_ask::Whole;
+use cached::PAGE_SIZE;
+use envelope::MAX_MESSAGE;
+use kinds::stored::same_bytes;
+use script::Scan;
+use script::is_done;
+use script::path::read_path;
+use script::path::read_place;
+use script_answer::Said;
+use script_answer::UNREADABLE;
+use tlv::Value;
+use tlv_writer::Tag;
+use tlv_writer::lengths::value_len;
+
+const VERSION_SIZE: usize = 4;
+
+const EXCHANGE_SIZE: usize = 5;
+
+// A version's four bytes, the most significant first.
+fn put_version(out: &mut [u8; MAX_MESSAGE], v: u32)
+    ensures { λ _. ⌜ now (out .exit) ≡ store (now (out .entry)) 0 (bigOctets 4 v) ⌝ }
+{
+    out[0] = (v / 16_777_216 % 256) as u8;
+    out[1] = (v / 65_536 % 256) as u8;
+    out[2] = (v / 256 % 256) as u8;
+    out[3] = (v % 256) as u8;
+}
+
+// An exchange's five bytes, likewise.
+fn put_exchange(out: &mut [u8; MAX_MESSAGE], n: u64)
+    ensures { λ _. ⌜ now (out .exit) ≡ store (now (out .entry)) 0 (bigOctets 5 n) ⌝ }
+{
+    out[0] = (n / 4_294_967_296 % 256) as u8;
+    out[1] = (n / 16_777_216 % 256) as u8;
+    out[2] = (n / 65_536 % 256) as u8;
+    out[3] = (n / 256 % 256) as u8;
+    out[4] = (n % 256) as u8;
+}
+
+// A value whose text, if it is one, lies in the page; null for one that does not, which no call of ours makes.
+fn held(v: Value, page: &[u8]) -> Value
+    ensures { λ r. ⌜ InPage (now (page .entry)) r ⌝ }
+{
+    let Value::Text { start, len } = v else {
+        return v;
+    };
+    if page.len() < start {
+        return Value::Null;
+    }
+    if page.len() - start < len {
+        return Value::Null;
+    }
+    v
+}
+
+// The value as an untagged element after the version; answers the length of both.
+fn put_value(out: &mut [u8], v: Value, page: &[u8]) -> usize {
+    let shown = held(v, page);
+    if out.len() < VERSION_SIZE {
+        return 0;
+    }
+    if out.len() - VERSION_SIZE < value_len(Tag::Anonymous, shown, page) {
+        return VERSION_SIZE;
+    }
+    tlv_writer::put_value(out, VERSION_SIZE, Tag::Anonymous, shown, page)
+}
+
+fn said(number: u8, len: usize) -> Said
+    ensures { λ r. ⌜ r ≡ says.Line number len ⌝ }
+{
+    Said::Line { number, len }
+}
+
+fn say_whole(w: Whole, out: &mut [u8; MAX_MESSAGE]) -> Said
+    ensures { λ r. ⌜ Shows (wholeShown w) (now (out .entry)) (now (out .exit)) r ⌝ }
+{
+    match w {
+        Whole::Broken => said(cache::BROKEN, 0),
+        Whole::No => said(cache::NOTHING, 0),
+        Whole::At(v) => {
+            put_version(out, v);
+            said(cache::DONE, VERSION_SIZE)
+        }
+    }
+}
+
+fn say_outcome(e: Ended, out: &mut [u8; MAX_MESSAGE]) -> Said
+    ensures { λ r. ⌜ Shows (outcomeShown e) (now (out .entry)) (now (out .exit)) r ⌝ }
+{
+    match e {
+        Ended::Broken => said(cache::BROKEN, 0),
+        Ended::NoneYet => said(cache::NOTHING, 0),
+        Ended::Open => {
+            out[0] = 0;
+            said(cache::NOTHING, 1)
+        }
+        Ended::LastPart => said(cache::DONE, 0),
+        Ended::Status(code) => {
+            out[0] = code;
+            said(cache::DONE, 1)
+        }
+    }
+}
+
+fn say_unknown(a: Abandoned, out: &mut [u8; MAX_MESSAGE]) -> Said
+    ensures { λ r. ⌜ Shows (unknownShown a) (now (out .entry)) (now (out .exit)) r ⌝ }
+{
+    match a {
+        Abandoned::Broken => said(cache::BROKEN, 0),
+        Abandoned::Nothing => said(cache::NOTHING, 0),
+        Abandoned::Exchange(n) => {
+            put_exchange(out, n);
+            said(cache::DONE, EXCHANGE_SIZE)
+        }
+    }
+}
+
+fn whole_line(
+    line: &[u8],
+    s: Scan,
+    panel: State,
+    page: &[u8; PAGE_SIZE],
+    out: &mut [u8; MAX_MESSAGE],
+) -> Said {
+    let a = read_place(line, s);
+    if !is_done(a.next) {
+        return Said::Wrong(UNREADABLE);
+    }
+    say_whole(cache_ask::coherent(page, panel, a.endpoint, a.cluster), out)
+}
+
+fn entry_line(
+    line: &[u8],
+    s: Scan,
+    panel: State,
+    page: &[u8; PAGE_SIZE],
+    out: &mut [u8; MAX_MESSAGE],
+) -> Said {
+    let a = read_path(line, s);
+    if !is_done(a.next) {
+        return Said::Wrong(UNREADABLE);
+    }
+    match cache_ask::entry(page, panel, a.endpoint, a.cluster, a.attribute) {
+        Held::Broken => said(cache::BROKEN, 0),
+        Held::Nothing => said(cache::NOTHING, 0),
+        Held::Here(version, v) => {
+            put_version(out, version);
+            said(cache::DONE, put_value(out, v, page))
+        }
+    }
+}
+
+fn outcome_line(
+    s: Scan,
+    panel: State,
+    page: &[u8; PAGE_SIZE],
+    out: &mut [u8; MAX_MESSAGE],
+) -> Said {
+    if !is_done(s) {
+        return Said::Wrong(UNREADABLE);
+    }
+    say_outcome(cache_ask::outcome(page, panel), out)
+}
+
+fn unknown_line(
+    s: Scan,
+    panel: State,
+    page: &[u8; PAGE_SIZE],
+    out: &mut [u8; MAX_MESSAGE],
+) -> Said {
+    if !is_done(s) {
+        return Said::Wrong(UNREADABLE);
+    }
+    say_unknown(cache_ask::unknown(page, panel), out)
+}
+
+// A line that is none of the others, if it is one at all.
+pub fn ask_line(
+    name: &[u8],
+    line: &[u8],
+    s: Scan,
+    panel: State,
+    page: &[u8; PAGE_SIZE],
+    out: &mut [u8; MAX_MESSAGE],
+) -> Said {
+    if same_bytes(name, b"whole") {
+        return whole_line(line, s, panel, page, out);
+    }
+    if same_bytes(name, b"entry") {
+        return entry_line(line, s, panel, page, out);
+    }
+    if same_bytes(name, b"outcome") {
+        return outcome_line(s, panel, page, out);
+    }
+    if same_bytes(name, b"unknown") {
+        return unknown_line(s, panel, page, out);
+    }
+    Said::Wrong(UNREADABLE)
+}

@@ -1,0 +1,79 @@
+// The access table as the lines give it.
+use acl::ENTRIES;
+use acl::Entry;
+use script::Scan;
+use script::is_done;
+use script::number::read_marked;
+use script::number::read_number;
+use script::path::ENDPOINT_MAX;
+use script::path::ID_MAX;
+
+// The first `count` of the entries are in use.
+pub struct Table {
+    pub entries: [Entry; ENTRIES],
+    pub count: usize,
+}
+
+// The table after an access line, and whether it could be read.
+pub struct Given {
+    pub table: Table,
+    pub ok: bool,
+}
+
+const ANYBODY: Entry = Entry {
+    privilege: 0,
+    any_subject: true,
+    subject: 0,
+    any_endpoint: true,
+    endpoint: 0,
+    any_cluster: true,
+    cluster: 0,
+};
+
+pub fn no_entries() -> Table {
+    Table {
+        entries: [ANYBODY; ENTRIES],
+        count: 0,
+    }
+}
+
+// A table with one entry more; the seventeenth is counted and not kept, and the sign refuses the table.
+fn with_entry(t: Table, e: Entry) -> Table {
+    let n = t.count;
+    let mut entries = t.entries;
+    if n < ENTRIES {
+        entries[n] = e;
+        return Table {
+            entries,
+            count: n + 1,
+        };
+    }
+    Table {
+        entries,
+        count: ENTRIES + 1,
+    }
+}
+
+pub fn access_line(line: &[u8], s: Scan, table: Table) -> Given {
+    let privilege = read_number(line, s, 255);
+    let subject = read_marked(line, privilege.next, b'*', u64::MAX);
+    let endpoint = read_marked(line, subject.next, b'*', ENDPOINT_MAX);
+    let cluster = read_marked(line, endpoint.next, b'*', ID_MAX);
+    if !is_done(cluster.next) {
+        return Given { table, ok: false };
+    }
+    let e = Entry {
+        privilege: privilege.value as u8,
+        any_subject: !subject.given,
+        subject: subject.value,
+        any_endpoint: !endpoint.given,
+        endpoint: endpoint.value as u16,
+        any_cluster: !cluster.given,
+        cluster: cluster.value as u32,
+    };
+    let more = with_entry(table, e);
+    Given {
+        table: more,
+        ok: true,
+    }
+}

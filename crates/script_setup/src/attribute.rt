@@ -1,0 +1,258 @@
+// The setup line of an attribute: its row of the schema's words, and its factory text.
+ghost use Prim.Native.Nat.{_≤_, _<_};
+use super::PAGE;
+use super::PATHS;
+use super::SETUP;
+use super::count_up;
+use kinds::stored::same_bytes;
+use node::FLOAT;
+use node::SIGNED;
+use node::UNSIGNED;
+use schema::ATTRIBUTE_COUNT_WORD;
+use schema::ATTRIBUTES;
+use schema::FIRST;
+use schema::HALF;
+use schema::HIGH;
+use schema::KEY;
+use schema::LOW;
+use schema::NULLABLE_PART;
+use schema::READ_PART;
+use schema::TEXT;
+use schema::TEXT_SIZE;
+use schema::TRAITS;
+use schema::WRITE_PART;
+use script::Scan;
+use script::hex::SPELLED;
+use script::hex::rest;
+use script::is_done;
+use script::next_word;
+use script::number::Marked;
+use script::number::read_flag;
+use script::number::read_float;
+use script::number::read_marked;
+use script::number::read_number;
+use script::number::read_signed;
+use script::path::read_path;
+use script::sizes::clip;
+
+// A kind with its limits and first value, as words of the schema; of a text its length as the highest.
+struct Limits {
+    code: u64,
+    low: u64,
+    high: u64,
+    first: u64,
+    ok: bool,
+}
+
+const BOOLEAN: u64 = 0;
+
+fn boolean(line: &[u8], s: Scan) -> Limits
+    ensures { λ r. ⌜ r .code < 256 ⌝ }
+{
+    let first = read_flag(line, s);
+    Limits {
+        code: BOOLEAN,
+        low: 0,
+        high: 0,
+        first: first.value,
+        ok: is_done(first.next),
+    }
+}
+
+fn unsigned(line: &[u8], s: Scan) -> Limits
+    ensures { λ r. ⌜ r .code < 256 ⌝ }
+{
+    let low = read_number(line, s, u64::MAX);
+    let high = read_number(line, low.next, u64::MAX);
+    let first = read_number(line, high.next, u64::MAX);
+    Limits {
+        code: UNSIGNED,
+        low: low.value,
+        high: high.value,
+        first: first.value,
+        ok: is_done(first.next),
+    }
+}
+
+fn integer(line: &[u8], s: Scan) -> Limits
+    ensures { λ r. ⌜ r .code < 256 ⌝ }
+{
+    let low = read_signed(line, s);
+    let high = read_signed(line, low.next);
+    let first = read_signed(line, high.next);
+    Limits {
+        code: SIGNED,
+        low: low.value,
+        high: high.value,
+        first: first.value,
+        ok: is_done(first.next),
+    }
+}
+
+fn real(line: &[u8], s: Scan) -> Limits
+    ensures { λ r. ⌜ r .code < 256 ⌝ }
+{
+    let low = read_float(line, s);
+    let high = read_float(line, low.next);
+    let first = read_float(line, high.next);
+    Limits {
+        code: FLOAT,
+        low: low.value,
+        high: high.value,
+        first: first.value,
+        ok: is_done(first.next),
+    }
+}
+
+fn text(line: &[u8], s: Scan, bytes: &mut [u8]) -> Limits
+    ensures { λ r. ⌜ r .code < 256 ⌝ }
+{
+    let b = rest(line, s, bytes);
+    Limits {
+        code: TEXT,
+        low: 0,
+        high: b.len as u64,
+        first: 0,
+        ok: b.ok,
+    }
+}
+
+// bool FIRST | unsigned LOW HIGH FIRST | signed LOW HIGH FIRST | float LOW HIGH FIRST | text BYTES..
+fn read_limits(line: &[u8], s: Scan, bytes: &mut [u8]) -> Limits
+    ensures { λ r. ⌜ r .code < 256 ⌝ }
+{
+    let w = next_word(line, s);
+    let start = w.start;
+    let end = w.end;
+    let kind = &line[start..end];
+    if same_bytes(kind, b"bool") {
+        return boolean(line, w.next);
+    }
+    if same_bytes(kind, b"unsigned") {
+        return unsigned(line, w.next);
+    }
+    if same_bytes(kind, b"signed") {
+        return integer(line, w.next);
+    }
+    if same_bytes(kind, b"float") {
+        return real(line, w.next);
+    }
+    if same_bytes(kind, b"text") {
+        return text(line, w.next, bytes);
+    }
+    Limits {
+        code: BOOLEAN,
+        low: 0,
+        high: 0,
+        first: 0,
+        ok: false,
+    }
+}
+
+// The privilege as the schema has it, 0 for none. A line's 0 is no privilege: it becomes 5, which is none either and is refused.
+fn privilege(m: Marked) -> u64
+    requires { ⌜ m .value < 256 ⌝ }
+    ensures { λ r. ⌜ r < 256 ⌝ }
+{
+    if !m.given {
+        return 0;
+    }
+    if m.value == 0 {
+        return 5;
+    }
+    m.value
+}
+
+// What a line says of an attribute. Of a text the bytes stand in a buffer.
+struct Row {
+    path: u64,
+    id: u64,
+    traits: u64,
+    limits: Limits,
+}
+
+fn read_row(line: &[u8], s: Scan, bytes: &mut [u8]) -> Row {
+    let p = read_path(line, s);
+    let read = read_marked(line, p.next, b'-', 255);
+    let write = read_marked(line, read.next, b'-', 255);
+    let nullable = read_flag(line, write.next);
+    let limits = read_limits(line, nullable.next, bytes);
+    Row {
+        path: p.endpoint as u64 * HALF + p.cluster as u64,
+        id: p.attribute as u64,
+        traits: limits.code
+            + nullable.value * NULLABLE_PART
+            + privilege(read) * READ_PART
+            + privilege(write) * WRITE_PART,
+        limits,
+    }
+}
+
+// The row that the next attribute takes; ATTRIBUTES where there is none left.
+fn next_row(setup: &mut [u64; SETUP]) -> usize
+    ensures { λ r. ⌜ r ≤ 256 ⌝ }
+{
+    let n = setup[ATTRIBUTE_COUNT_WORD];
+    setup[ATTRIBUTE_COUNT_WORD] = count_up(n, 257);
+    if n < 256 {
+        return n as usize;
+    }
+    ATTRIBUTES
+}
+
+// The words of a row.
+fn set_row(setup: &mut [u64; SETUP], i: usize, row: Row)
+    requires { ⌜ i < 256 ⌝ }
+{
+    let limits = row.limits;
+    setup[PATHS + i] = row.path;
+    setup[KEY + i] = row.id;
+    setup[TRAITS + i] = row.traits;
+    setup[LOW + i] = limits.low;
+    setup[HIGH + i] = limits.high;
+    setup[FIRST + i] = limits.first;
+}
+
+// A factory text goes to the place of its row. An overlong one is not kept: its length alone has the schema refused.
+fn set_text(setup: &mut [u64; SETUP], texts: &mut [u8], i: usize, bytes: &[u8])
+    requires { ⌜ i < 256 ⌝ }
+{
+    let at = TEXT_SIZE * i;
+    setup[LOW + i] = at as u64;
+    if bytes.len() <= TEXT_SIZE {
+        if at <= texts.len() {
+            if bytes.len() <= texts.len() - at {
+                octets::put_bytes(texts, at, bytes);
+            }
+        }
+    }
+}
+
+fn add_row(setup: &mut [u64; SETUP], texts: &mut [u8; PAGE], row: Row, bytes: &[u8]) {
+    let i = next_row(setup);
+    if ATTRIBUTES <= i {
+        return;
+    }
+    set_row(setup, i, row);
+    let limits = row.limits;
+    if limits.code == TEXT {
+        let n = clip(limits.high as usize, bytes);
+        set_text(setup, texts, i, &bytes[..n]);
+    }
+}
+
+pub fn attribute_line(
+    line: &[u8],
+    s: Scan,
+    setup: &mut [u64; SETUP],
+    texts: &mut [u8; PAGE],
+) -> bool {
+    let mut bytes = [0u8; SPELLED];
+    let row = read_row(line, s, &mut bytes);
+    let limits = row.limits;
+    if !limits.ok {
+        return false;
+    }
+    add_row(setup, texts, row, &bytes);
+    true
+}

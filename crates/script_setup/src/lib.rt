@@ -1,0 +1,95 @@
+// Setup lines: the schema's words as the lines give them, row by row. A row past a limit is counted and not kept: the schema is then refused,
+// as it is for every other rule that the lines break. No input and no output.
+use kinds::stored::same_bytes;
+use schema::ATTRIBUTES;
+use schema::CLUSTER_COUNT_WORD;
+use schema::HALF;
+use schema::PATH;
+use schema::SUBJECT_WORD;
+use schema::TEXT_SIZE;
+use schema::VERSION;
+use schema::WORDS;
+use script::Scan;
+use script::is_done;
+use script::number::read_number;
+use script::path::ID_MAX;
+use script::path::read_place;
+
+pub mod access; // access.rt: the access table
+pub mod attribute; // attribute.rt: the line of an attribute
+pub mod plan; // plan.rt: the schema of all lines so far
+
+// What is set up: a schema's words, in which a key is the attribute alone, since its cluster's line may still come; then the column of the attributes' paths
+// (endpoint, cluster).
+pub const SETUP: usize = PATHS + ATTRIBUTES;
+
+const PATHS: usize = WORDS;
+
+// The factory texts: 256 texts of 200 bytes, each at the place of its attribute's row.
+pub const PAGE: usize = ATTRIBUTES * TEXT_SIZE;
+
+// A count up by one, as far as the limit.
+fn count_up(n: u64, limit: u64) -> u64 {
+    if n < limit { n + 1 } else { n }
+}
+
+fn subject_line(line: &[u8], s: Scan, setup: &mut [u64; SETUP]) -> bool {
+    let n = read_number(line, s, u64::MAX);
+    if !is_done(n.next) {
+        return false;
+    }
+    setup[SUBJECT_WORD] = n.value;
+    true
+}
+
+fn add_cluster(setup: &mut [u64; SETUP], path: u64, version: u64) {
+    let n = setup[CLUSTER_COUNT_WORD];
+    setup[CLUSTER_COUNT_WORD] = count_up(n, 33);
+    if n < 32 {
+        let i = n as usize;
+        setup[PATH + i] = path;
+        setup[VERSION + i] = version;
+    }
+}
+
+fn cluster_line(line: &[u8], s: Scan, setup: &mut [u64; SETUP]) -> bool {
+    let p = read_place(line, s);
+    let version = read_number(line, p.next, ID_MAX);
+    if !is_done(version.next) {
+        return false;
+    }
+    add_cluster(
+        setup,
+        p.endpoint as u64 * HALF + p.cluster as u64,
+        version.value,
+    );
+    true
+}
+
+// Whether a line gives the schema.
+pub fn is_setup(name: &[u8]) -> bool {
+    if same_bytes(name, b"subject") {
+        return true;
+    }
+    if same_bytes(name, b"cluster") {
+        return true;
+    }
+    same_bytes(name, b"attribute")
+}
+
+// One of these lines; answers whether it could be read.
+pub fn setup_line(
+    name: &[u8],
+    line: &[u8],
+    s: Scan,
+    setup: &mut [u64; SETUP],
+    texts: &mut [u8; PAGE],
+) -> bool {
+    if same_bytes(name, b"subject") {
+        return subject_line(line, s, setup);
+    }
+    if same_bytes(name, b"cluster") {
+        return cluster_line(line, s, setup);
+    }
+    attribute::attribute_line(line, s, setup, texts)
+}

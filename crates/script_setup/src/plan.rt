@@ -1,0 +1,65 @@
+// The schema of all lines so far.
+ghost use Prim.Native.Nat.{_≤_, _<_, _+_};
+use super::PATHS;
+use super::SETUP;
+use schema::ATTRIBUTES;
+use schema::CLUSTERS;
+use schema::FIRST;
+use schema::Found;
+use schema::HALF;
+use schema::KEY;
+use schema::WORDS;
+use schema::find::find_cluster;
+use schema::is_text;
+use script::sizes::least;
+
+// Where the cluster of a path stands among the rows; past the last row where it has none, so that the schema is refused.
+fn row_of(words: &[u64; WORDS], path: u64) -> u64
+    ensures { λ r. ⌜ r ≤ 32 ⌝ }
+{
+    let Found::At(i) = find_cluster(words, (path / HALF % 65_536) as u16, (path % HALF) as u32)
+    else {
+        return CLUSTERS as u64;
+    };
+    least(i, CLUSTERS) as u64
+}
+
+// The key of an attribute, and of a text its rank; answers how many texts there are so far.
+fn set_key(words: &mut [u64; WORDS], i: usize, path: u64, rank: u64) -> u64
+    requires { ⌜ (i < 256) × (rank ≤ i) ⌝ }
+    ensures { λ r. ⌜ r ≤ i + 1 ⌝ }
+{
+    let row = row_of(words, path);
+    let id = words[KEY + i] % HALF;
+    words[KEY + i] = row * HALF + id;
+    if is_text(words, i) {
+        words[FIRST + i] = rank;
+        return rank + 1;
+    }
+    rank
+}
+
+// The words as they were set up.
+fn set_words(setup: &[u64; SETUP], words: &mut [u64; WORDS]) {
+    let mut i = 0;
+    while i < WORDS {
+        words[i] = setup[i];
+        i += 1;
+    }
+}
+
+// All clusters are known now: the keys of all attributes, and the ranks of all texts.
+fn set_keys(setup: &[u64; SETUP], words: &mut [u64; WORDS]) {
+    let n = least(schema::attribute_count(words), ATTRIBUTES);
+    let mut rank = 0;
+    let mut i = 0;
+    while i < n {
+        rank = set_key(words, i, setup[PATHS + i], rank);
+        i += 1;
+    }
+}
+
+pub fn set_schema(setup: &[u64; SETUP], words: &mut [u64; WORDS]) {
+    set_words(setup, words);
+    set_keys(setup, words);
+}
