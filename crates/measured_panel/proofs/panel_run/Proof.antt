@@ -1,5 +1,5 @@
-use mathlib.Core.Path.{_≡_, refl, sym, ap, _∙_}
-use Prim.Native.Nat.{_-_, _+_, _≤_}
+use mathlib.Core.Path.{_≡_, refl}
+use Prim.Native.Nat.{_-_, _≤_}
 use native.Mathlib.Omega.{arith}
 use borrow.Author.Needs.{needs, scaled-fits}
 use lib.ListN.{length}
@@ -29,6 +29,7 @@ begin-read-requires c κs = search needs
 loop-holds : tie.Need-loop-holds Inv-loop μ-loop
 loop-holds c = (search needs, refl, refl, refl)
 
+-- where an end stands in memory, at 8 bytes each, is a number of 64 bits: a slice's bytes are fewer than 2^63
 mul-end : tie.Need-mul-end Inv-loop μ-loop
 mul-end c = scaled-fits (c .before .loop .i) (length (c .before .before .before .before .before .before .before .before .before .before .before .before .args .ends .now)) 8 (c .loop-test .taken) (c .before .before .before .before .before .before .before .before .before .before .before .before .good .1 .1 .0 .1)
 
@@ -48,7 +49,15 @@ loop-less : tie.Need-loop-less Inv-loop μ-loop
 loop-less c = search needs
 
 loop-again : tie.Need-loop-again Inv-loop μ-loop
-loop-again c = let a = c .before .before .before .before .before .before .before .before .before .before .before .before .before .before .before .before .before .before .before .before .before .before .args in let l = c .before .before .before .before .before .before .before .before .before .before .before .loop in (omega (arith, c .before .before .before .before .before .before .before .before .before .before .loop-test .taken), one-more _ (a .messages .now) (a .ends .now) (l .from) (l .i) (c .before .before .before .before .before .before .before .before .before .before .loop-test .taken) (c .before .before .before .before .before .before .before .before .between .ensures) (one-call (record { outcome = l .o; page = l .page; buffer = l .out }) _ (c .before .before .before .before .receive .ensures)) (l .inv .1), search needs, search needs)
+loop-again c =
+    let a = c .before .before .before .before .before .before .before .before .before .before .before .before .before .before .before .before .before .before .before .before .before .before .args in
+    let l = c .before .before .before .before .before .before .before .before .before .before .before .loop in (
+      omega (arith, c .before .before .before .before .before .before .before .before .before .before .loop-test .taken),
+      one-more _ (a .messages .now) (a .ends .now) (l .from) (l .i) (c .before .before .before .before .before .before .before .before .before .before .loop-test .taken) (c .before .before .before .before .before .before .before .before .between .ensures)
+          (one-call (record { outcome = l .o; page = l .page; buffer = l .out }) _ (c .before .before .before .before .receive .ensures)) (l .inv .1),
+      search needs,
+      search needs,
+    )
 
 panel-of-requires : tie.Need-panel-of-requires Inv-loop μ-loop
 panel-of-requires c κs = search needs
@@ -60,7 +69,13 @@ same-length-2 : tie.Need-same-length-2 Inv-loop μ-loop
 same-length-2 c = search needs
 
 returns : tie.Need-returns Inv-loop μ-loop
-returns c = let a = c .before .before .before .before .before .before .before .before .before .before .before .before .before .args in let l = c .before .before .loop in as-run (λ (x : Taken). afterAll given (a .messages .now) x 0 (a .ends .now)) (first-call (c .before .before .before .before .before .before .before .fresh .ensures) (c .before .before .before .before .before .begin-read .ensures)) (no-more _ (a .messages .now) (a .ends .now) (l .from) (l .i) (omega (arith, l .inv .0, c .before .loop-test .left)) (l .inv .1)) (c .panel-of .ensures)
+returns c =
+    let a = c .before .before .before .before .before .before .before .before .before .before .before .before .before .args in
+    let l = c .before .before .loop in
+    as-run (λ (x : Taken). afterAll given (a .messages .now) x 0 (a .ends .now))
+    (first-call (c .before .before .before .before .before .before .before .fresh .ensures) (c .before .before .before .before .before .begin-read .ensures))
+    (no-more _ (a .messages .now) (a .ends .now) (l .from) (l .i) (omega (arith, l .inv .0, c .before .loop-test .left)) (l .inv .1))
+    (c .panel-of .ensures)
 
 pub panel-run-spec : {M : Type 1} → statement M
 panel-run-spec =
