@@ -7,18 +7,18 @@ use reference::value::Value;
 
 use crate::clock::medians;
 use crate::kinds::{mixed, texts};
-use crate::library::{ATTRIBUTES, MESSAGE, PAYLOAD};
-use crate::messages::{single_reads, single_writes, whole_read, Messages};
+use crate::library::{ATTRIBUTES, CLUSTERS, MESSAGE, PAYLOAD};
+use crate::messages::{filtered_reads, single_reads, single_writes, whole_read, Messages};
 use crate::panel;
 use crate::second::{taken, Second};
-use crate::sign::{path, Kind, Sign};
+use crate::sign::{path, Kind, Sign, ATTRIBUTES_EACH, FIRST_VERSION};
 
 const SAMPLES: usize = 401;
 
 /// How many single reads or writes are one run.
 const SINGLE: u64 = 16;
 
-/// One line: what our calls take, what of it the test of refusal 2 takes by itself, and what the second program takes, without and with such a test.
+/// One line: what our calls take, what the test of refusal 2 takes of it, and what the second program takes, as it is and with such a test.
 struct Line {
     ours: f64,
     test: f64,
@@ -29,7 +29,7 @@ struct Line {
 fn heading(name: &str) {
     println!(
         "\n{name:34} {:>9} {:>9} {:>9} {:>9} {:>7} {:>7} {:>7}",
-        "ours ns", "test ns", "Rust ns", "tested ns", "o/Rust", "o/tstd", "o-t/R"
+        "ours ns", "test ns", "Rust ns", "+test ns", "ratio", "+test", "-test"
     );
 }
 
@@ -130,7 +130,11 @@ pub fn singles() {
     let (number, text) = (path(126), path(129));
     let numbers = [Value::Unsigned(70_000), Value::Unsigned(5)];
     let words = [&b"BORROW - EMPRUNTER"[..], b"WAIT"].map(|word| Value::Text(word.to_vec()));
+    let held: Vec<_> = (0..CLUSTERS)
+        .map(|k| (path(k * ATTRIBUTES_EACH).place(), FIRST_VERSION + k as u32))
+        .collect();
     let runs = [
+        ("read of all, nothing has changed", filtered_reads(SINGLE, &held)),
         ("read of a number", single_reads(SINGLE, &number)),
         ("read of a text", single_reads(SINGLE, &text)),
         ("write of a number", single_writes(SINGLE, &number, &numbers)),

@@ -14,8 +14,9 @@ mod sign;
 
 fn main() {
     let words: Vec<String> = std::env::args().skip(1).collect();
-    if let [name, times] = words.as_slice() {
-        return repeat::repeat(name, times.parse().expect("how often"));
+    if let [name, attributes, times] = words.as_slice() {
+        let number = |word: &str| word.parse().expect("a number");
+        return repeat::repeat(name, number(attributes), number(times));
     }
     refusal::print();
     beside::reads();

@@ -1,7 +1,7 @@
 //! Messages one after the other, as both programs are given them.
 
 use reference::envelope::{seal, Envelope, READ_REQUEST, STATUS_RESPONSE, WRITE_REQUEST};
-use reference::paths::Path;
+use reference::paths::{ClusterPath, Path};
 use reference::spelling;
 use reference::status::SUCCESS;
 use reference::tlv::{write, Element};
@@ -56,6 +56,18 @@ fn request(opcode: u8, exchange: u64, payload: &Element) -> Vec<u8> {
 pub fn read_all() -> Vec<u8> {
     let paths = vec![spelling::open_path(None, None, None)];
     request(READ_REQUEST, 1, &spelling::read_request(paths, Vec::new()))
+}
+
+/// So many reads of everything but what has not changed, each an exchange, with a filter for each of these clusters.
+pub fn filtered_reads(count: u64, held: &[(ClusterPath, u32)]) -> Messages {
+    let mut messages = Messages::default();
+    for exchange in 1..=count {
+        let paths = vec![spelling::open_path(None, None, None)];
+        let filters = held.iter().map(|(place, version)| spelling::filter(*place, *version));
+        let payload = spelling::read_request(paths, filters.collect());
+        messages.push(exchange, &request(READ_REQUEST, exchange, &payload));
+    }
+    messages
 }
 
 /// The success that asks for the part after this one.

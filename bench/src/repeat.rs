@@ -5,7 +5,7 @@ use std::hint::black_box;
 use reference::value::Value;
 
 use crate::kinds::mixed;
-use crate::library::{ATTRIBUTES, MESSAGE, PAYLOAD};
+use crate::library::{MESSAGE, PAYLOAD};
 use crate::messages::{single_reads, single_writes, whole_read, Messages};
 use crate::panel;
 use crate::sign::{path, Sign};
@@ -21,10 +21,12 @@ fn replies(sign: &Sign, messages: &Messages) -> Messages {
     all
 }
 
-pub fn repeat(name: &str, times: usize) {
-    let sign = Sign::new(&mixed(ATTRIBUTES));
+/// `name` is a run of `attributes` of mixed kinds.
+pub fn repeat(name: &str, attributes: usize, times: usize) {
+    let sign = Sign::new(&mixed(attributes));
     let whole = whole_read(sign.parts(&mut [0; PAYLOAD]));
-    let number = path(126);
+    // The first unsigned number.
+    let number = path(1);
     let messages = match name {
         "whole-read" => whole,
         "single-read" => single_reads(16, &number),
@@ -32,7 +34,9 @@ pub fn repeat(name: &str, times: usize) {
             single_writes(16, &number, &[Value::Unsigned(70_000), Value::Unsigned(5)])
         }
         "report" => replies(&sign, &whole),
-        _ => panic!("whole-read, single-read, single-write or report, and how often"),
+        _ => panic!(
+            "whole-read, single-read, single-write or report; how many attributes; how often"
+        ),
     };
     let (mut page, mut out) = (panel::page(), [0; MESSAGE]);
     for _ in 0..times {
