@@ -5,25 +5,36 @@ use std::hint::black_box;
 use reference::answer::Answer;
 use reference::value::Value;
 
-use crate::clock::medians;
+use crate::clock::{medians, Run};
 use crate::kinds::{mixed, texts};
-use crate::library::{ATTRIBUTES, CLUSTERS, MESSAGE, PAYLOAD};
+use crate::library::{Held, ATTRIBUTES, MESSAGE, PAYLOAD};
 use crate::messages::{filtered_reads, single_reads, single_writes, whole_read, Messages};
 use crate::panel;
 use crate::second::{taken, Second};
-use crate::sign::{path, Kind, Sign, ATTRIBUTES_EACH, FIRST_VERSION};
+use crate::sign::{path, Kind, Sign};
 
 const SAMPLES: usize = 401;
+const FEWER_SAMPLES: usize = 101;
 
 /// How many single reads or writes are one run.
 const SINGLE: u64 = 16;
 
-/// One line: what our calls take, what the test of refusal 2 takes of it, and what the second program takes, as it is and with such a test.
-struct Line {
+const SIZES: [usize; 4] = [32, 64, 128, ATTRIBUTES];
+
+/// What our calls take, what the test of refusal 2 takes by itself as often as they make it, and what the second program takes, as it is
+/// and with such a test.
+struct Times {
     ours: f64,
     test: f64,
     second: f64,
     tested: f64,
+}
+
+/// The times of runs that come in fours, all sampled in turn.
+fn times(samples: usize, runs: Vec<Run>) -> Vec<Times> {
+    let all = medians(samples, runs);
+    let four = |t: &[f64]| Times { ours: t[0], test: t[1], second: t[2], tested: t[3] };
+    all.chunks(4).map(four).collect()
 }
 
 fn heading(name: &str) {
@@ -33,10 +44,10 @@ fn heading(name: &str) {
     );
 }
 
-fn print(name: &str, calls: f64, line: &Line) {
-    let Line { ours, test, second, tested } = line;
+fn print(name: &str, calls: f64, times: &Times) {
+    let Times { ours, test, second, tested } = times;
     println!(
-        "{name:34} {:9.0} {:9.0} {:9.0} {:9.0} {:7.2} {:7.2} {:7.2}",
+        "{name:34} {:9.0} {:9.0} {:9.0} {:9.0} {:7.3} {:7.3} {:7.3}",
         ours / calls,
         test / calls,
         second / calls,
@@ -47,73 +58,80 @@ fn print(name: &str, calls: f64, line: &Line) {
     );
 }
 
-/// Every message gets the same answer from both, byte for byte: the answers.
-fn same_answers(sign: &Sign, kinds: &[Kind], messages: &Messages) -> Vec<Answer> {
-    let mut second = Second::new(kinds);
-    let mut answers = Vec::new();
-    for (k, message) in messages.iter().enumerate() {
-        let answer = second.receive(message);
-        let mut out = [0; MESSAGE];
-        let last = sign.run(&messages.first(k + 1), &mut out);
-        assert_eq!(last.number, answer.number(), "the number of message {k}");
-        assert_eq!(out[..last.len], *answer.bytes(), "the reply to message {k}");
-        answers.push(answer);
-    }
-    answers
+/// A sign of both programs, and messages that get the same answers from both.
+struct Case {
+    name: String,
+    kinds: Vec<Kind>,
+    sign: Sign,
+    messages: Messages,
+    answers: Vec<Answer>,
 }
 
-fn sign_line(sign: &Sign, kinds: &[Kind], messages: &Messages) -> Line {
-    let (mut plain, mut guarded) = (Second::new(kinds), Second::new(kinds));
-    let (mut one, mut other) = (messages.clone(), messages.clone());
-    let mut out = [0; MESSAGE];
-    let [ours, test, second, tested] = medians(
-        SAMPLES,
-        [
-            &mut || {
-                black_box(black_box(sign).run(messages, &mut out));
-            },
-            &mut || {
-                black_box(black_box(sign).valid());
-            },
-            &mut || {
+impl Case {
+    fn new(name: &str, kinds: Vec<Kind>, messages: Messages) -> Case {
+        let sign = Sign::new(&kinds);
+        let mut second = Second::new(&kinds);
+        let mut answers = Vec::new();
+        for (k, message) in messages.iter().enumerate() {
+            let answer = second.receive(message);
+            let mut out = [0; MESSAGE];
+            let last = sign.run(&messages.first(k + 1), &mut out);
+            assert_eq!(last.number, answer.number(), "{name}: the number of message {k}");
+            assert_eq!(out[..last.len], *answer.bytes(), "{name}: the reply to message {k}");
+            answers.push(answer);
+        }
+        Case { name: name.to_string(), kinds, sign, messages, answers }
+    }
+
+    fn whole(what: &str, kinds: Vec<Kind>) -> Case {
+        let parts = Sign::new(&kinds).parts(&mut [0; PAYLOAD]);
+        let name = format!("{} {what}, {parts} parts", kinds.len());
+        Case::new(&name, kinds, whole_read(parts))
+    }
+
+    /// Our run, our test as often, and the second program's run without and with such a test.
+    fn runs(&self) -> Vec<Run<'_>> {
+        let (mut plain, mut guarded) = (Second::new(&self.kinds), Second::new(&self.kinds));
+        let (mut one, mut other) = (self.messages.clone(), self.messages.clone());
+        let mut out = [0; MESSAGE];
+        vec![
+            Box::new(move || {
+                black_box(black_box(&self.sign).run(&self.messages, &mut out));
+            }),
+            Box::new(|| {
+                for _ in 0..self.messages.ends.len() {
+                    black_box(black_box(&self.sign).valid());
+                }
+            }),
+            Box::new(move || {
                 black_box(plain.run(&mut one, false));
-            },
-            &mut || {
+            }),
+            Box::new(move || {
                 black_box(guarded.run(&mut other, true));
-            },
-        ],
-    );
-    Line { ours, test: test * messages.ends.len() as f64, second, tested }
+            }),
+        ]
+    }
 }
 
 /// Whole reads, by how many attributes there are.
 pub fn reads() {
     heading("A whole read of everything");
-    let mut growth = Vec::new();
-    let texts = texts("BORROW");
-    let mixed = [32, 64, 128, ATTRIBUTES].map(mixed);
-    for kinds in mixed.iter().chain([&texts]) {
-        let sign = Sign::new(kinds);
-        let parts = sign.parts(&mut [0; PAYLOAD]);
-        let messages = whole_read(parts);
-        same_answers(&sign, kinds, &messages);
-        let line = sign_line(&sign, kinds, &messages);
-        let what = if kinds.len() == texts.len() && matches!(kinds[0], Kind::Text(_)) {
-            "texts of 200 bytes"
-        } else {
-            "mixed kinds"
-        };
-        print(&format!("{} {what}, {parts} parts", kinds.len()), 1.0, &line);
-        growth.push((kinds.len() as f64, parts, line));
+    let mut cases: Vec<Case> = SIZES.map(|size| Case::whole("mixed kinds", mixed(size))).into();
+    let mut all = times(SAMPLES, cases.iter().flat_map(Case::runs).collect());
+    cases.push(Case::whole("texts of 200 bytes", texts("BORROW")));
+    all.extend(times(FEWER_SAMPLES, cases[SIZES.len()].runs()));
+    for (case, times) in cases.iter().zip(&all) {
+        print(&case.name, 1.0, times);
     }
     println!(
         "\n{:34} {:>9} {:>9} {:>9} {:>9}",
         "The same for each block", "ours ns", "test ns", "rest ns", "Rust ns"
     );
-    for (blocks, parts, Line { ours, test, second, .. }) in growth {
+    for (case, Times { ours, test, second, .. }) in cases.iter().zip(&all) {
+        let blocks = case.kinds.len() as f64;
         println!(
             "{:34} {:9.1} {:9.1} {:9.1} {:9.1}",
-            format!("{blocks} blocks, {parts} parts"),
+            case.name,
             ours / blocks,
             test / blocks,
             (ours - test) / blocks,
@@ -125,83 +143,90 @@ pub fn reads() {
 /// Single reads and writes, for each call.
 pub fn singles() {
     heading("One call, 256 of mixed kinds");
-    let kinds = mixed(ATTRIBUTES);
-    let sign = Sign::new(&kinds);
-    let (number, text) = (path(126), path(129));
+    let (number, text) = (path(1), path(4));
     let numbers = [Value::Unsigned(70_000), Value::Unsigned(5)];
     let words = [&b"BORROW - EMPRUNTER"[..], b"WAIT"].map(|word| Value::Text(word.to_vec()));
-    let held: Vec<_> = (0..CLUSTERS)
-        .map(|k| (path(k * ATTRIBUTES_EACH).place(), FIRST_VERSION + k as u32))
-        .collect();
-    let runs = [
-        ("read of all, nothing has changed", filtered_reads(SINGLE, &held)),
+    let cases = [
+        ("read of all, nothing has changed", filtered_reads(SINGLE, ATTRIBUTES)),
         ("read of a number", single_reads(SINGLE, &number)),
         ("read of a text", single_reads(SINGLE, &text)),
         ("write of a number", single_writes(SINGLE, &number, &numbers)),
         ("write of a text", single_writes(SINGLE, &text, &words)),
-    ];
-    for (name, messages) in &runs {
-        same_answers(&sign, &kinds, messages);
-        print(name, SINGLE as f64, &sign_line(&sign, &kinds, messages));
+    ]
+    .map(|(name, messages)| Case::new(name, mixed(ATTRIBUTES), messages));
+    let all = times(SAMPLES, cases.iter().flat_map(Case::runs).collect());
+    for (case, times) in cases.iter().zip(&all) {
+        print(&case.name, SINGLE as f64, times);
     }
     let (none, mut out) = (Messages::default(), [0; MESSAGE]);
-    let [empty] = medians(
+    let empty = medians(
         SAMPLES,
-        [&mut || {
-            black_box(black_box(&sign).run(&none, &mut out));
-        }],
+        vec![Box::new(|| {
+            black_box(black_box(&cases[0].sign).run(&none, &mut out));
+        })],
     );
-    println!("{:34} {empty:9.0}", "a run with no message");
+    println!("{:34} {:9.0}", "a run with no message", empty[0]);
 }
 
-/// The panel takes a whole report.
-pub fn report() {
-    heading("The panel, 256 of mixed kinds");
-    let kinds = mixed(ATTRIBUTES);
-    let sign = Sign::new(&kinds);
-    let messages = whole_read(sign.parts(&mut [0; PAYLOAD]));
-    let mut parts = Messages::default();
-    for answer in same_answers(&sign, &kinds, &messages) {
-        parts.push(1, answer.bytes());
+/// The parts of a report, and what a panel holds before each of them: the same in both programs.
+struct Report {
+    name: String,
+    parts: Messages,
+    texts: Vec<u8>,
+    states: Vec<Held>,
+}
+
+impl Report {
+    fn new(attributes: usize) -> Report {
+        let Case { name, answers, .. } = Case::whole("mixed kinds", mixed(attributes));
+        let mut parts = Messages::default();
+        for answer in answers {
+            parts.push(1, answer.bytes());
+        }
+        let (mut texts, mut out) = (panel::page(), [0; MESSAGE]);
+        let mut states = Vec::new();
+        for k in 0..=parts.ends.len() {
+            let some = parts.first(k);
+            let held = panel::taken(&mut texts, &some, &mut out);
+            let (cache, answer) = taken(&some, true);
+            assert_eq!(held.number, answer.number(), "{name}: the number after {k} parts");
+            assert_eq!(out[..held.len], *answer.bytes(), "{name}: the message after {k} parts");
+            let entries = panel::entries(&texts, &held);
+            assert_eq!(entries, *cache.entries(), "{name}: the entries after {k} parts");
+            assert!(panel::valid(&texts, &held));
+            states.push(held);
+        }
+        assert!(states.pop().is_some_and(|held| held.primed), "the last part fills the panel");
+        Report { name, parts, texts, states }
     }
-    let (mut page, mut out) = (panel::page(), [0; MESSAGE]);
-    let mut states = Vec::new();
-    for k in 0..=parts.ends.len() {
-        let some = parts.first(k);
-        let held = panel::taken(&mut page, &some, &mut out);
-        let (cache, answer) = taken(&some, true);
-        assert_eq!(held.number, answer.number(), "the number after {k} parts");
-        assert_eq!(out[..held.len], *answer.bytes(), "the message after {k} parts");
-        assert_eq!(panel::entries(&page, &held), *cache.entries(), "the entries after {k} parts");
-        assert!(panel::valid(&page, &held));
-        states.push(held);
+
+    fn runs(&self) -> Vec<Run<'_>> {
+        let (mut page, mut out) = (panel::page(), [0; MESSAGE]);
+        vec![
+            Box::new(move || {
+                black_box(panel::taken(&mut page, black_box(&self.parts), &mut out));
+            }),
+            Box::new(|| {
+                for state in &self.states {
+                    black_box(panel::valid(&self.texts, black_box(state)));
+                }
+            }),
+            Box::new(|| {
+                black_box(taken(black_box(&self.parts), false));
+            }),
+            Box::new(|| {
+                black_box(taken(black_box(&self.parts), true));
+            }),
+        ]
     }
-    assert!(states.pop().is_some_and(|held| held.primed && held.count == ATTRIBUTES));
-    for (name, some) in [
-        ("a read begun".to_string(), Messages::default()),
-        (format!("a read begun, {} parts taken", parts.ends.len()), parts),
-    ] {
-        let held = &states[..some.ends.len().max(1)];
-        let texts = page.clone();
-        let [ours, test, second, tested] = medians(
-            SAMPLES,
-            [
-                &mut || {
-                    black_box(panel::taken(&mut page, black_box(&some), &mut out));
-                },
-                &mut || {
-                    for state in held {
-                        black_box(panel::valid(&texts, black_box(state)));
-                    }
-                },
-                &mut || {
-                    black_box(taken(black_box(&some), false));
-                },
-                &mut || {
-                    black_box(taken(black_box(&some), true));
-                },
-            ],
-        );
-        print(&name, 1.0, &Line { ours, test, second, tested });
+}
+
+/// The panel begins a read and takes the whole report.
+pub fn reports() {
+    heading("The panel: a read begun and taken");
+    let reports = SIZES.map(Report::new);
+    let all = times(SAMPLES, reports.iter().flat_map(Report::runs).collect());
+    for (report, times) in reports.iter().zip(&all) {
+        print(&report.name, 1.0, times);
     }
 }

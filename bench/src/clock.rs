@@ -18,24 +18,23 @@ fn median(mut samples: Vec<f64>) -> f64 {
     samples[samples.len() / 2]
 }
 
-/// The medians of several functions, sampled in turn, so that other work on the machine falls on all alike.
-pub fn medians<const N: usize>(samples: usize, mut fs: [&mut dyn FnMut(); N]) -> [f64; N] {
-    let calls: Vec<usize> = fs
+/// What is timed.
+pub type Run<'a> = Box<dyn FnMut() + 'a>;
+
+/// The medians of several runs, sampled in turn, so that other work on the machine falls on all alike.
+pub fn medians(samples: usize, mut runs: Vec<Run>) -> Vec<f64> {
+    let calls: Vec<usize> = runs
         .iter_mut()
-        .map(|f| {
-            let once = (0..50).map(|_| nanos(1, f)).fold(f64::MAX, f64::min);
+        .map(|run| {
+            let once = (0..10).map(|_| nanos(1, run)).fold(f64::MAX, f64::min);
             (SAMPLE_NANOS / once.max(1.0)).ceil() as usize
         })
         .collect();
-    let mut taken = vec![Vec::with_capacity(samples); N];
+    let mut taken = vec![Vec::with_capacity(samples); runs.len()];
     for _ in 0..samples {
-        for (k, f) in fs.iter_mut().enumerate() {
-            taken[k].push(nanos(calls[k], f));
+        for (k, run) in runs.iter_mut().enumerate() {
+            taken[k].push(nanos(calls[k], run));
         }
     }
-    let mut results = [0.0; N];
-    for (k, s) in taken.into_iter().enumerate() {
-        results[k] = median(s);
-    }
-    results
+    taken.into_iter().map(median).collect()
 }

@@ -21,5 +21,5 @@ fn main() {
     refusal::print();
     beside::reads();
     beside::singles();
-    beside::report();
+    beside::reports();
 }

@@ -1,11 +1,13 @@
 //! Messages one after the other, as both programs are given them.
 
 use reference::envelope::{seal, Envelope, READ_REQUEST, STATUS_RESPONSE, WRITE_REQUEST};
-use reference::paths::{ClusterPath, Path};
+use reference::paths::Path;
 use reference::spelling;
 use reference::status::SUCCESS;
 use reference::tlv::{write, Element};
 use reference::value::Value;
+
+use crate::sign::{path, ATTRIBUTES_EACH, FIRST_VERSION};
 
 #[derive(Clone, Default)]
 pub struct Messages {
@@ -58,12 +60,13 @@ pub fn read_all() -> Vec<u8> {
     request(READ_REQUEST, 1, &spelling::read_request(paths, Vec::new()))
 }
 
-/// So many reads of everything but what has not changed, each an exchange, with a filter for each of these clusters.
-pub fn filtered_reads(count: u64, held: &[(ClusterPath, u32)]) -> Messages {
+/// So many reads of everything by a panel that holds it all, each an exchange: a filter for each cluster, at the version that it began with.
+pub fn filtered_reads(count: u64, attributes: usize) -> Messages {
     let mut messages = Messages::default();
     for exchange in 1..=count {
         let paths = vec![spelling::open_path(None, None, None)];
-        let filters = held.iter().map(|(place, version)| spelling::filter(*place, *version));
+        let filters = (0..attributes / ATTRIBUTES_EACH)
+            .map(|k| spelling::filter(path(k * ATTRIBUTES_EACH).place(), FIRST_VERSION + k as u32));
         let payload = spelling::read_request(paths, filters.collect());
         messages.push(exchange, &request(READ_REQUEST, exchange, &payload));
     }

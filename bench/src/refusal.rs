@@ -68,29 +68,30 @@ pub fn print() {
         let parts = answers_are_right(sign, &one, &two);
         let (mut part_out, mut read_out) = ([0; PAYLOAD], [0; PAYLOAD]);
         let (mut reply, mut second, mut none) = ([0; MESSAGE], [0; MESSAGE], [0; MESSAGE]);
-        let [test, part, read, first, both, refusal] = medians(
+        let times = medians(
             SAMPLES,
-            [
-                &mut || {
+            vec![
+                Box::new(|| {
                     black_box(black_box(sign).valid());
-                },
-                &mut || {
+                }),
+                Box::new(|| {
                     black_box(black_box(sign).part(0, 0, &mut part_out));
-                },
-                &mut || {
+                }),
+                Box::new(|| {
                     black_box(black_box(sign).parts(&mut read_out));
-                },
-                &mut || {
+                }),
+                Box::new(|| {
                     black_box(black_box(sign).run(&one, &mut reply));
-                },
-                &mut || {
+                }),
+                Box::new(|| {
                     black_box(black_box(sign).run(&two, &mut second));
-                },
-                &mut || {
+                }),
+                Box::new(|| {
                     black_box(black_box(&refused).run(&one, &mut none));
-                },
+                }),
             ],
         );
+        let [test, part, read, first, both, refusal] = times[..] else { unreachable!() };
         // The second call alone: what two calls take more than one.
         let next = both - first;
         println!(

@@ -6,7 +6,7 @@ use reference::value::Value;
 
 use crate::kinds::mixed;
 use crate::library::{MESSAGE, PAYLOAD};
-use crate::messages::{single_reads, single_writes, whole_read, Messages};
+use crate::messages::{filtered_reads, single_reads, single_writes, whole_read, Messages};
 use crate::panel;
 use crate::sign::{path, Sign};
 
@@ -29,6 +29,7 @@ pub fn repeat(name: &str, attributes: usize, times: usize) {
     let number = path(1);
     let messages = match name {
         "whole-read" => whole,
+        "filtered-read" => filtered_reads(16, attributes),
         "single-read" => single_reads(16, &number),
         "single-write" => {
             single_writes(16, &number, &[Value::Unsigned(70_000), Value::Unsigned(5)])

@@ -55,7 +55,8 @@ pub struct Sign {
 impl Sign {
     /// A fresh sign of whole clusters.
     pub fn new(kinds: &[Kind]) -> Sign {
-        assert!(kinds.len() <= ATTRIBUTES && kinds.len() % ATTRIBUTES_EACH == 0);
+        assert!(kinds.len() <= ATTRIBUTES);
+        assert_eq!(kinds.len() % ATTRIBUTES_EACH, 0, "whole clusters");
         let mut sign = Sign {
             schema: Box::new([0; WORDS]),
             words: [0; ATTRIBUTES],
