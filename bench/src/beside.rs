@@ -6,7 +6,7 @@ use reference::answer::Answer;
 use reference::value::Value;
 
 use crate::clock::{medians, Run};
-use crate::kinds::{mixed, texts};
+use crate::kinds::{mixed, number_of, text_of, texts};
 use crate::library::{Held, ATTRIBUTES, MESSAGE, PAYLOAD};
 use crate::messages::{filtered_reads, single_reads, single_writes, whole_read, Messages};
 use crate::panel;
@@ -143,7 +143,7 @@ pub fn reads() {
 /// Single reads and writes, for each call.
 pub fn singles() {
     heading("One call, 256 of mixed kinds");
-    let (number, text) = (path(1), path(4));
+    let (number, text) = (path(number_of(ATTRIBUTES)), path(text_of(ATTRIBUTES)));
     let numbers = [Value::Unsigned(70_000), Value::Unsigned(5)];
     let words = [&b"BORROW - EMPRUNTER"[..], b"WAIT"].map(|word| Value::Text(word.to_vec()));
     let cases = [

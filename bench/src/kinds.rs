@@ -16,6 +16,15 @@ pub fn mixed(count: usize) -> Vec<Kind> {
         .collect()
 }
 
+/// An unsigned number and a text in the middle of these.
+pub fn number_of(count: usize) -> usize {
+    count / 10 * 5 + 1
+}
+
+pub fn text_of(count: usize) -> usize {
+    count / 10 * 5 + 4
+}
+
 /// Texts of 200 bytes, each with this at a place of its own; a byte that is left over is ASCII.
 pub fn texts(inner: &str) -> Vec<Kind> {
     let texts = (0..ATTRIBUTES).map(|i| {

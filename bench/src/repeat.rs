@@ -1,13 +1,14 @@
-//! One run of ours repeated without a clock, to be looked at with a profiler.
+//! One run repeated without a clock, to be looked at with a profiler.
 
 use std::hint::black_box;
 
 use reference::value::Value;
 
-use crate::kinds::mixed;
+use crate::kinds::{mixed, number_of};
 use crate::library::{MESSAGE, PAYLOAD};
 use crate::messages::{filtered_reads, single_reads, single_writes, whole_read, Messages};
 use crate::panel;
+use crate::second::{taken, Second};
 use crate::sign::{path, Sign};
 
 /// The replies to these messages, as a panel is given them.
@@ -21,13 +22,13 @@ fn replies(sign: &Sign, messages: &Messages) -> Messages {
     all
 }
 
-/// `name` is a run of `attributes` of mixed kinds.
+/// A run of ours over so many attributes of mixed kinds, or with `-rust` after its name the second program's.
 pub fn repeat(name: &str, attributes: usize, times: usize) {
     let sign = Sign::new(&mixed(attributes));
     let whole = whole_read(sign.parts(&mut [0; PAYLOAD]));
-    // The first unsigned number.
-    let number = path(1);
-    let messages = match name {
+    let number = path(number_of(attributes));
+    let run = name.trim_end_matches("-rust");
+    let mut messages = match run {
         "whole-read" => whole,
         "filtered-read" => filtered_reads(16, attributes),
         "single-read" => single_reads(16, &number),
@@ -35,16 +36,24 @@ pub fn repeat(name: &str, attributes: usize, times: usize) {
             single_writes(16, &number, &[Value::Unsigned(70_000), Value::Unsigned(5)])
         }
         "report" => replies(&sign, &whole),
-        _ => panic!(
-            "whole-read, single-read, single-write or report; how many attributes; how often"
-        ),
+        _ => panic!("bench/README.md has the names of the runs"),
     };
     let (mut page, mut out) = (panel::page(), [0; MESSAGE]);
+    let mut second = Second::new(&mixed(attributes));
     for _ in 0..times {
-        if name == "report" {
-            black_box(panel::taken(&mut page, black_box(&messages), &mut out));
-        } else {
-            black_box(sign.run(black_box(&messages), &mut out));
+        match (run == "report", run == name) {
+            (true, true) => {
+                black_box(panel::taken(&mut page, black_box(&messages), &mut out));
+            }
+            (true, false) => {
+                black_box(taken(black_box(&messages), false));
+            }
+            (false, true) => {
+                black_box(sign.run(black_box(&messages), &mut out));
+            }
+            (false, false) => {
+                black_box(second.run(black_box(&mut messages), false));
+            }
         }
     }
 }
