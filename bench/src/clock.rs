@@ -21,7 +21,8 @@ fn median(mut samples: Vec<f64>) -> f64 {
 /// What is timed.
 pub type Run<'a> = Box<dyn FnMut() + 'a>;
 
-/// The medians of several runs, sampled in turn, so that other work on the machine falls on all alike.
+/// The medians of several runs, sampled in turn, so that other work on the machine falls on all alike; each once before its sample, so that
+/// what the run before it left in the machine's caches does not count.
 pub fn medians(samples: usize, mut runs: Vec<Run>) -> Vec<f64> {
     let calls: Vec<usize> = runs
         .iter_mut()
@@ -33,6 +34,7 @@ pub fn medians(samples: usize, mut runs: Vec<Run>) -> Vec<f64> {
     let mut taken = vec![Vec::with_capacity(samples); runs.len()];
     for _ in 0..samples {
         for (k, run) in runs.iter_mut().enumerate() {
+            run();
             taken[k].push(nanos(calls[k], run));
         }
     }
