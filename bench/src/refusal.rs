@@ -2,7 +2,7 @@
 
 use std::hint::black_box;
 
-use crate::clock::medians;
+use crate::clock::{medians, Run};
 use crate::kinds::{mixed, scripts, texts};
 use crate::library::{ATTRIBUTES, MESSAGE, PAYLOAD};
 use crate::messages::{whole_read, Messages};
@@ -34,6 +34,53 @@ fn answers_are_right(sign: &Sign, one: &Messages, two: &Messages) -> usize {
     sign.parts(&mut out)
 }
 
+/// What is broken is refused.
+fn refusals_are_right(one: &Messages) -> Sign {
+    let mut broken = Sign::new(&mixed(ATTRIBUTES));
+    broken.break_last();
+    assert!(!broken.valid(), "a value past its limits breaks the rules");
+    let mut refused = Sign::new(&mixed(ATTRIBUTES));
+    refused.break_first();
+    let last = refused.run(one, &mut [0; MESSAGE]);
+    assert_eq!((last.number, last.len), (2, 0), "a broken schema is refused with 2");
+    refused
+}
+
+fn line(name: &str, sign: &Sign, refused: &Sign, one: &Messages, two: &Messages) {
+    let parts = answers_are_right(sign, one, two);
+    let (mut part_out, mut read_out) = ([0; PAYLOAD], [0; PAYLOAD]);
+    let (mut reply, mut second, mut none) = ([0; MESSAGE], [0; MESSAGE], [0; MESSAGE]);
+    let runs: Vec<Run> = vec![
+        Box::new(|| {
+            black_box(black_box(sign).valid());
+        }),
+        Box::new(|| {
+            black_box(black_box(sign).part(0, 0, &mut part_out));
+        }),
+        Box::new(|| {
+            black_box(black_box(sign).parts(&mut read_out));
+        }),
+        Box::new(|| {
+            black_box(black_box(sign).run(one, &mut reply));
+        }),
+        Box::new(|| {
+            black_box(black_box(sign).run(two, &mut second));
+        }),
+        Box::new(|| {
+            black_box(black_box(refused).run(one, &mut none));
+        }),
+    ];
+    let times = medians(SAMPLES, runs);
+    let [test, part, read, first, both, refusal] = times[..] else { unreachable!() };
+    // The second call alone: what two calls take more than one.
+    let next = both - first;
+    println!(
+        "{name:26} {test:9.0} {part:9.0} {first:9.0} {next:9.0} {refusal:9.0} {:7.2} {:7.2} {parts:6} {read:9.0}",
+        test / part,
+        test / next,
+    );
+}
+
 pub fn print() {
     let signs = [
         ("256 of mixed kinds", Sign::new(&mixed(ATTRIBUTES))),
@@ -43,14 +90,6 @@ pub fn print() {
         ("256 texts, to 3 bytes", Sign::new(&scripts(["a", "é", "借", "り"]))),
         ("256 texts, to 4 bytes", Sign::new(&scripts(["a", "é", "借", "𝄞"]))),
     ];
-    let (one, two) = (whole_read(1), whole_read(2));
-    let mut broken = Sign::new(&mixed(ATTRIBUTES));
-    broken.break_last();
-    assert!(!broken.valid(), "a value past its limits breaks the rules");
-    let mut refused = Sign::new(&mixed(ATTRIBUTES));
-    refused.break_first();
-    let last = refused.run(&one, &mut [0; MESSAGE]);
-    assert_eq!((last.number, last.len), (2, 0), "a broken schema is refused with 2");
     println!(
         "{:26} {:>9} {:>9} {:>9} {:>9} {:>9} {:>7} {:>7} {:>6} {:>9}",
         "The test of refusal 2",
@@ -64,40 +103,9 @@ pub fn print() {
         "parts",
         "read ns"
     );
+    let (one, two) = (whole_read(1), whole_read(2));
+    let refused = refusals_are_right(&one);
     for (name, sign) in &signs {
-        let parts = answers_are_right(sign, &one, &two);
-        let (mut part_out, mut read_out) = ([0; PAYLOAD], [0; PAYLOAD]);
-        let (mut reply, mut second, mut none) = ([0; MESSAGE], [0; MESSAGE], [0; MESSAGE]);
-        let times = medians(
-            SAMPLES,
-            vec![
-                Box::new(|| {
-                    black_box(black_box(sign).valid());
-                }),
-                Box::new(|| {
-                    black_box(black_box(sign).part(0, 0, &mut part_out));
-                }),
-                Box::new(|| {
-                    black_box(black_box(sign).parts(&mut read_out));
-                }),
-                Box::new(|| {
-                    black_box(black_box(sign).run(&one, &mut reply));
-                }),
-                Box::new(|| {
-                    black_box(black_box(sign).run(&two, &mut second));
-                }),
-                Box::new(|| {
-                    black_box(black_box(&refused).run(&one, &mut none));
-                }),
-            ],
-        );
-        let [test, part, read, first, both, refusal] = times[..] else { unreachable!() };
-        // The second call alone: what two calls take more than one.
-        let next = both - first;
-        println!(
-            "{name:26} {test:9.0} {part:9.0} {first:9.0} {next:9.0} {refusal:9.0} {:7.2} {:7.2} {parts:6} {read:9.0}",
-            test / part,
-            test / next,
-        );
+        line(name, sign, &refused, &one, &two);
     }
 }

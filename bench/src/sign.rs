@@ -66,42 +66,47 @@ impl Sign {
             defaults: Vec::new(),
             edits: RefCell::new(Vec::new()),
         };
-        let w = &mut sign.schema;
-        w[0] = (kinds.len() / ATTRIBUTES_EACH) as u64;
-        w[1] = kinds.len() as u64;
-        w[2] = SUBJECT;
+        sign.schema[0] = (kinds.len() / ATTRIBUTES_EACH) as u64;
+        sign.schema[1] = kinds.len() as u64;
+        sign.schema[2] = SUBJECT;
         for k in 0..kinds.len() / ATTRIBUTES_EACH {
             let place = path(k * ATTRIBUTES_EACH);
-            w[PATH + k] = u64::from(place.endpoint) << 32 | u64::from(place.cluster);
+            sign.schema[PATH + k] = u64::from(place.endpoint) << 32 | u64::from(place.cluster);
             sign.versions[k] = FIRST_VERSION + k as u32;
-            w[VERSION + k] = sign.versions[k].into();
+            sign.schema[VERSION + k] = sign.versions[k].into();
         }
-        let mut rank = 0;
         for (i, kind) in kinds.iter().enumerate() {
-            w[KEY + i] = ((i / ATTRIBUTES_EACH) as u64) << 32 | u64::from(path(i).attribute);
-            let (code, low, high, first) = match kind {
-                Kind::Boolean(first) => (0, 0, 0, u64::from(*first)),
-                Kind::Unsigned { low, high, first } => (1, *low, *high, *first),
-                Kind::Signed { low, high, first } => (2, *low as u64, *high as u64, *first as u64),
-                Kind::Float { low, high, first } => {
-                    (3, low.to_bits().into(), high.to_bits().into(), first.to_bits().into())
-                }
-                Kind::Text(text) => {
-                    let start = sign.defaults.len() as u64;
-                    sign.defaults.extend_from_slice(text);
-                    rank += 1;
-                    (4, start, text.len() as u64, rank - 1)
-                }
-            };
-            // Readable with View, writable with Operate, not nullable.
-            w[TRAITS + i] = code | (1 << 16) | (2 << 24);
-            w[LOW + i] = low;
-            w[HIGH + i] = high;
-            w[FIRST + i] = first;
-            sign.words[i] = if code == 4 { high } else { first };
+            sign.set_attribute(i, kind);
         }
-        sign.edits = RefCell::new(vec![0; TEXT_SIZE * rank as usize]);
         sign
+    }
+
+    /// Its row of the schema, and its first value. A text has a place in the page of edits by its rank.
+    fn set_attribute(&mut self, i: usize, kind: &Kind) {
+        let (code, low, high, first) = match kind {
+            Kind::Boolean(first) => (0, 0, 0, u64::from(*first)),
+            Kind::Unsigned { low, high, first } => (1, *low, *high, *first),
+            Kind::Signed { low, high, first } => (2, *low as u64, *high as u64, *first as u64),
+            Kind::Float { low, high, first } => {
+                (3, low.to_bits().into(), high.to_bits().into(), first.to_bits().into())
+            }
+            Kind::Text(text) => {
+                let start = self.defaults.len() as u64;
+                self.defaults.extend_from_slice(text);
+                let edits = self.edits.get_mut();
+                let rank = edits.len() / TEXT_SIZE;
+                edits.resize(edits.len() + TEXT_SIZE, 0);
+                (4, start, text.len() as u64, rank as u64)
+            }
+        };
+        let w = &mut self.schema;
+        w[KEY + i] = ((i / ATTRIBUTES_EACH) as u64) << 32 | u64::from(path(i).attribute);
+        // Readable with View, writable with Operate, not nullable.
+        w[TRAITS + i] = code | (1 << 16) | (2 << 24);
+        w[LOW + i] = low;
+        w[HIGH + i] = high;
+        w[FIRST + i] = first;
+        self.words[i] = if code == 4 { high } else { first };
     }
 
     /// Every text changed once: shown from the page of edits from then on.
