@@ -3,6 +3,7 @@
 use std::hint::black_box;
 
 use reference::answer::Answer;
+use reference::cache::Cache;
 use reference::value::Value;
 
 use crate::clock::{medians, Run};
@@ -10,7 +11,7 @@ use crate::kinds::{mixed, number_of, text_of, texts};
 use crate::library::{Held, ATTRIBUTES, MESSAGE, PAYLOAD};
 use crate::messages::{filtered_reads, single_reads, single_writes, whole_read, Messages};
 use crate::panel;
-use crate::second::{taken, Second};
+use crate::second::{take, taken, Second};
 use crate::sign::{path, Kind, Sign};
 
 const SAMPLES: usize = 401;
@@ -168,26 +169,29 @@ pub fn singles() {
     println!("{:34} {:9.0}", "a run with no message", empty[0]);
 }
 
-/// The parts of a report, and what a panel holds before each of them: the same in both programs.
+/// The parts of a report, and what a panel holds at each call that takes them: the same in both programs.
 struct Report {
     name: String,
     parts: Messages,
     texts: Vec<u8>,
     states: Vec<Held>,
+    /// The second program's panel, where it does not begin as a fresh one.
+    filled: Option<Cache>,
 }
 
 impl Report {
-    fn new(attributes: usize) -> Report {
+    /// The report that fills a fresh panel, and what is held then.
+    fn fill(attributes: usize) -> (Report, Held, Cache) {
         let Case { name, answers, .. } = Case::whole("mixed kinds", mixed(attributes));
         let mut parts = Messages::default();
         for answer in answers {
             parts.push(1, answer.bytes());
         }
         let (mut texts, mut out) = (panel::page(), [0; MESSAGE]);
-        let mut states = Vec::new();
+        let (mut last, mut states) = (Cache::default(), vec![panel::fresh()]);
         for k in 0..=parts.ends.len() {
             let some = parts.first(k);
-            let held = panel::taken(&mut texts, &some, &mut out);
+            let held = panel::taken(&mut texts, &states[0], &some, &mut out);
             let (cache, answer) = taken(&some, true);
             assert_eq!(held.number, answer.number(), "{name}: the number after {k} parts");
             assert_eq!(out[..held.len], *answer.bytes(), "{name}: the message after {k} parts");
@@ -195,28 +199,54 @@ impl Report {
             assert_eq!(entries, *cache.entries(), "{name}: the entries after {k} parts");
             assert!(panel::valid(&texts, &held));
             states.push(held);
+            last = cache;
         }
-        assert!(states.pop().is_some_and(|held| held.primed), "the last part fills the panel");
-        Report { name, parts, texts, states }
+        let held = states.pop().filter(|held| held.primed).expect("the last part fills it");
+        (Report { name, parts, texts, states, filled: None }, held, last)
+    }
+
+    /// A panel that was filled reads again, and nothing has changed.
+    fn again(texts: &[u8], held: Held, cache: Cache) -> Report {
+        let request = filtered_reads(1, ATTRIBUTES);
+        let Case { name, answers, .. } =
+            Case::new("256 again, nothing has changed", mixed(ATTRIBUTES), request.clone());
+        let mut parts = Messages::default();
+        parts.push(1, answers[0].bytes());
+        let (mut page, mut out) = (texts.to_vec(), [0; MESSAGE]);
+        let begun = panel::taken(&mut page, &held, &parts.first(0), &mut out);
+        assert_eq!(out[..begun.len], request.bytes, "a filter for each cluster");
+        let ended = panel::taken(&mut page, &held, &parts, &mut out);
+        assert_eq!((ended.number, ended.len), (1, 0), "the read ends");
+        assert_eq!(panel::entries(&page, &ended), *cache.entries(), "and nothing has changed");
+        Report { name, parts, texts: page, states: vec![held, begun], filled: Some(cache) }
+    }
+
+    fn second(&self, tested: bool) -> Run<'_> {
+        let Some(filled) = &self.filled else {
+            return Box::new(move || {
+                black_box(taken(black_box(&self.parts), tested));
+            });
+        };
+        let (mut cache, mut parts) = (filled.clone(), self.parts.clone());
+        Box::new(move || {
+            parts.renumber(cache.used());
+            assert_eq!(black_box(take(&mut cache, &parts, tested)), Answer::Nothing);
+        })
     }
 
     fn runs(&self) -> Vec<Run<'_>> {
-        let (mut page, mut out) = (panel::page(), [0; MESSAGE]);
+        let (mut page, mut out) = (self.texts.clone(), [0; MESSAGE]);
         vec![
             Box::new(move || {
-                black_box(panel::taken(&mut page, black_box(&self.parts), &mut out));
+                black_box(panel::taken(&mut page, &self.states[0], &self.parts, &mut out));
             }),
             Box::new(|| {
                 for state in &self.states {
                     black_box(panel::valid(&self.texts, black_box(state)));
                 }
             }),
-            Box::new(|| {
-                black_box(taken(black_box(&self.parts), false));
-            }),
-            Box::new(|| {
-                black_box(taken(black_box(&self.parts), true));
-            }),
+            self.second(false),
+            self.second(true),
         ]
     }
 }
@@ -224,7 +254,9 @@ impl Report {
 /// The panel begins a read and takes the whole report.
 pub fn reports() {
     heading("The panel: a read begun and taken");
-    let reports = SIZES.map(Report::new);
+    let mut reports: Vec<Report> = SIZES.map(|size| Report::fill(size).0).into();
+    let (largest, held, cache) = Report::fill(ATTRIBUTES);
+    reports.push(Report::again(&largest.texts, held, cache));
     let all = times(SAMPLES, reports.iter().flat_map(Report::runs).collect());
     for (report, times) in reports.iter().zip(&all) {
         print(&report.name, 1.0, times);

@@ -27,6 +27,7 @@ pub struct Last {
 
 /// What `panel_run` answers: number and length of the last message, and what the panel holds.
 #[repr(C)]
+#[derive(Clone, Copy)]
 pub struct Held {
     pub number: u8,
     pub len: usize,
@@ -100,6 +101,14 @@ extern "C" {
     pub fn panel_run(
         page: *mut u8,
         page_len: usize,
+        clusters: *const u64,
+        cluster_count: usize,
+        keys: *const u64,
+        versions: *const u32,
+        kinds: *const u8,
+        words: *const u64,
+        count: usize,
+        primed: bool,
         messages: *const u8,
         messages_len: usize,
         ends: *const usize,

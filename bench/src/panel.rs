@@ -5,7 +5,7 @@ use std::collections::BTreeMap;
 use reference::paths::Path;
 use reference::value::Value;
 
-use crate::library::{panel_run, panel_valid, Held, ATTRIBUTES, MESSAGE, TEXT_SIZE};
+use crate::library::{panel_run, panel_valid, Held, ATTRIBUTES, CLUSTERS, MESSAGE, TEXT_SIZE};
 use crate::messages::Messages;
 
 /// The page of texts that a panel is lent.
@@ -13,13 +13,37 @@ pub fn page() -> Vec<u8> {
     vec![0; TEXT_SIZE * ATTRIBUTES]
 }
 
-/// A fresh panel begins a read and takes the messages.
-pub fn taken(page: &mut [u8], messages: &Messages, out: &mut [u8; MESSAGE]) -> Held {
-    // SAFETY: each slice has the length that is passed with it, and only `page` and `out` may be written.
+/// What a fresh panel holds.
+pub fn fresh() -> Held {
+    Held {
+        number: 1,
+        len: 0,
+        primed: false,
+        cluster_count: 0,
+        count: 0,
+        clusters: [0; CLUSTERS],
+        keys: [0; ATTRIBUTES],
+        versions: [0; ATTRIBUTES],
+        kinds: [0; ATTRIBUTES],
+        words: [0; ATTRIBUTES],
+    }
+}
+
+/// A panel that holds this begins a read and takes the messages.
+pub fn taken(page: &mut [u8], held: &Held, messages: &Messages, out: &mut [u8; MESSAGE]) -> Held {
+    // SAFETY: the arrays have the lengths that the library declares, each slice its own, and only `page` and `out` may be written.
     unsafe {
         panel_run(
             page.as_mut_ptr(),
             page.len(),
+            held.clusters.as_ptr(),
+            held.cluster_count,
+            held.keys.as_ptr(),
+            held.versions.as_ptr(),
+            held.kinds.as_ptr(),
+            held.words.as_ptr(),
+            held.count,
+            held.primed,
             messages.bytes.as_ptr(),
             messages.bytes.len(),
             messages.ends.as_ptr(),

@@ -39,11 +39,12 @@ pub fn repeat(name: &str, attributes: usize, times: usize) {
         _ => panic!("bench/README.md has the names of the runs"),
     };
     let (mut page, mut out) = (panel::page(), [0; MESSAGE]);
+    let fresh = panel::fresh();
     let mut second = Second::new(&mixed(attributes));
     for _ in 0..times {
         match (run == "report", run == name) {
             (true, true) => {
-                black_box(panel::taken(&mut page, black_box(&messages), &mut out));
+                black_box(panel::taken(&mut page, &fresh, black_box(&messages), &mut out));
             }
             (true, false) => {
                 black_box(taken(black_box(&messages), false));

@@ -88,15 +88,25 @@ fn cache_valid(cache: &Cache) -> bool {
         && cache.entries().values().all(|(_, value)| value.is_utf8() && !value.is_too_long())
 }
 
-/// A fresh panel begins a read and takes the messages: the panel, and its last answer.
-pub fn taken(messages: &Messages, tested: bool) -> (Cache, Answer) {
-    let mut cache = Cache::default();
+/// The panel begins a read and takes the messages: its last answer.
+pub fn take(cache: &mut Cache, messages: &Messages, tested: bool) -> Answer {
+    if tested && !cache_valid(cache) {
+        return Answer::Refused(BROKEN);
+    }
     let mut last = cache.begin_read(MESSAGE);
     for message in messages.iter() {
-        if tested && !cache_valid(&cache) {
-            return (cache, Answer::Refused(BROKEN));
+        if tested && !cache_valid(cache) {
+            return Answer::Refused(BROKEN);
         }
         last = cache.receive(message, MESSAGE);
     }
+    last
+}
+
+/// A fresh panel does: the panel, and its last answer. One function of its own in the program, so that a profiler can tell it.
+#[inline(never)]
+pub fn taken(messages: &Messages, tested: bool) -> (Cache, Answer) {
+    let mut cache = Cache::default();
+    let last = take(&mut cache, messages, tested);
     (cache, last)
 }

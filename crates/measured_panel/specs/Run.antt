@@ -1,9 +1,12 @@
--- A read that a fresh panel begins, and messages given to it (document 01, The panel): what it answered last, and what it holds then.
+-- A read that a panel begins, and messages given to it (document 01, The panel): what it answered last, and what it holds then.
 use mathlib.Core.Path.{_≡_}
+use mathlib.Core.Bool.{Bool}
 use mathlib.Core.List.{List}
 use Prim.Native.Nat.{ℕ}
 use lib.ListN.{length}
 use Rattle.octets.specs.Store.{store}
+use Rattle.cached.specs.declared.Cached.{Cached}
+use Rattle.cache.specs.declared.State.{State}
 use Rattle.cache.specs.declared.Outcome.{Outcome}
 use Rattle.cache.specs.Reaction.{Reaction}
 use Rattle.cache.specs.Begin.{fresh, beginsRead}
@@ -25,16 +28,34 @@ answered x buffer =
       buffer = store buffer 0 (x .reply);
     }
 
--- a read begun by a fresh panel
-unfoldable pub begun : List ℕ → List ℕ → Taken
-begun page buffer = answered (beginsRead page fresh (length buffer)) buffer
+-- what is held, from its columns
+unfoldable pub holding : List ℕ → ℕ → List ℕ → List ℕ → List ℕ → List ℕ → ℕ → Bool → Cached
+holding clusters clusterCount keys versions kinds words count primed =
+    record {
+      clusters = clusters;
+      «cluster_count» = clusterCount;
+      keys = keys;
+      versions = versions;
+      kinds = kinds;
+      words = words;
+      count = count;
+      primed = primed;
+    }
+
+-- a panel that holds this and has asked nothing yet
+unfoldable pub idle : Cached → State
+idle c = record { held = c; asked = fresh .asked }
+
+-- a read begun by such a panel
+unfoldable pub begun : List ℕ → Cached → List ℕ → Taken
+begun page c buffer = answered (beginsRead page (idle c) (length buffer)) buffer
 
 unfoldable pub given : Taken → List ℕ → Taken
 given a m = answered (received (a .page) (a .outcome .state) m (length (a .buffer))) (a .buffer)
 
 -- THE WHOLE RUN: the messages up to the places of `ends`
-abbrev pub run : List ℕ → List ℕ → List ℕ → List ℕ → Taken
-run page buffer messages ends = afterAll given messages (begun page buffer) 0 ends
+abbrev pub run : List ℕ → Cached → List ℕ → List ℕ → List ℕ → Taken
+run page c buffer messages ends = afterAll given messages (begun page c buffer) 0 ends
 
 -- what was answered, beside what is held
 unfoldable pub panelOf : Outcome → Panel

@@ -1,8 +1,9 @@
 // What a program in C or Rust links to measure a panel: the test of refusal 2 on what it holds, and a read begun and messages taken, each by the call that a user makes.
 ghost use mathlib.Core.Path.{_≡_};
 ghost use Rattle.cached.specs.Valid.{heldRight};
-ghost use Rattle.measured_panel.specs.Run.{panelOf, run, Ran};
+ghost use Rattle.measured_panel.specs.Run.{holding, idle, panelOf, run, Ran};
 use cache::Outcome;
+use cache::State;
 use cache::begin::begin_read;
 use cache::begin::fresh;
 use cache_receive::receive;
@@ -27,6 +28,31 @@ pub struct Panel {
     pub words: [u64; ENTRIES],
 }
 
+// What a panel holds, from its columns.
+fn holding<'a>(
+    clusters: &'a [u64; CLUSTERS],
+    cluster_count: usize,
+    keys: &'a [u64; ENTRIES],
+    versions: &'a [u32; ENTRIES],
+    kinds: &'a [u8; ENTRIES],
+    words: &'a [u64; ENTRIES],
+    count: usize,
+    primed: bool,
+) -> Cached
+    ensures { λ r. ⌜ r ≡ holding (now (clusters .entry)) «cluster_count» (now (keys .entry)) (now (versions .entry)) (now (kinds .entry)) (now (words .entry)) count primed ⌝ }
+{
+    Cached {
+        clusters: *clusters,
+        cluster_count,
+        keys: *keys,
+        versions: *versions,
+        kinds: *kinds,
+        words: *words,
+        count,
+        primed,
+    }
+}
+
 // Whether what a panel holds keeps the rules.
 #[no_mangle]
 pub extern "C" fn panel_valid<'a>(
@@ -40,21 +66,31 @@ pub extern "C" fn panel_valid<'a>(
     count: usize,
     primed: bool,
 ) -> bool
-    ensures { λ r. ⌜ r ≡ heldRight (now (page .entry)) (record { clusters = now (clusters .entry); «cluster_count» = «cluster_count»; keys = now (keys .entry); versions = now (versions .entry); kinds = now (kinds .entry); words = now (words .entry); count = count; primed = primed }) ⌝ }
+    ensures { λ r. ⌜ r ≡ heldRight (now (page .entry)) (holding (now (clusters .entry)) «cluster_count» (now (keys .entry)) (now (versions .entry)) (now (kinds .entry)) (now (words .entry)) count primed) ⌝ }
 {
-    let held = Cached {
-        clusters: *clusters,
+    let held = holding(
+        clusters,
         cluster_count,
-        keys: *keys,
-        versions: *versions,
-        kinds: *kinds,
-        words: *words,
+        keys,
+        versions,
+        kinds,
+        words,
         count,
         primed,
-    };
+    );
     held_ok(page, held)
 }
 
+// A panel that holds this and has asked nothing yet.
+fn idle(held: Cached) -> State
+    ensures { λ r. ⌜ r ≡ idle held ⌝ }
+{
+    let new = fresh();
+    let asked = new.asked;
+    State { held, asked }
+}
+
+// What was answered, beside what is held.
 fn panel_of(o: Outcome) -> Panel
     ensures { λ r. ⌜ r ≡ panelOf o ⌝ }
 {
@@ -79,17 +115,35 @@ fn panel_of(o: Outcome) -> Panel
     }
 }
 
-// A fresh panel begins a read, and is given the messages one after the other.
+// Such a panel begins a read, and is given the messages one after the other.
 #[no_mangle]
 pub extern "C" fn panel_run<'a>(
     page: &mut [u8],
+    clusters: &'a [u64; CLUSTERS],
+    cluster_count: usize,
+    keys: &'a [u64; ENTRIES],
+    versions: &'a [u32; ENTRIES],
+    kinds: &'a [u8; ENTRIES],
+    words: &'a [u64; ENTRIES],
+    count: usize,
+    primed: bool,
     messages: &'a [u8],
     ends: &'a [usize],
     out: &mut [u8],
 ) -> Panel
-    ensures { λ r. ⌜ Ran (run (now (page .entry)) (now (out .entry)) (now (messages .entry)) (now (ends .entry))) r (now (page .exit)) (now (out .exit)) ⌝ }
+    ensures { λ r. ⌜ Ran (run (now (page .entry)) (holding (now (clusters .entry)) «cluster_count» (now (keys .entry)) (now (versions .entry)) (now (kinds .entry)) (now (words .entry)) count primed) (now (out .entry)) (now (messages .entry)) (now (ends .entry))) r (now (page .exit)) (now (out .exit)) ⌝ }
 {
-    let mut o = begin_read(page, fresh(), out);
+    let held = holding(
+        clusters,
+        cluster_count,
+        keys,
+        versions,
+        kinds,
+        words,
+        count,
+        primed,
+    );
+    let mut o = begin_read(page, idle(held), out);
     let mut from = 0;
     let mut i = 0;
     while i < ends.len() {
