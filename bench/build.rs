@@ -1,8 +1,10 @@
-//! Links the static library that `rt staticlib measured` writes.
+//! Links the static libraries that `rt staticlib measured` and `rt staticlib measured_panel` write.
 
 fn main() {
     let folder = format!("{}/../target/staticlib", std::env::var("CARGO_MANIFEST_DIR").unwrap());
     println!("cargo:rustc-link-search=native={folder}");
-    println!("cargo:rustc-link-lib=static=measured");
-    println!("cargo:rerun-if-changed={folder}/libmeasured.a");
+    for name in ["measured", "measured_panel"] {
+        println!("cargo:rustc-link-lib=static={name}");
+        println!("cargo:rerun-if-changed={folder}/lib{name}.a");
+    }
 }

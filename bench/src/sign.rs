@@ -2,13 +2,17 @@
 
 use std::cell::RefCell;
 
-pub const WORDS: usize = 1348;
-pub const ATTRIBUTES: usize = 256;
-pub const CLUSTERS: usize = 32;
-pub const TEXT_SIZE: usize = 200;
-pub const PAYLOAD: usize = 1024;
-pub const MESSAGE: usize = 1032;
-const SUBJECT: u64 = 1;
+use reference::paths::Path;
+
+use crate::library::{
+    sign_part, sign_run, sign_valid, Last, Part, ATTRIBUTES, CLUSTERS, MESSAGE, PAYLOAD, TEXT_SIZE,
+    WORDS,
+};
+use crate::messages::Messages;
+
+pub const SUBJECT: u64 = 1;
+pub const ATTRIBUTES_EACH: usize = 8;
+pub const FIRST_VERSION: u32 = 0x1000_0000;
 
 // Where the columns of the schema start (crates/schema/src/lib.rt).
 const PATH: usize = 4;
@@ -19,80 +23,6 @@ const LOW: usize = TRAITS + ATTRIBUTES;
 const HIGH: usize = LOW + ATTRIBUTES;
 const FIRST: usize = HIGH + ATTRIBUTES;
 
-/// What `sign_part` answers.
-#[repr(C)]
-#[derive(Clone, Copy)]
-pub struct Part {
-    pub end: usize,
-    pub path: usize,
-    pub index: usize,
-    pub more: bool,
-}
-
-// A slice is passed as its address and its length.
-extern "C" {
-    fn sign_valid(
-        w: *const u64,
-        words: *const u64,
-        nulls: *const bool,
-        edited: *const bool,
-        versions: *const u32,
-        defaults: *const u8,
-        defaults_len: usize,
-        edits: *const u8,
-        edits_len: usize,
-    ) -> bool;
-    fn sign_part(
-        w: *const u64,
-        words: *const u64,
-        nulls: *const bool,
-        edited: *const bool,
-        versions: *const u32,
-        defaults: *const u8,
-        defaults_len: usize,
-        edits: *const u8,
-        edits_len: usize,
-        path: usize,
-        index: usize,
-        out: *mut u8,
-        out_len: usize,
-    ) -> Part;
-    fn sign_call(
-        w: *const u64,
-        words: *const u64,
-        nulls: *const bool,
-        edited: *const bool,
-        versions: *const u32,
-        defaults: *const u8,
-        defaults_len: usize,
-        edits: *mut u8,
-        edits_len: usize,
-        subject: u64,
-        message: *const u8,
-        message_len: usize,
-        out: *mut u8,
-        out_len: usize,
-    ) -> usize;
-    fn sign_two_calls(
-        w: *const u64,
-        words: *const u64,
-        nulls: *const bool,
-        edited: *const bool,
-        versions: *const u32,
-        defaults: *const u8,
-        defaults_len: usize,
-        edits: *mut u8,
-        edits_len: usize,
-        subject: u64,
-        message: *const u8,
-        message_len: usize,
-        next: *const u8,
-        next_len: usize,
-        out: *mut u8,
-        out_len: usize,
-    ) -> usize;
-}
-
 /// One attribute: its kind, limits and first value.
 pub enum Kind {
     Boolean(bool),
@@ -100,6 +30,16 @@ pub enum Kind {
     Signed { low: i64, high: i64, first: i64 },
     Float { low: f32, high: f32, first: f32 },
     Text(Vec<u8>),
+}
+
+/// Where the attributes stand: 8 to a cluster, 4 clusters to an endpoint.
+pub fn path(i: usize) -> Path {
+    let cluster = i / ATTRIBUTES_EACH;
+    Path {
+        endpoint: cluster as u16 / 4,
+        cluster: 0x0500 + cluster as u32,
+        attribute: (i % ATTRIBUTES_EACH) as u32,
+    }
 }
 
 pub struct Sign {
@@ -113,9 +53,10 @@ pub struct Sign {
 }
 
 impl Sign {
-    /// A fresh sign: 32 clusters on 8 endpoints, with 8 attributes each.
+    /// A fresh sign of whole clusters.
     pub fn new(kinds: &[Kind]) -> Sign {
-        assert_eq!(kinds.len(), ATTRIBUTES);
+        assert!(kinds.len() <= ATTRIBUTES);
+        assert_eq!(kinds.len() % ATTRIBUTES_EACH, 0, "whole clusters");
         let mut sign = Sign {
             schema: Box::new([0; WORDS]),
             words: [0; ATTRIBUTES],
@@ -125,41 +66,47 @@ impl Sign {
             defaults: Vec::new(),
             edits: RefCell::new(Vec::new()),
         };
-        let w = &mut sign.schema;
-        w[0] = CLUSTERS as u64;
-        w[1] = ATTRIBUTES as u64;
-        w[2] = SUBJECT;
-        for k in 0..CLUSTERS {
-            w[PATH + k] = ((k as u64 / 4) << 32) | (0x0500 + k as u64);
-            w[VERSION + k] = 0x1000_0000 + k as u64;
-            sign.versions[k] = 0x1000_0000 + k as u32;
+        sign.schema[0] = (kinds.len() / ATTRIBUTES_EACH) as u64;
+        sign.schema[1] = kinds.len() as u64;
+        sign.schema[2] = SUBJECT;
+        for k in 0..kinds.len() / ATTRIBUTES_EACH {
+            let place = path(k * ATTRIBUTES_EACH);
+            sign.schema[PATH + k] = u64::from(place.endpoint) << 32 | u64::from(place.cluster);
+            sign.versions[k] = FIRST_VERSION + k as u32;
+            sign.schema[VERSION + k] = sign.versions[k].into();
         }
-        let mut rank = 0;
         for (i, kind) in kinds.iter().enumerate() {
-            w[KEY + i] = ((i as u64 / 8) << 32) | (i as u64 % 8);
-            let (code, low, high, first) = match kind {
-                Kind::Boolean(first) => (0, 0, 0, u64::from(*first)),
-                Kind::Unsigned { low, high, first } => (1, *low, *high, *first),
-                Kind::Signed { low, high, first } => (2, *low as u64, *high as u64, *first as u64),
-                Kind::Float { low, high, first } => {
-                    (3, low.to_bits().into(), high.to_bits().into(), first.to_bits().into())
-                }
-                Kind::Text(text) => {
-                    let start = sign.defaults.len() as u64;
-                    sign.defaults.extend_from_slice(text);
-                    rank += 1;
-                    (4, start, text.len() as u64, rank - 1)
-                }
-            };
-            // Readable with View, writable with Operate, not nullable.
-            w[TRAITS + i] = code | (1 << 16) | (2 << 24);
-            w[LOW + i] = low;
-            w[HIGH + i] = high;
-            w[FIRST + i] = first;
-            sign.words[i] = if code == 4 { high } else { first };
+            sign.set_attribute(i, kind);
         }
-        sign.edits = RefCell::new(vec![0; TEXT_SIZE * rank as usize]);
         sign
+    }
+
+    /// Its row of the schema, and its first value. A text has a place in the page of edits by its rank.
+    fn set_attribute(&mut self, i: usize, kind: &Kind) {
+        let (code, low, high, first) = match kind {
+            Kind::Boolean(first) => (0, 0, 0, u64::from(*first)),
+            Kind::Unsigned { low, high, first } => (1, *low, *high, *first),
+            Kind::Signed { low, high, first } => (2, *low as u64, *high as u64, *first as u64),
+            Kind::Float { low, high, first } => {
+                (3, low.to_bits().into(), high.to_bits().into(), first.to_bits().into())
+            }
+            Kind::Text(text) => {
+                let start = self.defaults.len() as u64;
+                self.defaults.extend_from_slice(text);
+                let edits = self.edits.get_mut();
+                let rank = edits.len() / TEXT_SIZE;
+                edits.resize(edits.len() + TEXT_SIZE, 0);
+                (4, start, text.len() as u64, rank as u64)
+            }
+        };
+        let w = &mut self.schema;
+        w[KEY + i] = ((i / ATTRIBUTES_EACH) as u64) << 32 | u64::from(path(i).attribute);
+        // Readable with View, writable with Operate, not nullable.
+        w[TRAITS + i] = code | (1 << 16) | (2 << 24);
+        w[LOW + i] = low;
+        w[HIGH + i] = high;
+        w[FIRST + i] = first;
+        self.words[i] = if code == 4 { high } else { first };
     }
 
     /// Every text changed once: shown from the page of edits from then on.
@@ -228,8 +175,8 @@ impl Sign {
         }
     }
 
-    /// A whole read: how many parts it has.
-    pub fn read(&self, out: &mut [u8; PAYLOAD]) -> usize {
+    /// A whole read by its parts alone: how many there are.
+    pub fn parts(&self, out: &mut [u8; PAYLOAD]) -> usize {
         let mut part = self.part(0, 0, out);
         let mut parts = 1;
         while part.more {
@@ -239,12 +186,12 @@ impl Sign {
         parts
     }
 
-    /// The whole call for a message given to the sign: the reply's length.
-    pub fn call(&self, message: &[u8], out: &mut [u8; MESSAGE]) -> usize {
+    /// The messages given to the sign as it is here, one after the other, each by a whole call: the last reply.
+    pub fn run(&self, messages: &Messages, out: &mut [u8; MESSAGE]) -> Last {
         let mut edits = self.edits.borrow_mut();
         // SAFETY: the arrays have the lengths that the library declares, each slice its own, and only `edits` and `out` may be written.
         unsafe {
-            sign_call(
+            sign_run(
                 self.schema.as_ptr(),
                 self.words.as_ptr(),
                 self.nulls.as_ptr(),
@@ -255,34 +202,10 @@ impl Sign {
                 edits.as_mut_ptr(),
                 edits.len(),
                 SUBJECT,
-                message.as_ptr(),
-                message.len(),
-                out.as_mut_ptr(),
-                out.len(),
-            )
-        }
-    }
-
-    /// The same, and a second message given to the sign as the first left it: the second reply's length.
-    pub fn two_calls(&self, message: &[u8], next: &[u8], out: &mut [u8; MESSAGE]) -> usize {
-        let mut edits = self.edits.borrow_mut();
-        // SAFETY: as above.
-        unsafe {
-            sign_two_calls(
-                self.schema.as_ptr(),
-                self.words.as_ptr(),
-                self.nulls.as_ptr(),
-                self.edited.as_ptr(),
-                self.versions.as_ptr(),
-                self.defaults.as_ptr(),
-                self.defaults.len(),
-                edits.as_mut_ptr(),
-                edits.len(),
-                SUBJECT,
-                message.as_ptr(),
-                message.len(),
-                next.as_ptr(),
-                next.len(),
+                messages.bytes.as_ptr(),
+                messages.bytes.len(),
+                messages.ends.as_ptr(),
+                messages.ends.len(),
                 out.as_mut_ptr(),
                 out.len(),
             )

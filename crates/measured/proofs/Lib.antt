@@ -1,2 +1,3 @@
 pub mod ReadLaws
-pub mod CallLaws
+pub mod MessageLaws
+pub mod RunLaws

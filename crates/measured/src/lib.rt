@@ -1,4 +1,4 @@
-// What a program in C or Rust links to measure a sign: the test of refusal 2 alone, one part of a read of everything, and whole calls.
+// What a program in C or Rust links to measure a sign: the test of refusal 2 alone, one part of a read of everything, and runs of whole calls.
 ghost use mathlib.Core.Path.{_≡_};
 ghost use mathlib.Core.Bool.{true};
 ghost use mathlib.Core.List.{[], _∷_};
@@ -8,10 +8,8 @@ ghost use Rattle.schema.specs.Check.{wellFormed};
 ghost use Rattle.report.specs.Blocks.{valuesOf, viewOf, blocksFrom};
 ghost use Rattle.report.specs.Chunk.{maxPayload};
 ghost use Rattle.report.specs.Part.{Made};
-ghost use Rattle.measured.specs.Sign.{signRight, everything, allGranted, readAll, openEntries, idle, called, calledAfter};
+ghost use Rattle.measured.specs.Sign.{signRight, everything, allGranted, readAll};
 use acl::ADMINISTER;
-use acl::ENTRIES;
-use acl::Entry;
 use acl::Grants;
 use interaction::MAX_FILTERS;
 use interaction::MAX_PATHS;
@@ -24,11 +22,11 @@ use schema::CLUSTERS;
 use schema::WORDS;
 use schema::check::well_formed;
 use selection::asked::Asked;
-use server::State;
-use server::receive::receive_in;
-use server::start::fresh_row;
 use values::Values;
 use values::valid::values_ok;
+
+pub mod messages; // messages.rt: messages that stand one after the other
+pub mod run; // run.rt: a run of messages given to a sign
 
 // Where a part ends in the buffer, where the read goes on, and whether more is promised.
 #[repr(C)]
@@ -132,86 +130,4 @@ pub extern "C" fn sign_part<'a>(
         index: f.place.index,
         more: f.more,
     }
-}
-
-// One access entry: every privilege, for anyone, everywhere.
-fn open_entries() -> [Entry; ENTRIES]
-    ensures { λ r. ⌜ r ≡ openEntries ⌝ }
-{
-    let all = Entry {
-        privilege: ADMINISTER,
-        any_subject: true,
-        subject: 0,
-        any_endpoint: true,
-        endpoint: 0,
-        any_cluster: true,
-        cluster: 0,
-    };
-    [all; ENTRIES]
-}
-
-// A sign that holds these and serves no exchange yet.
-fn holding<'a>(
-    words: &'a [u64; ATTRIBUTES],
-    nulls: &'a [bool; ATTRIBUTES],
-    edited: &'a [bool; ATTRIBUTES],
-    versions: &'a [u32; CLUSTERS],
-) -> State
-    ensures { λ r. ⌜ r ≡ idle (now (words .entry)) (now (nulls .entry)) (now (edited .entry)) (now (versions .entry)) ⌝ }
-{
-    let values = Values {
-        words: *words,
-        nulls: *nulls,
-        edited: *edited,
-        versions: *versions,
-    };
-    let row = fresh_row();
-    State { values, row }
-}
-
-// The whole call for a message given to such a sign: the reply's length.
-#[no_mangle]
-pub extern "C" fn sign_call<'a>(
-    w: &'a [u64; WORDS],
-    words: &'a [u64; ATTRIBUTES],
-    nulls: &'a [bool; ATTRIBUTES],
-    edited: &'a [bool; ATTRIBUTES],
-    versions: &'a [u32; CLUSTERS],
-    defaults: &'a [u8],
-    edits: &mut [u8],
-    subject: u64,
-    message: &'a [u8],
-    out: &mut [u8],
-) -> usize
-    ensures { λ r. ⌜ r ≡ length (called (now (w .entry)) (now (defaults .entry)) (now (edits .entry)) (idle (now (words .entry)) (now (nulls .entry)) (now (edited .entry)) (now (versions .entry))) subject (now (message .entry)) (length (now (out .entry))) .reply) ⌝ }
-{
-    let s = holding(words, nulls, edited, versions);
-    let t = open_entries();
-    let o = receive_in(w, defaults, edits, s, t, 1, subject, message, out);
-    o.len
-}
-
-// The same, and a second message given to the sign as the first left it: the second reply's length.
-#[no_mangle]
-pub extern "C" fn sign_two_calls<'a>(
-    w: &'a [u64; WORDS],
-    words: &'a [u64; ATTRIBUTES],
-    nulls: &'a [bool; ATTRIBUTES],
-    edited: &'a [bool; ATTRIBUTES],
-    versions: &'a [u32; CLUSTERS],
-    defaults: &'a [u8],
-    edits: &mut [u8],
-    subject: u64,
-    message: &'a [u8],
-    next: &'a [u8],
-    out: &mut [u8],
-) -> usize
-    ensures { λ r. ⌜ r ≡ length (calledAfter (now (w .entry)) (now (defaults .entry)) (called (now (w .entry)) (now (defaults .entry)) (now (edits .entry)) (idle (now (words .entry)) (now (nulls .entry)) (now (edited .entry)) (now (versions .entry))) subject (now (message .entry)) (length (now (out .entry)))) subject (now (next .entry)) (length (now (out .entry))) .reply) ⌝ }
-{
-    let s = holding(words, nulls, edited, versions);
-    let t = open_entries();
-    let o = receive_in(w, defaults, edits, s, t, 1, subject, message, out);
-    let left = o.state;
-    let p = receive_in(w, defaults, edits, left, t, 1, subject, next, out);
-    p.len
 }

@@ -1,7 +1,7 @@
 use borrow.Author.Needs.{needs}
-use Rattle.measured.specs.Sign.{idle}
-use Rattle.measured.proofs.holding.Statement.{statement}
-use Rattle.measured.proofs.holding.Tie as tie
+use Rattle.measured.specs.Run.{idle}
+use Rattle.measured.proofs.run.holding.Statement.{statement}
+use Rattle.measured.proofs.run.holding.Tie as tie
 
 fresh-row-requires : tie.Need-fresh-row-requires
 fresh-row-requires c κs = search needs

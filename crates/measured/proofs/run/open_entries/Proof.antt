@@ -1,7 +1,7 @@
 use mathlib.Core.Path.{refl}
-use Rattle.measured.specs.Sign.{openEntries}
-use Rattle.measured.proofs.open_entries.Statement.{statement}
-use Rattle.measured.proofs.open_entries.Tie as tie
+use Rattle.measured.specs.Run.{openEntries}
+use Rattle.measured.proofs.run.open_entries.Statement.{statement}
+use Rattle.measured.proofs.run.open_entries.Tie as tie
 
 returns : tie.Need-returns
 unfolding openEntries

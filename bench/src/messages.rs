@@ -1,0 +1,112 @@
+//! Messages one after the other, as both programs are given them.
+
+use reference::envelope::{seal, Envelope, READ_REQUEST, STATUS_RESPONSE, WRITE_REQUEST};
+use reference::paths::Path;
+use reference::spelling;
+use reference::status::SUCCESS;
+use reference::tlv::{write, Element};
+use reference::value::Value;
+
+use crate::sign::{path, ATTRIBUTES_EACH, FIRST_VERSION};
+
+#[derive(Clone, Default)]
+pub struct Messages {
+    pub bytes: Vec<u8>,
+    /// Where each message ends, and the exchange that it was made for.
+    pub ends: Vec<usize>,
+    exchanges: Vec<u64>,
+}
+
+impl Messages {
+    pub fn push(&mut self, exchange: u64, message: &[u8]) {
+        self.bytes.extend_from_slice(message);
+        self.ends.push(self.bytes.len());
+        self.exchanges.push(exchange);
+    }
+
+    pub fn first(&self, count: usize) -> Messages {
+        let ends = self.ends[..count].to_vec();
+        let bytes = self.bytes[..ends.last().copied().unwrap_or(0)].to_vec();
+        Messages { bytes, ends, exchanges: self.exchanges[..count].to_vec() }
+    }
+
+    pub fn iter(&self) -> impl Iterator<Item = &[u8]> {
+        let starts = std::iter::once(0).chain(self.ends.iter().copied());
+        starts.zip(&self.ends).map(|(start, end)| &self.bytes[start..*end])
+    }
+
+    /// Each exchange this much higher than it was made for: a sign serves no number twice.
+    pub fn renumber(&mut self, above: u64) {
+        let mut start = 0;
+        for (end, exchange) in self.ends.iter().zip(&self.exchanges) {
+            let number = (exchange + above).to_be_bytes();
+            self.bytes[start + 1..start + 6].copy_from_slice(&number[3..]);
+            start = *end;
+        }
+    }
+
+    pub fn last_exchange(&self) -> u64 {
+        self.exchanges.last().copied().unwrap_or(0)
+    }
+}
+
+fn request(opcode: u8, exchange: u64, payload: &Element) -> Vec<u8> {
+    seal(Envelope { opcode, exchange, turn: 0 }, &write(payload))
+}
+
+/// A read of everything, in exchange 1.
+pub fn read_all() -> Vec<u8> {
+    let paths = vec![spelling::open_path(None, None, None)];
+    request(READ_REQUEST, 1, &spelling::read_request(paths, Vec::new()))
+}
+
+/// So many reads of everything by a panel that holds it all, each an exchange: a filter for each cluster, at the version that it began with.
+pub fn filtered_reads(count: u64, attributes: usize) -> Messages {
+    let mut messages = Messages::default();
+    for exchange in 1..=count {
+        let paths = vec![spelling::open_path(None, None, None)];
+        let filters = (0..attributes / ATTRIBUTES_EACH)
+            .map(|k| spelling::filter(path(k * ATTRIBUTES_EACH).place(), FIRST_VERSION + k as u32));
+        let payload = spelling::read_request(paths, filters.collect());
+        messages.push(exchange, &request(READ_REQUEST, exchange, &payload));
+    }
+    messages
+}
+
+/// The success that asks for the part after this one.
+pub fn success(turn: u16) -> Vec<u8> {
+    let envelope = Envelope { opcode: STATUS_RESPONSE, exchange: 1, turn };
+    seal(envelope, &write(&spelling::status_response(SUCCESS)))
+}
+
+/// A whole read of so many parts.
+pub fn whole_read(parts: usize) -> Messages {
+    let mut messages = Messages::default();
+    messages.push(1, &read_all());
+    for turn in 1..parts {
+        messages.push(1, &success(turn as u16));
+    }
+    messages
+}
+
+/// So many reads of one attribute, each an exchange.
+pub fn single_reads(count: u64, path: &Path) -> Messages {
+    let mut messages = Messages::default();
+    let open = |id| spelling::open_path(Some(path.endpoint), Some(path.cluster), Some(id));
+    for exchange in 1..=count {
+        let payload = spelling::read_request(vec![open(path.attribute)], Vec::new());
+        messages.push(exchange, &request(READ_REQUEST, exchange, &payload));
+    }
+    messages
+}
+
+/// So many writes of one attribute, each an exchange; the two values take turns, so that each is a change.
+pub fn single_writes(count: u64, path: &Path, values: &[Value; 2]) -> Messages {
+    let mut messages = Messages::default();
+    for exchange in 1..=count {
+        let entry = spelling::write_entry(None, path, &values[exchange as usize % 2]);
+        let payload = spelling::write_request(false, vec![entry]);
+        messages.push(exchange, &request(WRITE_REQUEST, exchange, &payload));
+    }
+    messages
+}

@@ -1,0 +1,97 @@
+//! A panel as the library has it, and safe calls of its functions.
+
+use std::collections::BTreeMap;
+
+use reference::paths::Path;
+use reference::value::Value;
+
+use crate::library::{panel_run, panel_valid, Held, ATTRIBUTES, CLUSTERS, MESSAGE, TEXT_SIZE};
+use crate::messages::Messages;
+
+/// The page of texts that a panel is lent.
+pub fn page() -> Vec<u8> {
+    vec![0; TEXT_SIZE * ATTRIBUTES]
+}
+
+/// What a fresh panel holds.
+pub fn fresh() -> Held {
+    Held {
+        number: 1,
+        len: 0,
+        primed: false,
+        cluster_count: 0,
+        count: 0,
+        clusters: [0; CLUSTERS],
+        keys: [0; ATTRIBUTES],
+        versions: [0; ATTRIBUTES],
+        kinds: [0; ATTRIBUTES],
+        words: [0; ATTRIBUTES],
+    }
+}
+
+/// A panel that holds this begins a read and takes the messages.
+pub fn taken(page: &mut [u8], held: &Held, messages: &Messages, out: &mut [u8; MESSAGE]) -> Held {
+    // SAFETY: the arrays have the lengths that the library declares, each slice its own, and only `page` and `out` may be written.
+    unsafe {
+        panel_run(
+            page.as_mut_ptr(),
+            page.len(),
+            held.clusters.as_ptr(),
+            held.cluster_count,
+            held.keys.as_ptr(),
+            held.versions.as_ptr(),
+            held.kinds.as_ptr(),
+            held.words.as_ptr(),
+            held.count,
+            held.primed,
+            messages.bytes.as_ptr(),
+            messages.bytes.len(),
+            messages.ends.as_ptr(),
+            messages.ends.len(),
+            out.as_mut_ptr(),
+            out.len(),
+        )
+    }
+}
+
+/// The test of refusal 2 on what a panel holds.
+pub fn valid(page: &[u8], held: &Held) -> bool {
+    // SAFETY: the arrays have the lengths that the library declares, and the library writes to none.
+    unsafe {
+        panel_valid(
+            page.as_ptr(),
+            page.len(),
+            held.clusters.as_ptr(),
+            held.cluster_count,
+            held.keys.as_ptr(),
+            held.versions.as_ptr(),
+            held.kinds.as_ptr(),
+            held.words.as_ptr(),
+            held.count,
+            held.primed,
+        )
+    }
+}
+
+/// What the panel holds, in the second program's terms (crates/cached/src/lib.rt has the columns).
+pub fn entries(page: &[u8], held: &Held) -> BTreeMap<Path, (u32, Value)> {
+    let entry = |i: usize| {
+        let place = held.clusters[(held.keys[i] >> 32) as usize];
+        let path = Path {
+            endpoint: (place >> 32) as u16,
+            cluster: place as u32,
+            attribute: held.keys[i] as u32,
+        };
+        let word = held.words[i];
+        let value = match held.kinds[i] {
+            0 => Value::Null,
+            1 => Value::Bool(word == 1),
+            2 => Value::Unsigned(word),
+            3 => Value::Signed(word as i64),
+            4 => Value::Float(word as u32),
+            _ => Value::Text(page[TEXT_SIZE * i..TEXT_SIZE * i + word as usize].to_vec()),
+        };
+        (path, (held.versions[i], value))
+    };
+    (0..held.count).map(entry).collect()
+}
