@@ -5,8 +5,10 @@ use Prim.Native.Nat.{ℕ}
 use Rattle.server.specs.declared.State as server
 use Rattle.cache.specs.declared.State as cache
 use Rattle.cache.specs.Reaction as panel
-use Rattle.promises.specs.World.{World, with, afterSign, afterPanel}
-use Rattle.promises_example.specs.Calls.{version6, reacts}
+use Rattle.envelope.specs.Envelope.{maxMessage}
+use Rattle.promises.specs.World.{World, subjectOf, with, afterSign, afterPanel, answered}
+use Rattle.promises_example.specs.Plan.{plan}
+use Rattle.promises_example.specs.Calls.{given, answers, version6, reacts}
 
 pub record Holds (u : World) (s : server.State) (e : List ℕ) (c : cache.State) (t : List ℕ) (qs rs : List (List ℕ)) : Type 0 where
   pub sign-is : u .sign ≡ s
@@ -17,6 +19,12 @@ pub record Holds (u : World) (s : server.State) (e : List ℕ) (c : cache.State)
   pub replies-are : u .replies ≡ rs
   -- cluster 6, the schema's first, has not changed
   pub unchanged : u .changes 0 ≡ 0
+
+-- a message handed to the sign by the plan's subject, with a buffer of full size
+abbrev pub heard : World → List ℕ → World
+heard u m =
+    let x = answered plan u (subjectOf plan) m maxMessage in
+    afterSign u (x .state) (x .edits) (x .reply)
 
 module _ {u : World} {s : server.State} {e : List ℕ} {c : cache.State} {t : List ℕ} {qs rs : List (List ℕ)} (h : Holds u s e c t qs rs) where
   -- a call of the sign that leaves cluster 6 at its version
@@ -34,6 +42,13 @@ module _ {u : World} {s : server.State} {e : List ℕ} {c : cache.State} {t : Li
         replies-are = rw (h .edits-are, h .sign-is, h .replies-are) reply;
         unchanged = rw (h .unchanged, h .edits-are, h .sign-is, to, old, new) refl;
       }
+
+  pub hearing : (m : List ℕ) {s′ : server.State} {e′ reply : List ℕ} {rs′ : List (List ℕ)}
+      → given e s m ≡ answers s′ e′ reply → with reply rs ≡ rs′ → version6 s ≡ 5 → version6 s′ ≡ 5
+      → Holds (heard u m) s′ e′ c t qs rs′
+  hearing m to reply =
+      served (λ e s. given e s m .state) (λ e s. given e s m .edits) (λ e s. given e s m .reply) (ap (λ x. x .state) to) (ap (λ x. x .edits) to)
+      (ap (λ x. with (x .reply) rs) to ∙ reply)
 
   -- a call of the panel
   pub reacted : (f : List ℕ → cache.State → panel.Reaction) {n : ℕ} {c′ : cache.State} {t′ q : List ℕ} {qs′ : List (List ℕ)}

@@ -2,7 +2,7 @@
 -- held it; the one that changed between the parts is not called whole.
 use mathlib.Core.Path.{_≡_, refl, ap, _∙_}
 use mathlib.Core.Logic.{inl, inr}
-use mathlib.Core.List.{List, [], _∷_, List·Memᴰ, List·Memᴰ·head, List·Memᴰ·tail, List·Memᴰ·not-nil}
+use mathlib.Core.List.{List, [], _∷_, List·Memᴰ, List·Memᴰ·head, List·Memᴰ·not-nil}
 use Prim.Native.Nat.{ℕ, _^_, _≤_, _<_}
 use native.Mathlib.Omega.{arith}
 use Rattle.tlv.specs.declared.Value.the-variants.{Text}
@@ -12,7 +12,7 @@ use Rattle.cache.specs.State.{reading}
 use Rattle.cache_ask.specs.Ask.{said, saysWhole, entrySaid, saysEntry}
 use Rattle.promises.specs.World.{World}
 use Rattle.promises.specs.Runs.{Run, none, then, Reach, join, Visits, Calm, Heard, Got, alters, beginsRead, resends, hears, gets}
-use Rattle.promises.specs.Claims.{CallsWhole, versionOf, changesOf, onRow, shown, entryFor, Arrived, Ended}
+use Rattle.promises.specs.Claims.{CallsWhole, versionOf, changesOf, shown, entryFor, Arrived, Ended}
 use Rattle.promises.proofs.Main.{first-half, second-half}
 use Rattle.protocol.proofs.SmallLaws.{all-cons}
 use Rattle.promises_example.specs.Plan.{plan}
@@ -21,7 +21,7 @@ use Rattle.promises_example.specs.Panel.{panel1}
 use Rattle.promises_example.proofs.SignCalls.{sign-calls}
 use Rattle.promises_example.proofs.PanelCalls.{panel-calls}
 use Rattle.promises_example.proofs.Start.{start}
-use Rattle.promises_example.proofs.Run.{begun, lost, resent, repeated, taken, refused, changed, sent, ended, begun-holds, lost-holds, resent-holds, repeated-holds, taken-holds, refused-holds, changed-holds, sent-holds, ended-holds}
+use Rattle.promises_example.proofs.Run.{begun, lost, resent, repeated, taken, refused, changed, sent, ended, begun-holds, resent-holds, repeated-holds, taken-holds, changed-holds, sent-holds, ended-holds}
 
 -- one cluster ends whole, and one not
 pub whole : CallsWhole ended 1 6 5
@@ -58,21 +58,16 @@ pub calm : Calm run
 unfolding lost resent repeated taken refused changed sent ended
 calm = ((((((((tt, tt), tt), tt), tt), tt), tt), tt), tt)
 
+each-of-three : (P : List ℕ → Type 0) {a b c : List ℕ} → P a → P b → P c → (m : List ℕ) → List·Memᴰ m (a ∷ b ∷ c ∷ []) → P m
+each-of-three P x y z = all-cons P x (all-cons P y (all-cons P z (λ m i. absurd (List·Memᴰ·not-nil i))))
+
 -- each message and each reply has arrived
 pub arrived : Arrived run
 unfolding lost resent repeated taken refused changed sent ended
 arrived =
     record {
-      requests =
-          λ m i e.
-          all-cons (λ (m : List ℕ). Heard m run) (inl (inr (refl, full)))
-          (all-cons (λ (m : List ℕ). Heard m run) asked (all-cons (λ (m : List ℕ). Heard m run) asked (λ m i. absurd (List·Memᴰ·not-nil i))))
-          m (rw (ended-holds .requests-are) at i);
-      replies =
-          λ m i e.
-          all-cons (λ (m : List ℕ). Got m run) (inr (refl, full))
-          (all-cons (λ (m : List ℕ). Got m run) first (all-cons (λ (m : List ℕ). Got m run) first (λ m i. absurd (List·Memᴰ·not-nil i))))
-          m (rw (ended-holds .replies-are) at i);
+      requests = λ m i e. each-of-three (λ (m : List ℕ). Heard m run) (inl (inr (refl, full))) asked asked m (rw (ended-holds .requests-are) at i);
+      replies = λ m i e. each-of-three (λ (m : List ℕ). Got m run) (inr (refl, full)) first first m (rw (ended-holds .replies-are) at i);
     }
   where
     full : maxMessage ≤ maxMessage

@@ -1,5 +1,5 @@
 -- THE STATES OF THE RUN: a read in two parts. The first part is lost, asked for again and arrives twice; the second cluster changes between the parts.
-use mathlib.Core.Path.{_≡_, refl, ap, _∙_}
+use mathlib.Core.Path.{refl, ap}
 use mathlib.Core.List.{List, [], _∷_}
 use Prim.Native.Nat.{ℕ}
 use Rattle.tlv.specs.declared.Value.the-variants.{Text}
@@ -7,23 +7,19 @@ use Rattle.envelope.specs.Envelope.{maxMessage}
 use Rattle.cache.specs.Begin as begin
 use Rattle.cache.specs.Begin.{fresh}
 use Rattle.cache_receive.specs.Receive as receive
-use Rattle.promises.specs.World.{World, subjectOf, with, afterSign, afterPanel, answered, altered}
+use Rattle.promises.specs.World.{World, afterSign, afterPanel, altered}
 use Rattle.promises.specs.World as world
 use Rattle.promises_example.specs.Plan.{plan, edits, page}
 use Rattle.promises_example.specs.Messages.{request, success, part1, part2, new}
 use Rattle.promises_example.specs.Sign.{sign0, sign1, sign2, sign3, changedEdits}
 use Rattle.promises_example.specs.Panel.{panel1, panel2, panel3, page2, page3}
-use Rattle.promises_example.specs.Calls.{given, renewed}
+use Rattle.promises_example.specs.Calls.{renewed}
 use Rattle.promises_example.proofs.SignCalls.{sign-calls}
 use Rattle.promises_example.proofs.PanelCalls.{panel-calls}
-use Rattle.promises_example.proofs.Holds.{Holds, served, reacted}
+use Rattle.promises_example.proofs.Holds.{Holds, heard, served, hearing, reacted}
 use Rattle.promises_example.proofs.Start.{start}
 
--- a message handed to the sign, and a reply to the panel, each with a buffer of full size
-abbrev heard : World → List ℕ → World
-heard u m =
-    afterSign u (answered plan u (subjectOf plan) m maxMessage .state) (answered plan u (subjectOf plan) m maxMessage .edits) (answered plan u (subjectOf plan) m maxMessage .reply)
-
+-- a reply handed to the panel, with a buffer of full size
 abbrev got : World → List ℕ → World
 got u m = afterPanel u (receive.received (u .page) (u .panel) m maxMessage)
 
@@ -77,8 +73,7 @@ begun-holds = reacted fresh-holds (λ t c. begin.beginsRead t c maxMessage) (pan
 
 pub lost-holds : Holds lost sign1 edits panel1 page (request ∷ []) (part1 ∷ [])
 unfolding lost
-lost-holds = served begun-holds (λ e s. given e s request .state) (λ e s. given e s request .edits) (λ e s. given e s request .reply) (ap (λ x. x .state) (sign-calls .begins)) (ap (λ x. x .edits) (sign-calls .begins))
-    (ap (λ x. with (x .reply) []) (sign-calls .begins) ∙ sign-calls .part1-sent []) (sign-calls .stands .0) (sign-calls .stands .1)
+lost-holds = hearing begun-holds request (sign-calls .begins) (sign-calls .part1-sent []) (sign-calls .stands .0) (sign-calls .stands .1)
 
 pub resent-holds : Holds resent sign1 edits panel1 page (request ∷ request ∷ []) (part1 ∷ [])
 unfolding resent
@@ -86,8 +81,7 @@ resent-holds = reacted lost-holds (λ t c. begin.resends t c maxMessage) (panel-
 
 pub repeated-holds : Holds repeated sign1 edits panel1 page (request ∷ request ∷ []) (part1 ∷ part1 ∷ [])
 unfolding repeated
-repeated-holds = served resent-holds (λ e s. given e s request .state) (λ e s. given e s request .edits) (λ e s. given e s request .reply) (ap (λ x. x .state) (sign-calls .repeats)) (ap (λ x. x .edits) (sign-calls .repeats))
-    (ap (λ x. with (x .reply) (part1 ∷ [])) (sign-calls .repeats) ∙ sign-calls .part1-sent (part1 ∷ [])) (sign-calls .stands .1) (sign-calls .stands .1)
+repeated-holds = hearing resent-holds request (sign-calls .repeats) (sign-calls .part1-sent (part1 ∷ [])) (sign-calls .stands .1) (sign-calls .stands .1)
 
 pub taken-holds : Holds taken sign1 edits panel2 page2 (success ∷ request ∷ request ∷ []) (part1 ∷ part1 ∷ [])
 unfolding taken
@@ -104,8 +98,7 @@ changed-holds = served refused-holds (λ e s. renewed e s .state) (λ e s. renew
 
 pub sent-holds : Holds sent sign3 changedEdits panel2 page2 (success ∷ request ∷ request ∷ []) (part2 ∷ part1 ∷ part1 ∷ [])
 unfolding sent
-sent-holds = served changed-holds (λ e s. given e s success .state) (λ e s. given e s success .edits) (λ e s. given e s success .reply) (ap (λ x. x .state) (sign-calls .goes-on)) (ap (λ x. x .edits) (sign-calls .goes-on))
-    (ap (λ x. with (x .reply) (part1 ∷ part1 ∷ [])) (sign-calls .goes-on) ∙ sign-calls .part2-sent (part1 ∷ part1 ∷ [])) (sign-calls .stands .2) (sign-calls .stands .3)
+sent-holds = hearing changed-holds success (sign-calls .goes-on) (sign-calls .part2-sent (part1 ∷ part1 ∷ [])) (sign-calls .stands .2) (sign-calls .stands .3)
 
 pub ended-holds : Holds ended sign3 changedEdits panel3 page3 (success ∷ request ∷ request ∷ []) (part2 ∷ part1 ∷ part1 ∷ [])
 unfolding ended

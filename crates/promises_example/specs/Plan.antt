@@ -16,9 +16,9 @@ column n l = l ++ replicate (n - length l) 0
 abbrev pub key : ℕ → ℕ → ℕ
 key place id = place * half + id
 
--- a text, readable with View, writable with Operate
+-- a text, readable with View, not writable
 abbrev traits : ℕ
-traits = 4 + 1 * 2 ^ 16 + 2 * 2 ^ 24
+traits = 4 + 1 * 2 ^ 16
 
 -- the word of a cluster on endpoint 1
 abbrev pub path : ℕ → ℕ
@@ -52,21 +52,12 @@ edits = replicate (5 * textSize) 0
 unfoldable pub page : List ℕ
 page = replicate pageSize 0
 
--- subject 1 may operate every cluster of endpoint 1
-abbrev operator : Entry
-operator =
-    record {
-      privilege = 2;
-      «any_subject» = false;
-      subject = 1;
-      «any_endpoint» = false;
-      endpoint = 1;
-      «any_cluster» = true;
-      cluster = 0;
-    }
+-- subject 1 may view everything
+abbrev viewer : Entry
+viewer = record { privilege = 1; «any_subject» = false; subject = 1; «any_endpoint» = true; endpoint = 0; «any_cluster» = true; cluster = 0 }
 
 unfoldable pub access : List Entry
-access = operator ∷ []
+access = viewer ∷ []
 
 unfoldable pub plan : Plan
 plan = record { words = words; defaults = defaults; table = access }
