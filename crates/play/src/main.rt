@@ -4,16 +4,14 @@
 use cached::PAGE_SIZE;
 use envelope::MAX_MESSAGE;
 use input::INPUT;
-use player::Player;
+use player::ends::Player;
+use player::play_line;
 use schema::WORDS;
 use script_setup::PAGE;
 use script_setup::SETUP;
 
 mod input; // input.rt: standard input
-mod lines; // lines.rt: one line, by its first word
-mod player; // player.rt: what a script has made so far
 mod print; // print.rt: answers, and what is wrong
-mod turns; // turns.rt: what a line leaves behind
 
 // The whole script. A proved loop has to end, and nothing says that the input does: so its turns are counted down from a number that no run uses up.
 fn run(
@@ -35,7 +33,7 @@ fn run(
             return;
         }
         let line = input::line_of(input, reader.from, reader.to);
-        let done = lines::play_line(line, player, setup, words, defaults, edits, page, out);
+        let done = play_line(line, player, setup, words, defaults, edits, page, out);
         let said = done.said;
         if !print::show(said, reader.number, out) {
             return;
@@ -54,7 +52,7 @@ fn main() {
     let mut edits = [0u8; PAGE];
     let mut page = [0u8; PAGE_SIZE];
     let mut out = [0u8; MAX_MESSAGE];
-    let p = player::fresh(&words, &defaults);
+    let p = player::ends::fresh(&words, &defaults);
     run(
         &mut input,
         p,

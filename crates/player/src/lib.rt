@@ -1,15 +1,8 @@
-// One line of a script, by its first word.
-use super::player::Played;
-use super::player::Player;
-use super::player::started;
-use super::turns::acted;
-use super::turns::buffer_line;
-use super::turns::given;
-use super::turns::quiet;
-use super::turns::replied;
-use super::turns::used_line;
-use super::turns::wrong;
+// One line of a script played, by its first word. No input and no output.
 use cached::PAGE_SIZE;
+use ends::Played;
+use ends::Player;
+use ends::started;
 use envelope::MAX_MESSAGE;
 use kinds::stored::same_bytes;
 use schema::WORDS;
@@ -28,6 +21,16 @@ use script_setup::plan::set_schema;
 use script_setup::setup_line;
 use script_sign::is_sign;
 use script_sign::sign_line;
+use turns::acted;
+use turns::buffer_line;
+use turns::given;
+use turns::quiet;
+use turns::replied;
+use turns::used_line;
+use turns::wrong;
+
+pub mod ends; // ends.rt: what a script has made so far
+mod turns; // turns.rt: what a line leaves behind
 
 // `start`
 fn start_line(

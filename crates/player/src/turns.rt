@@ -1,6 +1,6 @@
 // What a line leaves behind: the ends after it, and the newest messages.
-use super::player::Played;
-use super::player::Player;
+use super::ends::Played;
+use super::ends::Player;
 use envelope::MAX_MESSAGE;
 use script::Scan;
 use script::is_done;
