@@ -11,7 +11,6 @@ use lib.ListN.{length}
 use Rattle.tlv.specs.Octet.{pick}
 use Rattle.tlv.specs.Value.{Datum}
 use Rattle.blocks.proofs.BlockLaws.{never}
-use Rattle.schema.specs.declared.Found.the-variants as found
 use Rattle.schema.specs.Rules.{Rules}
 use Rattle.schema.proofs.BoolLaws.{both, left, right, by-test, same}
 use Rattle.interaction_writer.specs.Envelope.{envelopeOctets}
@@ -19,7 +18,6 @@ use Rattle.exchange.specs.Rules.{reportOpcode, maxTurn}
 use Rattle.envelope.specs.declared.Fields.{Fields}
 use Rattle.envelope.specs.Envelope.{maxMessage}
 use Rattle.cached.specs.declared.Cached.{Cached}
-use Rattle.cached.specs.Entries as cached
 use Rattle.cache_part.specs.Part.{blocksIn, judgedAll, heldAll, pageAll}
 use Rattle.cache_request.specs.Messages.{successMessage}
 use Rattle.cache.specs.declared.State.{State}

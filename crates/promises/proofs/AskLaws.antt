@@ -1,14 +1,11 @@
 -- What the ends answer, in the terms of the protocol: which cluster is called whole, what may be read of one path, what the panel has for it.
-use mathlib.Core.Path.{_≡_, refl, sym, ap, _∙_, subst}
-use mathlib.Core.Logic.{_⊎_, inl, inr}
-use mathlib.Core.Bool.{Bool, true, false, _&&_, not, true≢false}
-use mathlib.Core.List.{List, [], _∷_, List·Memᴰ}
-use Prim.Native.Nat.{ℕ, _^_, _<_}
+use mathlib.Core.Path.{_≡_, refl, sym, ap, _∙_}
+use mathlib.Core.Bool.{Bool, true, false, not, true≢false}
+use mathlib.Core.List.{List, [], _∷_}
+use Prim.Native.Nat.{ℕ, _<_}
 use native.Mathlib.Omega.{arith}
 use lib.Dec.{eqb}
 use lib.ListN.{getD}
-use Rattle.tlv.specs.Octet.{pick}
-use Rattle.tlv.specs.Value.{Datum}
 use Rattle.tlv.specs.Decode.{Opt}
 use Rattle.tlv.specs.Decode.Opt.{just, nothing}
 use Rattle.schema.specs.declared.Found.{Found}
@@ -20,8 +17,6 @@ use Rattle.schema.proofs.BoolLaws.{by-test, left, right}
 use Rattle.schema.proofs.RulesLaws.{path-word}
 use Rattle.schema.proofs.FindLaws.{cluster-found, cluster-none}
 use Rattle.schema.proofs.PathLaws.{one-path, one-cluster, cluster-there}
-use Rattle.interaction_writer.specs.Block.{Block}
-use Rattle.acl.specs.Access.{isGranted}
 use Rattle.selection.specs.declared.items.Item.{Item}
 use Rattle.selection.specs.declared.items.Item.the-variants as item
 use Rattle.selection.specs.declared.locate.Located.{Located}
@@ -32,15 +27,13 @@ use Rattle.selection.specs.Items.{readItem, concreteFound, concreteItem}
 use Rattle.selection.proofs.LocateLaws.{located-here, located-refused}
 use Rattle.values.specs.Values.{datumAt, versionAt}
 use Rattle.report.specs.Blocks.{valueBlock, blockOf}
-use Rattle.cached.specs.Entries.{Entry, clusterWord, lookup}
-use Rattle.cache.specs.State.{panelRight}
+use Rattle.cached.specs.Entries.{clusterWord, lookup}
 use Rattle.cache.specs.declared.State as cache
 use Rattle.cache_laws.proofs.BegunLaws.{ValidPanel, valid-right}
-use Rattle.cache_ask.specs.Ask.{Said, said, coherentOf, versionSaid, saysWhole, EntrySaid, entrySaid, saysEntry}
-use Rattle.protocol.specs.Model.{Place}
-use Rattle.refinement.proofs.Terms.{placeAt, mayRead}
+use Rattle.cache_ask.specs.Ask.{Said, said, coherentOf, versionSaid, saysWhole, entrySaid, saysEntry}
+use Rattle.refinement.proofs.Terms.{mayRead}
 use Rattle.promises.specs.World.{Plan, World, granted}
-use Rattle.promises.specs.Claims.{CallsWhole, onRow, versionOf, changesOf, asked, shown, entryFor}
+use Rattle.promises.specs.Claims.{onRow, versionOf, changesOf, asked, shown, entryFor}
 
 -- A CLUSTER IS CALLED WHOLE exactly if it is coherent
 version-said : (o : Opt ℕ) (v : ℕ) → versionSaid o ≡ said 0 (v ∷ []) → o ≡ just v

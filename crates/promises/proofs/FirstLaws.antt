@@ -1,7 +1,5 @@
 -- THE FIRST HALF: what the panel calls whole is what the sign held.
-use mathlib.Core.Path.{_≡_, refl, sym, ap, _∙_, subst}
-use mathlib.Core.Logic.{_⊎_, inl, inr}
-use mathlib.Core.Bool.{true}
+use mathlib.Core.Path.{_≡_, refl, sym, ap, _∙_}
 use mathlib.Core.List.{List, List·Memᴰ}
 use Prim.Native.Nat.{ℕ, _^_, _<_}
 use native.Mathlib.Omega.{arith}
@@ -10,26 +8,24 @@ use Rattle.tlv.specs.Value.{Datum}
 use Rattle.tlv.specs.Decode.{Opt}
 use Rattle.tlv.specs.Decode.Opt.{just, nothing}
 use Rattle.schema.specs.declared.Found.the-variants as found
-use Rattle.schema.specs.Rows.{clusterRow, attributeRow, clusterCount, attributeCount}
+use Rattle.schema.specs.Rows.{clusterRow, attributeRow, clusterCount}
 use Rattle.schema.specs.Rules.{Path, path, pathAt}
 use Rattle.schema.specs.Find.{findCluster}
-use Rattle.schema.proofs.FindLaws.{cluster-found}
-use Rattle.schema.proofs.PathLaws.{one-path}
 use Rattle.values.specs.Values.{datumAt, versionAt}
 use Rattle.cached.specs.Entries as cached
 use Rattle.cached.specs.Entries.{clusterWord, lookup}
 use Rattle.cache_ask.specs.Ask.{coherentOf, entrySaid, saysEntry}
 use Rattle.protocol.specs.Model as model
-use Rattle.protocol.specs.Model.{Place, System, Cluster, CoherentIn}
+use Rattle.protocol.specs.Model.{Place, System, CoherentIn}
 use Rattle.protocol.specs.Steps as steps
 use Rattle.protocol.specs.Claims.{Exact}
 use Rattle.protocol.proofs.Main as protocol
 use Rattle.protocol.proofs.Inductive.{reach-inv}
-use Rattle.refinement.proofs.Terms.{placeAt, mayRead}
+use Rattle.refinement.proofs.Terms.{placeAt}
 use Rattle.refinement.proofs.Panel.{Found}
 use Rattle.promises.specs.World.{Plan, World, Start, granted}
 use Rattle.promises.specs.Runs.{Reach, Visits}
-use Rattle.promises.specs.Claims.{FirstHalf, CallsWhole, versionOf, changesOf, shown, entryFor}
+use Rattle.promises.specs.Claims.{FirstHalf, versionOf, shown, entryFor}
 use Rattle.panel_steps.proofs.CoherentLaws.{coherent-as, coherent-row}
 use Rattle.promises.proofs.ReadableLaws.{readable-is, readable-has}
 use Rattle.promises.proofs.Stands.{Stands}
@@ -37,8 +33,11 @@ use Rattle.promises.proofs.StepLaws.{node, rules, stands-fresh}
 use Rattle.promises.proofs.RunLaws.{Follows, follow}
 use Rattle.promises.proofs.AskLaws.{whole-coherent, says-held, row-found, version-at, changes-at, of-cluster, Sees, value, none, sees}
 
-just-same : {A : Type 0} (x y : A) → just x ≡ just y → x ≡ y
+pub just-same : {A : Type 0} (x y : A) → just x ≡ just y → x ≡ y
 just-same x y h = cc
+
+pub nothing-just : {A : Type 0} (x : A) → nothing ≡ just x → ⊥
+nothing-just x h = let z : _≡_ {A = ℕ} 0 1 = cc in omega (arith, z)
 
 nothing-or : {A : Type 0} (o : Opt A) → ((x : A) → o ≡ just x → ⊥) → o ≡ nothing
 nothing-or nothing f = refl

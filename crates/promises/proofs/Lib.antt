@@ -7,5 +7,6 @@ pub mod AskLaws
 pub mod StageLaws
 pub mod FirstLaws
 pub mod SecondLaws
+pub mod ArriveLaws
 pub mod NeverLaws
 pub mod Main

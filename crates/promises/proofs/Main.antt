@@ -1,7 +1,7 @@
 -- DEMAND 3, proved over both ends as they are: the statements stand in specs/Claims.antt.
-use mathlib.Core.Path.{_≡_, refl, sym, ap, _∙_}
+use mathlib.Core.Path.{_≡_, sym, ap, _∙_}
 use mathlib.Core.Bool.{Bool, false}
-use mathlib.Core.List.{List, map, List·Memᴰ}
+use mathlib.Core.List.{List, map}
 use Prim.Native.Nat.{ℕ, _≤_, max}
 use native.Mathlib.Omega.{arith}
 use Rattle.tlv.specs.Value.{Datum}
@@ -10,7 +10,6 @@ use Rattle.tlv.specs.Decode.Opt.{just}
 use Rattle.members.specs.Scalar.{ABSENT}
 use Rattle.schema.specs.Rows.{attributeCount}
 use Rattle.interaction_report.specs.Report.{partIn}
-use Rattle.envelope.specs.declared.Fields.{Fields}
 use Rattle.envelope.specs.declared.Envelope.{Envelope}
 use Rattle.envelope.specs.declared.Envelope.the-variants.{Whole, Short}
 use Rattle.envelope.specs.Envelope.{envelopeIn}
@@ -18,14 +17,13 @@ use Rattle.exchange.specs.Rules.{reportOpcode}
 use Rattle.cache_trip.proofs.BeginLaws.{after-envelope}
 use Rattle.cache_trip.proofs.TakenLaws.{report-taken}
 use Rattle.protocol.specs.Model as Model
-use Rattle.protocol.specs.Model.{Part, System}
+use Rattle.protocol.specs.Model.{Part}
 use Rattle.protocol.proofs.Inductive.{reach-inv}
 use Rattle.refinement.proofs.Bytes.{blockAs, partPayload, partBytes, PartRight}
 use Rattle.panel_parts.proofs.PartLaws.{each-sent}
-use Rattle.promises.specs.World.{Plan, World, Start, granted}
-use Rattle.promises.specs.Runs.{Reach}
-use Rattle.promises.specs.Claims as claims
-use Rattle.promises.specs.Claims.{exchangeOf, Last, FirstHalf, SecondHalf, FewParts, Never}
+use Rattle.promises.specs.World.{Plan, Start, granted}
+use Rattle.promises.specs.Claims.{exchangeOf, Last, FirstHalf, SecondHalf, Possible, FewParts}
+use Rattle.promises.specs.Never.{Never}
 use Rattle.promises.proofs.MessageLaws.{part-envelope, answer-envelope}
 use Rattle.promises.proofs.ReadableLaws.{parts-few}
 use Rattle.promises.proofs.Stands.{ReplyOf, part, answer}
@@ -34,6 +32,7 @@ use Rattle.promises.proofs.RunLaws.{Follows}
 use Rattle.promises.proofs.FirstLaws as first
 use Rattle.promises.proofs.FirstLaws.{from-fresh}
 use Rattle.promises.proofs.SecondLaws as second
+use Rattle.promises.proofs.ArriveLaws as arrive
 use Rattle.promises.proofs.NeverLaws as fair
 
 -- "whenever the panel calls a cluster whole at version v, the sign has held v and the panel's entries are exactly what it may read there, as held at v"
@@ -67,6 +66,10 @@ second-half p b u v reach open-read run calm arrived = (
 
     right : PartRight (p .words) q
     right = second.right p b reach open-read run calm arrived
+
+-- for every read that begins all of it can arrive
+pub possible : Possible
+possible = arrive.possible
 
 -- no read has more parts than there are attributes
 pub few-parts : FewParts

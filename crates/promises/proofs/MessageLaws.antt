@@ -1,6 +1,6 @@
 -- A message is read in one way: what it is in the protocol is told by its bytes, and so are its exchange and turn.
-use mathlib.Core.Path.{_≡_, refl, sym, ap, _∙_, subst}
-use mathlib.Core.List.{List, [], _∷_, map}
+use mathlib.Core.Path.{_≡_, sym, ap, _∙_, subst}
+use mathlib.Core.List.{List, [], _∷_}
 use Prim.Native.Nat.{ℕ, _^_, _<_}
 use native.Mathlib.Omega.{arith}
 use lib.Dec.{eqb}
@@ -17,11 +17,11 @@ use Rattle.envelope.specs.declared.Envelope.{Envelope}
 use Rattle.envelope.specs.declared.Envelope.the-variants.{Whole, Short}
 use Rattle.envelope.specs.Envelope.{envelopeIn}
 use Rattle.envelope.proofs.BigLaws.{envelope-read}
-use Rattle.exchange.specs.Rules.{statusOpcode, readOpcode, reportOpcode, writeOpcode, writeResponseOpcode}
+use Rattle.exchange.specs.Rules.{readOpcode, reportOpcode, writeOpcode, writeResponseOpcode}
 use Rattle.cache_request.specs.Messages.{readMessage}
 use Rattle.cache_trip.specs.Begun.{envelopeAs}
 use Rattle.cache_trip.proofs.BeginLaws.{after-envelope, read-envelope, write-envelope, success-envelope}
-use Rattle.protocol.specs.Model.{Message, read, write, success, failure, Part, exchangeOf}
+use Rattle.protocol.specs.Model.{Message, read, write, success, Part, exchangeOf}
 use Rattle.refinement.proofs.Terms.{filtersAs}
 use Rattle.refinement.proofs.Bytes.{MessageAs, reads, writes, succeeds, partPayload, partBytes, PartRight, answerBytes}
 

@@ -1,6 +1,6 @@
 -- NEVER 2 along a run, and never 6 or 7 to what the sign sent.
 use mathlib.Core.Path.{_≡_, refl, sym, ap, _∙_, subst}
-use mathlib.Core.Bool.{Bool, true}
+use mathlib.Core.Bool.{Bool}
 use mathlib.Core.Logic.{_⊎_, inl, inr}
 use mathlib.Core.List.{List, List·Memᴰ}
 use Prim.Native.Nat.{ℕ, _-_, _^_, _≤_, _<_}
@@ -41,8 +41,8 @@ use Rattle.panel_steps.proofs.AnswerLaws.{answer-taken}
 use Rattle.panel_steps.proofs.PartLaws.{part-taken}
 use Rattle.promises.specs.World.{Plan, World, Start, answered, altered}
 use Rattle.promises.specs.Runs.{Reach}
-use Rattle.promises.specs.Claims.{Never}
-use Rattle.promises.proofs.Stands.{ReplyOf, part, answer, Stands}
+use Rattle.promises.specs.Never.{Never}
+use Rattle.promises.proofs.Stands.{ReplyOf, part, answer}
 use Rattle.promises.proofs.StepLaws.{node, rules, part-low, older}
 use Rattle.promises.proofs.RunLaws.{Follows}
 use Rattle.promises.proofs.FirstLaws.{from-fresh}

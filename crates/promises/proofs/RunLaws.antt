@@ -1,7 +1,7 @@
 -- EVERY RUN OF THE ENDS FOLLOWS A RUN OF THE PROTOCOL, state by state and step by step.
-use mathlib.Core.Path.{_≡_, refl, sym, ap, _∙_, subst}
+use mathlib.Core.Path.{_≡_, refl, sym, subst}
 use mathlib.Core.Logic.{_⊎_, inl, inr}
-use mathlib.Core.List.{List, List·Memᴰ}
+use mathlib.Core.List.{List}
 use Prim.Native.Nat.{ℕ}
 use Rattle.tlv.specs.Value.{Datum}
 use Rattle.protocol.specs.Model.{Node, Message, Part, System}
@@ -10,7 +10,7 @@ use Rattle.refinement.proofs.Bytes.{MessageAs, PartRight, partBytes}
 use Rattle.promises.specs.World.{Plan, World, Start}
 use Rattle.promises.specs.Runs.{Step, Run, none, then, join, Visits, Passes, Quiet, Calm, Hears, Heard, Gets, Got}
 use Rattle.promises.proofs.Stands.{Stands}
-use Rattle.promises.proofs.StepLaws.{node, Moves, stays, steps, QuietMove, HearsMove, GetsMove, Received, Shadow, shadow}
+use Rattle.promises.proofs.StepLaws.{node, Moves, stays, steps, QuietMove, HearsMove, Received, Shadow, shadow}
 
 module _ (p : Plan) (b : Start p) where
   abbrev w : List ℕ

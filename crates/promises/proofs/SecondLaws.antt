@@ -1,30 +1,24 @@
 -- THE SECOND HALF: a read whose messages all arrive ends, and leaves every unchanged cluster whole.
 use mathlib.Core.Path.{_≡_, refl, sym, ap, _∙_, subst}
 use mathlib.Core.Logic.{_⊎_, inl, inr}
-use mathlib.Core.Bool.{Bool, true, false, _&&_, true≢false}
-use mathlib.Core.List.{List, [], _∷_, map, List·Memᴰ, List·Memᴰ·head, List·Memᴰ·tail}
-use Prim.Native.Nat.{ℕ, _^_, _<_, _≤_, max}
+use mathlib.Core.Bool.{true, false, _&&_, true≢false}
+use mathlib.Core.List.{List, List·Memᴰ}
+use Prim.Native.Nat.{ℕ, _<_}
 use native.Mathlib.Omega.{arith}
 use borrow.Author.Tests.{eq-eqb}
 use lib.Dec.{eqb, T, eqb→eq}
-use lib.ListN.{getD, drop}
-use Rattle.tlv.specs.Octet.{pick}
 use Rattle.tlv.specs.Value.{Datum}
-use Rattle.tlv.specs.Decode.{Opt}
-use Rattle.tlv.specs.Decode.Opt.{just, nothing}
-use Rattle.members.specs.Scalar.{ABSENT}
+use Rattle.tlv.specs.Decode.Opt.{just}
 use Rattle.schema.specs.declared.Found.the-variants as found
-use Rattle.schema.specs.Rows.{clusterRow, attributeRow, clusterCount, attributeCount}
-use Rattle.schema.specs.Rules.{Path, path, pathAt}
+use Rattle.schema.specs.Rows.{clusterRow, attributeRow, clusterCount}
+use Rattle.schema.specs.Rules.{Path, path}
 use Rattle.schema.specs.Find.{findCluster}
 use Rattle.schema.proofs.RulesLaws.{path-word}
 use Rattle.schema.proofs.PathLaws.{cluster-there}
-use Rattle.envelope.specs.declared.Fields.{Fields}
 use Rattle.envelope.specs.declared.Envelope.{Envelope}
 use Rattle.envelope.specs.declared.Envelope.the-variants.{Whole, Short}
 use Rattle.envelope.specs.Envelope.{envelopeIn}
-use Rattle.exchange.specs.Rules.{reportOpcode}
-use Rattle.cached.specs.Entries.{Entry, clusterWord}
+use Rattle.cached.specs.Entries.{clusterWord}
 use Rattle.cache.specs.State.{reading, lastPart}
 use Rattle.cache_ask.specs.Ask.{coherentOf}
 use Rattle.protocol.specs.Model as model
@@ -33,23 +27,22 @@ use Rattle.protocol.specs.Steps as steps
 use Rattle.protocol.specs.Claims as claims
 use Rattle.protocol.proofs.Main as protocol
 use Rattle.protocol.proofs.SmallLaws.{and-l, T-true}
-use Rattle.protocol.proofs.Inductive.{reach-inv}
 use Rattle.protocol.proofs.OnceLaws.{part-once, passes-more, passes-reach}
 use Rattle.protocol.proofs.ProgressLaws.{calm-parts}
-use Rattle.refinement.proofs.Terms.{placeAt, mayRead}
-use Rattle.refinement.proofs.Bytes.{MessageAs, PartRight, partBytes}
+use Rattle.refinement.proofs.Terms.{placeAt}
+use Rattle.refinement.proofs.Bytes.{PartRight, partBytes}
 use Rattle.promises.specs.World.{Plan, World, Start, granted}
 use Rattle.promises.specs.Runs.{Run, Reach, join, Visits, Passes, Calm, Heard, Got}
-use Rattle.promises.specs.Claims.{In, exchangeOf, Last, Arrived, Ended, Taking, Making, SecondHalf, FewParts, MayReadSome, CallsWhole, versionOf, changesOf, shown, entryFor}
+use Rattle.promises.specs.Claims.{In, exchangeOf, Arrived, Ended, Taking, Making, MayReadSome, CallsWhole, versionOf, changesOf}
 use Rattle.panel_steps.proofs.CoherentLaws.{coherent-as}
-use Rattle.promises.proofs.MessageLaws.{InExchange, message-in, part-envelope, answer-envelope}
-use Rattle.promises.proofs.ReadableLaws.{parts-few, readable-has}
+use Rattle.promises.proofs.MessageLaws.{InExchange, message-in, part-envelope}
+use Rattle.promises.proofs.ReadableLaws.{readable-has}
 use Rattle.promises.proofs.Stands.{ReplyOf, part, answer, Stands}
 use Rattle.promises.proofs.StepLaws.{node, rules, other-reply}
 use Rattle.promises.proofs.RunLaws.{Took, Follows, follow, passes-first, passes-second, model-passes}
-use Rattle.promises.proofs.AskLaws.{coherent-whole, row-found, version-at, changes-at, of-cluster, Sees, value, none, sees}
+use Rattle.promises.proofs.AskLaws.{coherent-whole, row-found, version-at, changes-at, Sees, value, none, sees}
 use Rattle.promises.proofs.StageLaws.{Goes, run-goes}
-use Rattle.promises.proofs.FirstLaws.{from-fresh}
+use Rattle.promises.proofs.FirstLaws.{nothing-just, from-fresh}
 
 -- a message of an exchange, as the claims have it and as the protocol has it
 in-exchange : (x : ℕ) (e : Envelope) → InExchange x e → exchangeOf e ≡ just x
@@ -91,9 +84,6 @@ after-last : (a : System Datum) (q : Part Datum) → T (model.awaited (a .cache)
 unfolding model.receive model.accept
 after-last a q wanted e =
     rw (T-true (model.awaited (a .cache) q) wanted) (e, sym (eqb→eq (q .exchange) (a .cache .exchange) (and-l (eqb (q .exchange) (a .cache .exchange)) (eqb (q .turn) (a .cache .next)) (and-l (eqb (q .exchange) (a .cache .exchange) && eqb (q .turn) (a .cache .next)) (a .cache .reading) wanted))))
-
-nothing-just : {A : Type 0} (x : A) → nothing ≡ just x → ⊥
-nothing-just x h = let z : _≡_ {A = ℕ} 0 1 = cc in omega (arith, z)
 
 module _ (p : Plan) (b : Start p) {u v : World} (reach : Reach p b u) (open-read : u .panel .asked .stage ≡ reading) (run : Run p u v) (calm : Calm run) (arrived : Arrived run) where
   abbrev w : List ℕ

@@ -2,8 +2,8 @@
 use mathlib.Core.Path.{_≡_, refl, sym, ap, _∙_, subst}
 use mathlib.Core.Logic.{_⊎_, inl, inr}
 use mathlib.Core.Bool.{Bool, true, false, _&&_}
-use mathlib.Core.List.{List, [], List·Memᴰ}
-use Prim.Native.Nat.{ℕ, _-_, _^_, _<_}
+use mathlib.Core.List.{List}
+use Prim.Native.Nat.{ℕ, _-_, _^_}
 use native.Mathlib.Omega.{arith}
 use borrow.Author.Tests.{eqb-true, ne-eqb}
 use lib.Dec.{eqb, ltb, leb}
@@ -13,7 +13,7 @@ use Rattle.tlv.specs.Decode.{Opt}
 use Rattle.tlv.specs.Decode.Opt.{just, nothing}
 use Rattle.tlv.specs.Value.{Datum}
 use Rattle.tlv.proofs.Picks.{pick-elim}
-use Rattle.schema.proofs.BoolLaws.{left, right, by-test}
+use Rattle.schema.proofs.BoolLaws.{right, by-test}
 use Rattle.interaction_report.specs.Report.{PartAt, partIn}
 use Rattle.envelope.specs.declared.Fields.{Fields}
 use Rattle.envelope.specs.declared.Envelope.{Envelope}
@@ -23,7 +23,7 @@ use Rattle.exchange.specs.Rules.{statusOpcode, reportOpcode}
 use Rattle.cache_part.specs.Part.{blocksIn, judgedAll}
 use Rattle.cache.specs.declared.State.{State}
 use Rattle.cache.specs.State.{reading, writing, lastPart, isOpen, panelRight}
-use Rattle.cache.specs.Reaction.{Reaction, refusal}
+use Rattle.cache.specs.Reaction.{Reaction}
 use Rattle.cache.specs.Begin as begin
 use Rattle.cache_receive.specs.Receive.{forCache, opcodeAwaited, awaited, endedAs, goesOn, pastTurns, partTaken, takesPart, takes, inEnvelope, received}
 use Rattle.protocol.specs.Model.{System}

@@ -4,7 +4,6 @@ use mathlib.Core.Logic.{_⊎_, inl, inr}
 use mathlib.Core.List.{List, [], _∷_, _++_, List·Memᴰ, List·Memᴰ·head, List·Memᴰ·tail, List·Memᴰ·not-nil, List·Memᴰ·append-cases}
 use Prim.Native.Nat.{ℕ, _+_, _^_, _<_}
 use native.Mathlib.Omega.{arith}
-use lib.ListN.{getD}
 use Rattle.tlv.specs.Value.{Datum}
 use Rattle.schema.specs.Rows.{clusterCount}
 use Rattle.round_trip.specs.Meant.{Outcome, OutcomeFits}
@@ -14,12 +13,12 @@ use Rattle.envelope.specs.Envelope.{envelopeIn}
 use Rattle.server.specs.declared.State as server
 use Rattle.cache.specs.declared.State as cache
 use Rattle.cache.specs.Reaction.{Reaction}
-use Rattle.protocol.specs.Model.{Cluster, Message, Part, Row, Cache, System}
+use Rattle.protocol.specs.Model.{Message, Part, Cache, System}
 use Rattle.refinement.proofs.Bytes.{MessageAs, PartRight, partBytes, answerBytes, Wrote, ReplyAs, silent, reports, answers}
 use Rattle.refinement.proofs.Sign.{SignAs, Serves}
-use Rattle.refinement.proofs.Panel.{Writing, PanelAs}
+use Rattle.refinement.proofs.Panel.{PanelAs}
 use Rattle.promises.specs.World.{Plan, World, granted, with, afterSign, afterPanel}
-use Rattle.promises.proofs.MessageLaws.{part-envelope, answer-envelope}
+use Rattle.promises.proofs.MessageLaws.{part-envelope}
 
 -- a reply ever made: a part that the protocol has, or the answer to a write
 pub data ReplyOf (w : List ℕ) (sent : List (List ℕ)) (parts : List (Part Datum)) (m : List ℕ) : Type 0 where

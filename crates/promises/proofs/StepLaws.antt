@@ -1,20 +1,18 @@
 -- EVERY STEP OF THE ENDS IS A STEP OF THE PROTOCOL, or leaves it as it was.
 use mathlib.Core.Path.{_≡_, refl, sym, ap, _∙_, subst}
 use mathlib.Core.Logic.{_⊎_, inl, inr}
-use mathlib.Core.Bool.{Bool, true, false}
+use mathlib.Core.Bool.{Bool, true}
 use mathlib.Core.List.{List, [], _∷_, List·Memᴰ, List·Memᴰ·not-nil}
 use Prim.Native.Nat.{ℕ, suc, _+_, _-_, _^_, _≤_, _<_}
 use native.Mathlib.Omega.{arith}
 use borrow.Author.Tests.{eq-eqb, ltb-true, ltb-false}
 use lib.Dec.{ltb}
-use lib.ListN.{length, getD, drop, length-take}
+use lib.ListN.{getD, drop, length-take}
 use Rattle.tlv.specs.declared.Value.{Value}
 use Rattle.tlv.specs.declared.Value.the-variants as value
 use Rattle.tlv.specs.Value.{Datum, datumIn}
 use Rattle.tlv.proofs.Picks.{pick-elim}
 use Rattle.tlv_writer.specs.Meaning.{Writable}
-use Rattle.schema.specs.Layout.{subjectWord}
-use Rattle.schema.specs.Rows.{attributeCount}
 use Rattle.schema.specs.Rules.{Rules}
 use Rattle.schema.proofs.RulesLaws.{well-formed-rules}
 use Rattle.schema.proofs.BoolLaws.{by-test}
@@ -26,7 +24,7 @@ use Rattle.envelope.specs.declared.Envelope.{Envelope}
 use Rattle.envelope.specs.declared.Envelope.the-variants.{Whole, Short}
 use Rattle.round_trip.specs.Meant.{Outcome}
 use Rattle.envelope.specs.Envelope.{envelopeIn, maxMessage}
-use Rattle.exchange.specs.Rules.{reportOpcode, writeResponseOpcode, maxTurn}
+use Rattle.exchange.specs.Rules.{maxTurn}
 use Rattle.server.specs.declared.State as server
 use Rattle.server.specs.Receive as sign
 use Rattle.server.proofs.ReceivedLaws.{Untouched}
@@ -38,15 +36,13 @@ use Rattle.cache.specs.Begin as begin
 use Rattle.cache_part.specs.Block.{usableIn}
 use Rattle.cache_request.specs.Filters.{filtersOf}
 use Rattle.cache_receive.specs.Receive as panel
-use Rattle.cache_trip.specs.Begun.{envelopeAs}
 use Rattle.protocol.specs.Model as Model
-use Rattle.protocol.specs.Model.{Filter, Node, Message, read, write, Part, Row, Cache, Cluster, System, FiltersFor, exchangeOf, change, beginRead, beginWrite, serve, accept, awaited, receive}
+use Rattle.protocol.specs.Model.{Filter, Node, Message, read, write, Part, Row, Cluster, System, Store, FiltersFor, exchangeOf, change, beginRead, beginWrite, serve, accept, awaited, receive}
 use Rattle.protocol.specs.Steps as model
 use Rattle.protocol.proofs.SmallLaws.{by-cond}
 use Rattle.protocol.proofs.Inductive.{reach-inv}
-use Rattle.protocol.proofs.OnceLaws.{part-once}
 use Rattle.refinement.proofs.Terms.{nodeOf, filtersAs}
-use Rattle.refinement.proofs.Bytes.{MessageAs, PartRight, partBytes, answerBytes, ReplyAs, silent}
+use Rattle.refinement.proofs.Bytes.{MessageAs, PartRight, partBytes, answerBytes, silent}
 use Rattle.refinement.proofs.Sign.{SignAs, Serves, moved}
 use Rattle.refinement.proofs.Panel.{PanelAs}
 use Rattle.sign_steps.proofs.Main.{fresh-as, message-served, change-served, other-silent, too-small, more-sent}
@@ -201,6 +197,16 @@ module _ (p : Plan) (b : Start p) where
             }
 
     -- a message of the panel
+    pub serves-as : (m : List ℕ) (room : ℕ) → List·Memᴰ m (u .requests) → (q : Message) → MessageAs (p .words) m q → maxMessage ≤ room
+        → let x = answered p u (subjectOf p) m room in
+        (size : ℕ) × (stores : List (Store Datum)) × Serves (p .words) (p .defaults) (granted p) (u .requests) (u .sign) (x .state) (x .edits) (x .reply) s (serve node s q size stores)
+    serves-as m room i q a l =
+        let r = message-served (p .words) (p .defaults) (b .edits) (granted p) (b .words-fit) (u .edits) (u .sign) s (u .requests) (h .sign) row-low m q a i room l in
+        (r .0, r .1, subst (λ (z : Bool). Serves (p .words) (p .defaults) (granted p) (u .requests) (u .sign) (by-table z .state) (by-table z .edits) (by-table z .reply) s (serve node s q (r .0) (r .1))) (sym (b .table-right)) (r .2))
+      where
+        by-table : Bool → sign.Reaction
+        by-table t = sign.received (p .words) (p .defaults) (u .edits) (u .sign) t (granted p) (subjectOf p) m room
+
     hear : (m : List ℕ) (room : ℕ) (i : List·Memᴰ m (u .requests)) → Shadow {u = u} (hears m room i) s
     hear m room i = by-test (ltb room maxMessage) (λ t. small (ltb-true room maxMessage t)) (λ f. full (ltb-false room maxMessage f))
       where
@@ -218,20 +224,14 @@ module _ (p : Plan) (b : Start p) where
               got = λ z y. absurd y;
             }
 
-        by-table : Bool → sign.Reaction
-        by-table t = sign.received (p .words) (p .defaults) (u .edits) (u .sign) t (granted p) (subjectOf p) m room
-
         full : maxMessage ≤ room → Shadow {u = u} (hears m room i) s
         full l =
             let q = h .requests m i in
-            let r = message-served (p .words) (p .defaults) (b .edits) (granted p) (b .words-fit) (u .edits) (u .sign) s (u .requests) (h .sign) row-low m (q .0) (q .1) i room l in
-            let t = serve node s (q .0) (r .0) (r .1) in
-            let k : Serves (p .words) (p .defaults) (granted p) (u .requests) (u .sign) (x .state) (x .edits) (x .reply) s t =
-            subst (λ (z : Bool). Serves (p .words) (p .defaults) (granted p) (u .requests) (u .sign) (by-table z .state) (by-table z .edits) (by-table z .reply) s t) (sym (b .table-right)) (r .2) in
+            let r = serves-as m room i (q .0) (q .1) l in
             record {
-              next = t;
+              next = serve node s (q .0) (r .0) (r .1);
               move = steps (model.serves (q .0) (r .0) (r .1) (q .2));
-              stands = sign-stands p u s t h (x .state) (x .edits) (x .reply) k;
+              stands = sign-stands p u s (serve node s (q .0) (r .0) (r .1)) h (x .state) (x .edits) (x .reply) (r .2);
               quiet = λ _. tt;
               heard = λ z y v a. message-one (p .words) m (q .0) v (q .1) (subst (λ (y : List ℕ). MessageAs (p .words) y v) (sym (y .0)) a);
               got = λ z y. absurd y;
@@ -265,10 +265,10 @@ module _ (p : Plan) (b : Start p) where
     unbegun x k = unchanged x (k .state) (k .page-is) (k .reply)
 
     -- what a message begins with is not nothing
-    some-message : (m : List ℕ) (q : Message) → MessageAs (p .words) m q → m ≡ [] → ⊥
+    pub some-message : (m : List ℕ) (q : Message) → MessageAs (p .words) m q → m ≡ [] → ⊥
     some-message m q a e = subst (InExchange (exchangeOf q)) (ap envelopeIn e ∙ no-envelope) (message-in (p .words) m q a)
 
-    begun : (x : Reaction) (q : Message) (t : System Datum) → t .messages ≡ q ∷ s .messages → t .parts ≡ s .parts → t .clusters ≡ s .clusters → t .row ≡ s .row
+    pub begun : (x : Reaction) (q : Message) (t : System Datum) → t .messages ≡ q ∷ s .messages → t .parts ≡ s .parts → t .clusters ≡ s .clusters → t .row ≡ s .row
         → Begins (p .words) (u .requests) x q (t .cache) → Stands p (afterPanel u x) t
     begun x q t em ep ec er k =
         panel-stands p u s t h x (new-one q (k .message) em (some-message (x .reply) q (k .message))) ep
@@ -355,7 +355,7 @@ module _ (p : Plan) (b : Start p) where
             (subst (λ z. PanelAs (p .words) (with (x .reply) (u .requests)) (x .page) z (s .cache)) (sym (k .0)) (subst (λ (z : List ℕ). PanelAs (p .words) (with (x .reply) (u .requests)) z (u .panel) (s .cache)) (sym (k .1)) (again (x .reply) i .1)))
 
     -- a reply taken: what it leads to
-    taken : (x : Reaction) (t : System Datum) → t .parts ≡ s .parts → t .clusters ≡ s .clusters → t .row ≡ s .row → Takes (p .words) (u .requests) s x t → Stands p (afterPanel u x) t
+    pub taken : (x : Reaction) (t : System Datum) → t .parts ≡ s .parts → t .clusters ≡ s .clusters → t .row ≡ s .row → Takes (p .words) (u .requests) s x t → Stands p (afterPanel u x) t
     taken x t ep ec er k =
         panel-stands p u s t h x (go (k .told)) ep
         (subst (λ (z : Row Datum). SignAs (p .words) (p .defaults) (granted p) (with (x .reply) (u .requests)) (u .edits) (u .sign) (t .clusters) z) (sym er)
@@ -370,9 +370,12 @@ module _ (p : Plan) (b : Start p) where
         grown [] = h .sign
         grown (d ∷ m) = more-sent (p .words) (p .defaults) (b .edits) (granted p) (b .words-fit) (u .edits) (u .sign) s (u .requests) (h .sign) (d ∷ m)
 
-    receive-same : (q : Part Datum) → ((receive s q) .parts ≡ s .parts) × ((receive s q) .clusters ≡ s .clusters) × ((receive s q) .row ≡ s .row)
+    pub receive-same : (q : Part Datum) → ((receive s q) .parts ≡ s .parts) × ((receive s q) .clusters ≡ s .clusters) × ((receive s q) .row ≡ s .row)
     unfolding receive accept
     receive-same q = by-cond (λ (t : System Datum). (t .parts ≡ s .parts) × (t .clusters ≡ s .clusters) × (t .row ≡ s .row)) (awaited (s .cache) q) (λ _. (refl, refl, refl)) (λ _. (refl, refl, refl))
+
+    pub takes-part : (q : Part Datum) → List·Memᴰ q (s .parts) → (room : ℕ) → maxMessage ≤ room → Takes (p .words) (u .requests) s (panel.received (u .page) (u .panel) (partBytes (p .words) q) room) (receive s q)
+    takes-part q j room l = part-taken (p .words) rules (u .page) (u .panel) s (u .requests) (h .panel) older q (h .parts q j .1) (λ _. part-low q j) room l
 
     get : (m : List ℕ) (room : ℕ) (i : List·Memᴰ m (u .replies)) → Shadow {u = u} (gets m room i) s
     get m room i = by-test (ltb room maxMessage) (λ t. small (ltb-true room maxMessage t)) (λ f. full (ltb-false room maxMessage f) (h .replies m i))

@@ -1,11 +1,10 @@
 -- DEMAND 3 OF THE PRODUCT, over both ends as they are: "whenever the panel calls a cluster whole at version v, the sign has held v and the panel's entries are exactly what it
 -- may read there, as held at v. And a read whose messages all arrive leaves every unchanged cluster whole."
 use mathlib.Core.Path.{_≡_}
-use mathlib.Core.Bool.{Bool, false}
+use mathlib.Core.Bool.{false}
 use mathlib.Core.List.{List, [], _∷_, List·Memᴰ}
 use Prim.Native.Nat.{ℕ, _^_, _<_, _≤_, max}
 use lib.ListN.{getD, drop}
-use Rattle.tlv.specs.declared.Value.{Value}
 use Rattle.tlv.specs.Decode.{Opt}
 use Rattle.tlv.specs.Decode.Opt.{just, nothing}
 use Rattle.envelope.specs.declared.Fields.{Fields}
@@ -25,9 +24,8 @@ use Rattle.exchange.specs.Rules.{reportOpcode}
 use Rattle.cached.specs.Entries.{Entry}
 use Rattle.cache.specs.State.{reading, lastPart}
 use Rattle.cache.specs.Begin as begin
-use Rattle.cache_receive.specs.Receive as receive
-use Rattle.cache_ask.specs.Ask.{said, saysWhole, EntrySaid, entrySaid, saysEntry}
-use Rattle.promises.specs.World.{Plan, World, Start, granted, answered, altered}
+use Rattle.cache_ask.specs.Ask.{said, saysWhole, entrySaid, saysEntry}
+use Rattle.promises.specs.World.{Plan, World, Start, granted, afterPanel}
 use Rattle.promises.specs.Runs.{Run, Reach, join, Visits, Passes, Calm, Heard, Got}
 
 -- THE WORDS OF THE CLAIMS
@@ -128,22 +126,21 @@ SecondHalf =
     → changesOf p (taking .at) endpoint cluster ≡ changesOf p (making .at) endpoint cluster
     → (version : ℕ) × (versionOf p (making .at) endpoint cluster ≡ just version) × CallsWhole v endpoint cluster version))
 
+-- a run from u in which all of that has arrived
+pub record Complete (p : Plan) (u : World) : Type 0 where
+  pub end : World
+  pub run : Run p u end
+  pub calm : Calm run
+  pub arrived : Arrived run
+
+-- for every read that begins, whatever happened before, all of it can arrive: so the second half is never empty
+abbrev pub Possible : Type 0
+Possible =
+    (p : Plan) (b : Start p) (u : World) → Reach p b u → (room : ℕ) → begin.beginsRead (u .page) (u .panel) room .number ≡ 0
+    → Complete p (afterPanel u (begin.beginsRead (u .page) (u .panel) room))
+
 -- no read has more parts than the schema has attributes, and one if it has none
 abbrev pub FewParts : Type 0
 FewParts =
     (p : Plan) (b : Start p) (u : World) → Reach p b u → (m : List ℕ) → List·Memᴰ m (u .replies) → (f : Fields) → envelopeIn m ≡ Whole f → f .opcode ≡ reportOpcode
     → f .turn ≤ max 1 (attributeCount (p .words))
-
--- NEVER 2, whatever either end is handed and asked; and the panel never answers 6 or 7 to what this sign sent it
-pub record Fair (p : Plan) (u : World) : Type 0 where
-  pub sign-2 : (subject : ℕ) (m : List ℕ) (room : ℕ) → answered p u subject m room .number ≡ 2 → ⊥
-  pub change-2 : (endpoint cluster attribute : ℕ) (src : List ℕ) (new : Value) → altered p u endpoint cluster attribute src new .number ≡ 2 → ⊥
-  pub panel-2 : (m : List ℕ) (room : ℕ) → receive.received (u .page) (u .panel) m room .number ≡ 2 → ⊥
-  pub read-2 : (room : ℕ) → begin.beginsRead (u .page) (u .panel) room .number ≡ 2 → ⊥
-  pub write-2 : (endpoint cluster attribute : ℕ) (given : Bool) (version : ℕ) (src : List ℕ) (new : Value) (room : ℕ) → begin.beginsWrite (u .page) (u .panel) endpoint cluster attribute given version src new room .number ≡ 2 → ⊥
-  pub resend-2 : (room : ℕ) → begin.resends (u .page) (u .panel) room .number ≡ 2 → ⊥
-  pub panel-6 : (m : List ℕ) → List·Memᴰ m (u .replies) → (room : ℕ) → receive.received (u .page) (u .panel) m room .number ≡ 6 → ⊥
-  pub panel-7 : (m : List ℕ) → List·Memᴰ m (u .replies) → (room : ℕ) → receive.received (u .page) (u .panel) m room .number ≡ 7 → ⊥
-
-abbrev pub Never : Type 0
-Never = (p : Plan) (b : Start p) (u : World) → Reach p b u → Fair p u

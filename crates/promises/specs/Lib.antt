@@ -1,3 +1,4 @@
 pub mod World
 pub mod Runs
 pub mod Claims
+pub mod Never

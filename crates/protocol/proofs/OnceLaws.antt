@@ -1,8 +1,7 @@
 -- A part is made once: two parts of one exchange and one turn are the same part. And it stays.
-use mathlib.Core.Path.{_≡_, refl, sym, _∙_, ap, subst}
+use mathlib.Core.Path.{_≡_, sym, _∙_, ap, subst}
 use mathlib.Core.Logic.{_⊎_, inl, inr}
 use mathlib.Core.List.{List, [], _∷_, _++_, List·Memᴰ, List·Memᴰ·head, List·Memᴰ·tail, List·Memᴰ·not-nil}
-use Prim.Native.Nat.{ℕ, suc, _≤_, _<_}
 use native.Mathlib.Omega.{arith}
 use Rattle.protocol.specs.Model.{Node, Part, System, partOf, send, sendAgain, close, written, change, beginRead, beginWrite, accept, awaited, receive}
 use Rattle.protocol.specs.Steps.{Step, changes, beginsRead, beginsWrite, serves, receives, Run, none, then, Reach, Passes}

@@ -17,7 +17,7 @@ use Rattle.schema.specs.Rules.{pathAt}
 use Rattle.exchange.specs.Rules.{reportOpcode, writeResponseOpcode}
 use Rattle.cache_request.specs.Messages.{readMessage, writeMessage, successMessage}
 use Rattle.cache_trip.specs.Taken.{Takable}
-use Rattle.protocol.specs.Model.{Place, Entry, Message, read, write, success, Part}
+use Rattle.protocol.specs.Model.{Entry, Message, read, write, success, Part}
 use Rattle.refinement.proofs.Terms.{placeAt, filtersAs}
 
 -- THE SIGN'S: an entry of a part as a block of a report
