@@ -3,8 +3,8 @@ use mathlib.Core.Path.{_≡_, refl, sym, ap, _∙_}
 use mathlib.Core.Bool.{Bool, true, false, not, _&&_, _||_, Bool·beq}
 use mathlib.Core.List.{List}
 use Prim.Native.Nat.{ℕ, _+_, _*_, _≤_, _<_}
-use borrow.Author.Tests.{eq-eqb, le-leb, lt-leb}
-use lib.Dec.{leb}
+use borrow.Author.Tests.{le-leb, lt-leb}
+use lib.Dec.{eqb, leb}
 use lib.ListN.{length, getD}
 use Rattle.tlv.specs.Octet.{pick}
 use Rattle.utf8.specs.Bytewise.{allBelow}
@@ -12,12 +12,13 @@ use Rattle.utf8.proofs.Below.{ascii-formed, below-part}
 use Rattle.schema.specs.Layout.{attributeLimit, textSize}
 use Rattle.schema.specs.Rows.{attributeRow, isText}
 use Rattle.schema.specs.Check.{every}
-use Rattle.schema.proofs.BoolLaws.{both, right, by-test}
+use Rattle.schema.proofs.BoolLaws.{right, by-test}
 use Rattle.schema.proofs.CheckLaws.{every-next}
 use Rattle.node.specs.Pages.{shownFrom, shownIn, shownText}
 use Rattle.values.specs.Values.{textAt}
 use Rattle.values.specs.Valid.{shownRight}
 use Rattle.values.specs.Plain.{someMark, plainPage}
+use Rattle.values.proofs.ValidLaws.{and-true}
 
 -- ---- the marks
 
@@ -62,6 +63,7 @@ plain-text w defaults edits i word edited h =
     (λ t. rw t (below-part 128 word (shownFrom (attributeRow w i .low) (attributeRow w i .first) edited) (shownIn defaults edits edited) h))
     (λ t. rw t)
 
-pub plain-right : (text : List ℕ) (word : ℕ) → length text ≡ word → allBelow 128 text ≡ true → true ≡ shownRight text word
+-- so nothing but its length is left to judge
+pub plain-right : (text : List ℕ) (word : ℕ) → allBelow 128 text ≡ true → eqb (length text) word ≡ shownRight text word
 unfolding shownRight
-plain-right text word l h = sym (both _ _ (eq-eqb (length text) word l) (ascii-formed text h))
+plain-right text word h = rw (ascii-formed text h) (and-true (eqb (length text) word))

@@ -45,7 +45,7 @@ and-false : (x : Bool) → (x && false) ≡ false
 and-false true = refl
 and-false false = refl
 
-and-true : (x : Bool) → x ≡ (x && true)
+pub and-true : (x : Bool) → x ≡ (x && true)
 and-true true = refl
 and-true false = refl
 

@@ -3,17 +3,21 @@
 ghost use mathlib.Core.Path.{_≡_};
 ghost use mathlib.Core.Bool.{true, _&&_};
 ghost use Prim.Native.Nat.{_<_, _≤_};
+ghost use lib.Dec.{eqb};
+ghost use lib.ListN.{length};
 ghost use Rattle.tlv.specs.Octet.{pick};
 ghost use Rattle.utf8.specs.Bytewise.{allBelow};
 ghost use Rattle.schema.specs.Layout.{attributeLimit};
 ghost use Rattle.schema.specs.Rows.{attributeRow, isText};
 ghost use Rattle.node.specs.Check.{numberRight, numbersRight};
+ghost use Rattle.values.specs.Values.{textAt};
 ghost use Rattle.values.specs.Valid.{shownRight, valueRight, valuesRight};
 ghost use Rattle.values.specs.Plain.{someMark, plainPage};
 use super::Values;
 use super::text_at;
 use kinds::TEXT_MAX;
 use node::held::limits_hold;
+use node::pages::is_whole;
 use schema::ATTRIBUTES;
 use schema::TEXT_SIZE;
 use schema::WORDS;
@@ -50,18 +54,31 @@ fn is_plain<'a>(page: &'a [u8], marks: &'a [bool; ATTRIBUTES], n: usize, mark: b
     utf8::ascii(page)
 }
 
-// A shown text lies in its page, whole, and is valid UTF-8; its bytes are looked at where they are not known to be ASCII.
-fn shown_ok(text: &[u8], word: u64, plain: bool) -> bool
-    requires { ⌜ (plain ≡ true → allBelow 0x80 (now text) ≡ true) ⌝ }
+// A shown text lies in its page, whole, and is valid UTF-8.
+fn shown_ok(text: &[u8], word: u64) -> bool
     ensures { λ r. ⌜ r ≡ shownRight (now (text .entry)) word ⌝ }
 {
     if text.len() as u64 != word {
         return false;
     }
-    if plain {
-        return true;
-    }
     utf8::valid(text)
+}
+
+// Whether the shown text of attribute i lies in its page, whole: all that is asked where the page is ASCII.
+fn is_there<'a>(
+    w: &'a [u64; WORDS],
+    defaults: &'a [u8],
+    edits: &'a [u8],
+    i: usize,
+    word: u64,
+    edited: bool,
+) -> bool
+    requires { ⌜ (i < attributeLimit) × (isText (attributeRow (now w) i) ≡ true) ⌝ }
+    ensures { λ r. ⌜ r ≡ eqb (length (textAt (now (w .entry)) (now (defaults .entry)) (now (edits .entry)) i word edited)) word ⌝ }
+{
+    let start = schema::lowest(w, i) as usize;
+    let rank = schema::first_value(w, i) as usize;
+    is_whole(defaults, edits, start, rank, word as usize, edited)
 }
 
 // What is known of the page that a text is shown from.
@@ -96,8 +113,10 @@ fn text_ok<'a>(
     if (TEXT_MAX as u64) < word {
         return false;
     }
-    let plain = of_page(edited, plain_edits, plain_defaults);
-    shown_ok(text_at(w, defaults, edits, i, word, edited), word, plain)
+    if of_page(edited, plain_edits, plain_defaults) {
+        return is_there(w, defaults, edits, i, word, edited);
+    }
+    shown_ok(text_at(w, defaults, edits, i, word, edited), word)
 }
 
 // The first value and the value of attribute i. A text is told from the other kinds first: it has no number to compare, and they have no page.

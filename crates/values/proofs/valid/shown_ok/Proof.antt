@@ -4,7 +4,6 @@ use borrow.Author.Tests.{eq-eqb, ne-eqb}
 use lib.Dec.{eqb}
 use lib.ListN.{length}
 use Rattle.values.specs.Valid.{shownRight}
-use Rattle.values.proofs.PlainLaws.{plain-right}
 use borrow.Author.Needs.{needs}
 use Rattle.values.proofs.valid.shown_ok.Statement.{statement}
 use Rattle.values.proofs.valid.shown_ok.Tie as tie
@@ -13,15 +12,12 @@ returns : tie.Need-returns
 unfolding shownRight
 returns c = let q : eqb (length (c .before .before .args .text .now)) (c .before .before .args .word) ≡ false = ne-eqb _ _ (c .if1 .taken) in rw q
 
-returns-2 : tie.Need-returns-2
-returns-2 c = plain-right (c .before .before .before .args .text .now) _ (c .before .if1 .left) (c .before .before .before .pre (c .if2 .taken))
-
 valid-requires : tie.Need-valid-requires
 valid-requires c κs = search needs
 
-returns-3 : tie.Need-returns-3
+returns-2 : tie.Need-returns-2
 unfolding shownRight
-returns-3 c = let q : eqb (length (c .before .before .before .before .args .text .now)) (c .before .before .before .before .args .word) ≡ true = eq-eqb _ _ (c .before .before .if1 .left) in rw q (c .valid .ensures)
+returns-2 c = let q : eqb (length (c .before .before .before .args .text .now)) (c .before .before .before .args .word) ≡ true = eq-eqb _ _ (c .before .if1 .left) in rw q (c .valid .ensures)
 
 pub shown-ok-spec : {M : Type 1} → statement M
-shown-ok-spec = tie.close (tie.spec returns returns-2 valid-requires returns-3)
+shown-ok-spec = tie.close (tie.spec returns valid-requires returns-2)
