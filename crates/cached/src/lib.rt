@@ -1,6 +1,7 @@
 // What the panel holds of a sign: a finite map from path to version and value (document 01, The panel). Its texts lie in a lent page.
 ghost use mathlib.Core.Path.{_≡_};
 ghost use Prim.Native.Nat.{_≤_};
+ghost use lib.ListN.{length};
 ghost use Rattle.cached.specs.Limits.{maxEntries, maxClusters};
 ghost use Rattle.cached.specs.Entries.{wordAt};
 use schema::Found;
@@ -47,14 +48,14 @@ pub struct Cached {
     pub primed: bool,
 }
 
-// Where a cluster stands among the first n.
-pub fn find_cluster(clusters: &[u64; CLUSTERS], n: usize, word: u64) -> Found
-    requires { ⌜ n ≤ maxClusters ⌝ }
-    ensures { λ r. ⌜ r ≡ wordAt (now (clusters .entry)) n word ⌝ }
+// Where a word stands among the first n.
+fn find_word(words: &[u64], n: usize, word: u64) -> Found
+    requires { ⌜ n ≤ length (now words) ⌝ }
+    ensures { λ r. ⌜ r ≡ wordAt (now (words .entry)) n word ⌝ }
 {
     let mut i = 0;
     while i < n {
-        if clusters[i] == word {
+        if words[i] == word {
             return Found::At(i);
         }
         i += 1;
@@ -62,17 +63,18 @@ pub fn find_cluster(clusters: &[u64; CLUSTERS], n: usize, word: u64) -> Found
     Found::Nothing
 }
 
+// Where a cluster stands among the first n.
+pub fn find_cluster(clusters: &[u64; CLUSTERS], n: usize, word: u64) -> Found
+    requires { ⌜ n ≤ maxClusters ⌝ }
+    ensures { λ r. ⌜ r ≡ wordAt (now (clusters .entry)) n word ⌝ }
+{
+    find_word(clusters, n, word)
+}
+
 // Where an entry stands among the first n.
 pub fn find_entry(keys: &[u64; ENTRIES], n: usize, key: u64) -> Found
     requires { ⌜ n ≤ maxEntries ⌝ }
     ensures { λ r. ⌜ r ≡ wordAt (now (keys .entry)) n key ⌝ }
 {
-    let mut i = 0;
-    while i < n {
-        if keys[i] == key {
-            return Found::At(i);
-        }
-        i += 1;
-    }
-    Found::Nothing
+    find_word(keys, n, key)
 }

@@ -8,16 +8,14 @@ use lib.ListN.{getD}
 use Rattle.schema.specs.Search.{first}
 use Rattle.schema.proofs.SearchLaws.{begin, hit, miss, done}
 use Rattle.cached.specs.Entries.{wordAt}
-use Rattle.cached.proofs.find_entry.Statement.{statement}
-use Rattle.cached.proofs.find_entry.Tie as tie
-use Rattle.cached.proofs.find_entry.Reads as reads
-use Rattle.cached.proofs.find_entry.Lts as lts
+use Rattle.cached.proofs.find_word.Statement.{statement}
+use Rattle.cached.proofs.find_word.Tie as tie
 
 abbrev Inv-loop : tie.InvT-loop
-Inv-loop keys n key i₀ i = (i ≤ n) × (first (λ k. eqb (getD keys k 0) key) n 0 ≡ first (λ k. eqb (getD keys k 0) key) (n - i) i)
+Inv-loop words n word i₀ i = (i ≤ n) × (first (λ k. eqb (getD words k 0) word) n 0 ≡ first (λ k. eqb (getD words k 0) word) (n - i) i)
 
 abbrev μ-loop : tie.MeasureT-loop
-μ-loop keys n key i₀ i = n - i
+μ-loop words n word i₀ i = n - i
 
 loop-holds : tie.Need-loop-holds Inv-loop μ-loop
 unfolding wordAt
@@ -26,8 +24,8 @@ loop-holds c = (search needs, begin _ _)
 mul-if1 : tie.Need-mul-if1 Inv-loop μ-loop
 mul-if1 c = omega arith
 
-element-copy-out-if1 : tie.Need-element-copy-out-if1 Inv-loop μ-loop
-element-copy-out-if1 c = omega arith
+shared-slice-read-if1 : tie.Need-shared-slice-read-if1 Inv-loop μ-loop
+shared-slice-read-if1 c = omega arith
 
 returns : tie.Need-returns Inv-loop μ-loop
 unfolding wordAt
@@ -46,15 +44,15 @@ returns-2 : tie.Need-returns-2 Inv-loop μ-loop
 unfolding wordAt
 returns-2 c = done _ _ _ (search needs) (c .before .loop .inv .1)
 
-pub find-entry-spec : {M : Type 1} → statement M
-find-entry-spec =
+pub find-word-spec : {M : Type 1} → statement M
+find-word-spec =
     tie.close
     (tie.spec
     Inv-loop
     μ-loop
     loop-holds
     mul-if1
-    element-copy-out-if1
+    shared-slice-read-if1
     returns
     add-i
     loop-less
