@@ -1,7 +1,6 @@
 // The panel: the client's copy of a sign. Every call takes any bytes, any buffer, any state, and answers one of document 01's numbers.
 ghost use mathlib.Core.Path.{_≡_};
-ghost use Prim.Native.Nat.{_≤_};
-ghost use lib.ListN.{length};
+ghost use lib.ListN.{take};
 ghost use Rattle.envelope.specs.Envelope.{maxMessage};
 ghost use Rattle.cache.specs.State.{isOpen, askedRight, panelRight};
 ghost use Rattle.cache.specs.Begin.{keeping};
@@ -125,16 +124,26 @@ pub fn panel_ok(page: &[u8], s: State) -> bool
     asked_ok(s.asked)
 }
 
+// As much of a message as can be kept: all of it, of each that a panel makes.
+fn keepable(message: &[u8]) -> &[u8]
+    ensures { λ r. ⌜ now r ≡ take maxMessage (now (message .entry)) ⌝ }
+{
+    if MAX_MESSAGE < message.len() {
+        return &message[0..MAX_MESSAGE];
+    }
+    message
+}
+
 // The request with its newest message kept.
 pub fn keep(x: Request, message: &[u8]) -> Request
-    requires { ⌜ length (now message) ≤ maxMessage ⌝ }
-    ensures { λ r. ⌜ r ≡ keeping x (now (message .entry)) ⌝ }
+    ensures { λ r. ⌜ r ≡ keeping x (take maxMessage (now (message .entry))) ⌝ }
 {
+    let bytes = keepable(message);
     let mut kept = x.kept;
-    put_bytes(&mut kept, 0, message);
+    put_bytes(&mut kept, 0, bytes);
     let mut next = x;
     next.kept = kept;
-    next.len = message.len();
+    next.len = bytes.len();
     next
 }
 

@@ -1,7 +1,10 @@
 use Rattle.cache.proofs.ReactLaws.{ends-within, message-there, sent-as}
+use Rattle.envelope.specs.Envelope.{maxMessage}
 use Rattle.cache_receive.specs.Receive.{nextAwaited, goesOn}
+use Rattle.cache_request.specs.Messages.{successMessage}
 use Rattle.cache.specs.Begin.{keeping}
-use lib.ListN.{length}
+use lib.ListN.{length, take}
+use lib.Seq.{take-all}
 use native.Mathlib.Omega.{arith}
 use Prim.Native.Nat.{ℕ, _≤_}
 use mathlib.Core.List.{List}
@@ -34,14 +37,29 @@ part-keep-end : tie.Need-part-keep-end
 part-keep-end c = ends-within (c .before .before .before .before .put-success .ensures .0) (room-here (c .before .before .before .before))
 
 keep-requires : tie.Need-keep-requires
-keep-requires c κs = omega (arith, ap (λ (l : List ℕ). length l) (message-there (c .before .before .before .before .before .put-success .ensures .0) (room-here (c .before .before .before .before .before))), c .before .before .before .before .before .put-success .ensures .0 .place, c .before .before .before .before .before .put-success .ensures .1)
+keep-requires c κs = search needs
+
+-- and can be kept whole
+keepable-here : (c : tie.After-put-success) → take maxMessage (successMessage (c .before .before .before .args .x .exchange) (c .before .before .before .args .x .turn)) ≡ successMessage (c .before .before .before .args .x .exchange) (c .before .before .before .args .x .turn)
+keepable-here c = take-all maxMessage _ (omega (arith, c .put-success .ensures .0 .place, c .put-success .ensures .1))
 
 same-length : tie.Need-same-length
 same-length c = search needs
 
 returns : tie.Need-returns
 unfolding goesOn
-returns c = λ page. sent-as (c .before .before .before .before .before .before .put-success .ensures .0) (room-here (c .before .before .before .before .before .before)) page (λ j. record { state = record { held = c .before .before .before .before .before .before .before .before .before .args .held; asked = (c .keep .ensures ∙ ap (keeping (nextAwaited (c .before .before .before .before .before .before .before .before .before .args .x))) (message-there (c .before .before .before .before .before .before .put-success .ensures .0) (room-here (c .before .before .before .before .before .before)))) j }; number = 0; len = c .before .before .before .before .before .before .put-success .result })
+returns c =
+    let p = c .before .before .before .before .before .before in
+    let a = p .before .before .before .args in
+    λ page. sent-as (p .put-success .ensures .0) (room-here p) page
+    (λ j. record {
+      state = record {
+        held = a .held;
+        asked = (c .keep .ensures ∙ ap (keeping (nextAwaited (a .x))) (ap (take maxMessage) (message-there (p .put-success .ensures .0) (room-here p)) ∙ keepable-here p)) j;
+      };
+      number = 0;
+      len = p .put-success .result;
+    })
 
 pub go-on-spec : {M : Type 1} → statement M
 go-on-spec =

@@ -1,5 +1,7 @@
-use Rattle.cache.specs.Begin.{askedAs}
-use mathlib.Core.Path.{refl, _∙_}
+use Rattle.envelope.specs.Envelope.{maxMessage}
+use Rattle.cache.specs.Begin.{keeping, askedAs}
+use lib.Seq.{take-all}
+use mathlib.Core.Path.{refl, ap, _∙_}
 use borrow.Author.Needs.{needs}
 use Rattle.cache.proofs.begin.asked_as.Statement.{statement}
 use Rattle.cache.proofs.begin.asked_as.Tie as tie
@@ -22,7 +24,11 @@ keep-requires c κs = search needs
 
 returns : tie.Need-returns
 unfolding askedAs
-returns c = c .keep .ensures ∙ rw (c .before .unknown-after .ensures) refl
+returns c =
+    let s = c .before .before .before .before .before .before in
+    c .keep .ensures
+    ∙ ap (keeping _) (take-all maxMessage (s .args .message .now) (s .pre .1))
+    ∙ rw (c .before .unknown-after .ensures) refl
 
 pub asked-as-spec : {M : Type 1} → statement M
 asked-as-spec = tie.close (tie.spec add-t9 add-t10 unknown-after-requires keep-requires returns)
