@@ -1,7 +1,7 @@
 -- Laws of the definitions, and the theorems.
 pub mod Lines
 pub mod Below
-pub mod Halves
+pub mod Quarters
 pub mod Bytewise
 pub mod Shorter
 pub mod Scalars

@@ -115,20 +115,20 @@ fn up_to_four(s: &[u8]) -> bool
     good & !is_due(a, b, c)
 }
 
-// Whether every byte is below 128: bytes like that are well-formed, and so is each part of them. It is for whole pages: the halves are read side by side,
+// Whether every byte is below 128: bytes like that are well-formed, and so is each part of them. It is for whole pages: the quarters are read side by side,
 // which is faster than one after the other where they come from further away than the nearest cache.
 pub fn ascii(s: &[u8]) -> bool
     ensures { λ r. ⌜ r ≡ allBelow 0x80 (now (s .entry)) ⌝ }
 {
-    let half = s.len() / 2;
+    let side = s.len() / 4;
     let mut bits: u8 = 0;
     let mut i: usize = 0;
-    while i < half {
-        bits = bits | s[i] | s[half + i];
+    while i < side {
+        bits = bits | s[i] | s[side + i] | s[2 * side + i] | s[3 * side + i];
         i += 1;
     }
-    // The last byte, where their number is odd.
-    (bits < 0x80) & (greatest(&s[half + half..]) < 0x80)
+    // The last bytes, where the quarters leave some.
+    (bits < 0x80) & (greatest(&s[4 * side..]) < 0x80)
 }
 
 // Whether the bytes are well-formed UTF-8: at once where all are below 128, else each byte by those before it, as many as the longest sequence there can
