@@ -8,7 +8,7 @@ use lib.Dec.{eqb, ltb, leb}
 use lib.ListN.{getD}
 use Rattle.schema.specs.Layout.{endpointLimit, clusterLimit, attributeLimit, clusterCountWord, attributeCountWord, spareWord, pathColumn, versionColumn, keyColumn, traitsColumn, half}
 use Rattle.schema.specs.Rows.{word, clusterCount, attributeCount}
-use Rattle.schema.specs.Check.{rises, allBelow, endpointChanges, traitsRight, allTraits, rankRight, allRanks, clustersRight, attributesRight, wellFormed}
+use Rattle.schema.specs.Check.{rises, allBelow, endpointChanges, traitsRight, allTraits, rankRight, allRanks, clustersRight, attributesRight, columnsRight, wellFormed}
 use Rattle.schema.proofs.BoolLaws.{both, left, right}
 use Rattle.schema.proofs.CheckLaws.{every-at, every-all, rises-below, rises-order, rises-all}
 
@@ -31,21 +31,20 @@ module _ (w : List ℕ) where
       let t = right (rises w pathColumn (clusterCount w) (2 ^ 48)) _ h in
       (left _ _ h, left _ _ t, leb-true _ _ (right (allBelow w versionColumn (clusterCount w) half) _ t))
 
-  attributes-index : attributesRight w (clusterCount w) (attributeCount w) ≡ true → (rises w keyColumn (attributeCount w) (clusterCount w * half) ≡ true) × (allTraits w (attributeCount w) ≡ true) × (allRanks w (attributeCount w) ≡ true)
-  attributes-index h =
-      let t = right (rises w keyColumn (attributeCount w) (clusterCount w * half)) _ h in
-      (left _ _ h, left _ _ t, right (allTraits w (attributeCount w)) _ t)
+  attributes-index : attributesRight w (clusterCount w) (attributeCount w) ≡ true → (rises w keyColumn (attributeCount w) (clusterCount w * half) ≡ true) × (allTraits w (attributeCount w) ≡ true)
+  attributes-index h = (left _ _ h, right (rises w keyColumn (attributeCount w) (clusterCount w * half)) _ h)
 
   pub to-index : wellFormed w ≡ true → ByIndex w
   unfolding wellFormed
   to-index h =
-      let h1 = right (eqb (getD w spareWord 0) 0) _ h in
+      let h0 = left (columnsRight w) (allRanks w (attributeCount w)) h in
+      let h1 = right (eqb (getD w spareWord 0) 0) _ h0 in
       let h2 = right (leb (getD w clusterCountWord 0) clusterLimit) _ h1 in
       let h3 = right (leb (getD w attributeCountWord 0) attributeLimit) _ h2 in
       let cs = clusters-index (left _ _ h3) in
       let bs = attributes-index (right (clustersRight w (clusterCount w)) _ h3) in
       record {
-        spare = eqb-true _ _ (left _ _ h);
+        spare = eqb-true _ _ (left _ _ h0);
         clusterNumber = leb-true _ _ (left _ _ h1);
         attributeNumber = leb-true _ _ (left _ _ h2);
         pathBelow = rises-below w pathColumn (clusterCount w) (2 ^ 48) (cs .0);
@@ -55,13 +54,14 @@ module _ (w : List ℕ) where
         keyBelow = rises-below w keyColumn (attributeCount w) (clusterCount w * half) (bs .0);
         keyOrder = rises-order w keyColumn (attributeCount w) (clusterCount w * half) (bs .0);
         traits = every-at (λ k. traitsRight (word w traitsColumn k)) (attributeCount w) (bs .1);
-        ranks = every-at (rankRight w) (attributeCount w) (bs .2);
+        ranks = every-at (rankRight w) (attributeCount w) (right (columnsRight w) _ h);
       }
 
   pub from-index : ByIndex w → wellFormed w ≡ true
   unfolding wellFormed
   from-index x =
-      both _ _ (eq-eqb _ _ (x .spare))
+      both _ _
+      (both _ _ (eq-eqb _ _ (x .spare))
       (both _ _ (le-leb _ _ (x .clusterNumber))
       (both _ _ (le-leb _ _ (x .attributeNumber))
       (both _ _
@@ -69,5 +69,5 @@ module _ (w : List ℕ) where
       (both _ _ (every-all (λ k. ltb (word w versionColumn k) half) (clusterCount w) (λ i l. lt-ltb _ _ (x .versions i l)))
       (le-leb _ _ (x .endpoints))))
       (both _ _ (rises-all w keyColumn (attributeCount w) (clusterCount w * half) (x .keyBelow) (x .keyOrder))
-      (both _ _ (every-all (λ k. traitsRight (word w traitsColumn k)) (attributeCount w) (x .traits))
-      (every-all (rankRight w) (attributeCount w) (x .ranks)))))))
+      (every-all (λ k. traitsRight (word w traitsColumn k)) (attributeCount w) (x .traits)))))))
+      (every-all (rankRight w) (attributeCount w) (x .ranks))

@@ -11,3 +11,4 @@ pub mod PathLaws
 pub mod FindLaws
 pub mod TextLaws
 pub mod Examples
+pub mod RiseLaws

@@ -66,14 +66,21 @@ clustersRight w n = rises w pathColumn n (2 ^ 48) && (allBelow w versionColumn n
 
 -- n is the number of clusters: a key below n * 2^32 is that of a cluster that is there
 abbrev pub attributesRight : List ℕ → ℕ → ℕ → Bool
-attributesRight w n m = rises w keyColumn m (n * half) && (allTraits w m && allRanks w m)
+attributesRight w n m = rises w keyColumn m (n * half) && allTraits w m
 
-unfoldable pub wellFormed : List ℕ → Bool
-wellFormed w =
+-- every rule but that of the ranks
+abbrev pub columnsRight : List ℕ → Bool
+columnsRight w =
     eqb (getD w spareWord 0) 0
     && (leb (getD w clusterCountWord 0) clusterLimit
     && (leb (getD w attributeCountWord 0) attributeLimit
     && (clustersRight w (clusterCount w) && attributesRight w (clusterCount w) (attributeCount w))))
+
+abbrev pub ranksRight : List ℕ → Bool
+ranksRight w = allRanks w (attributeCount w)
+
+unfoldable pub wellFormed : List ℕ → Bool
+wellFormed w = columnsRight w && ranksRight w
 
 -- how many of the schema's attributes are texts
 abbrev pub textCount : List ℕ → ℕ

@@ -1,9 +1,9 @@
 // Whether the words are a schema by the rules of document 01 (specs/Rules.antt). It is asked at every call of a server, so each rule is one plain loop
 // over a column.
 ghost use mathlib.Core.Path.{_≡_};
-ghost use Prim.Native.Nat.{_+_, _≤_};
+ghost use Prim.Native.Nat.{_+_, _^_, _≤_};
 ghost use Rattle.schema.specs.Layout.{clusterLimit, attributeLimit, wordCount};
-ghost use Rattle.schema.specs.Check.{rises, allBelow, endpointChanges, topBitsClear, allTraits, allRanks, clustersRight, attributesRight, wellFormed};
+ghost use Rattle.schema.specs.Check.{rises, allBelow, endpointChanges, topBitsClear, allTraits, allRanks, clustersRight, attributesRight, columnsRight, wellFormed};
 use super::ADMINISTER;
 use super::ATTRIBUTE_COUNT_WORD;
 use super::ATTRIBUTES;
@@ -23,28 +23,35 @@ use super::VERSION;
 use super::WORDS;
 use super::WRITE_PART;
 
+// Far above any path and key.
+const ROOM: u64 = 4_611_686_018_427_387_904;
+
 // What each part of the traits has left to 127 at its highest value.
 const MARGINS: u64 = 127 - TEXT
     + (127 - 1) * NULLABLE_PART
     + (127 - ADMINISTER) * READ_PART
     + (127 - ADMINISTER) * WRITE_PART;
 
-// The n words from `from` on rise strictly, and the last is below limit: walked from the end, each word against the one after it.
+// The n words from `from` on rise strictly, and the last is below limit. No way out of the loop, so that it becomes vector code: of two words below ROOM the
+// first is the lower exactly if its gap is below 2 * ROOM, and whether all words and gaps are, their ORs tell.
 fn rising(w: &[u64; WORDS], from: usize, n: usize, limit: u64) -> bool
-    requires { ⌜ from + n ≤ wordCount ⌝ }
+    requires { ⌜ (from + n ≤ wordCount) × (limit ≤ 2 ^ 62) ⌝ }
     ensures { λ r. ⌜ r ≡ rises (now (w .entry)) from n limit ⌝ }
 {
-    let mut high = limit;
-    let mut i = n;
-    while 0 < i {
-        i -= 1;
-        let x = w[from + i];
-        if high <= x {
-            return false;
-        }
-        high = x;
+    if n == 0 {
+        return true;
     }
-    true
+    let last = n - 1;
+    let mut words: u64 = 0;
+    let mut gaps: u64 = 0;
+    let mut i = 0;
+    while i < last {
+        let x = w[from + i];
+        i += 1;
+        words = words | x;
+        gaps = gaps | (x % ROOM + (2 * ROOM - w[from + i] % ROOM));
+    }
+    (words < ROOM) & (gaps < 2 * ROOM) & (w[from + last] < limit)
 }
 
 // Each of the n words from `from` on is below limit.
@@ -116,7 +123,7 @@ fn all_traits(w: &[u64; WORDS], n: usize) -> bool
 }
 
 // The first word of each text is its rank: how many texts stand before it.
-fn all_ranks(w: &[u64; WORDS], n: usize) -> bool
+pub fn all_ranks(w: &[u64; WORDS], n: usize) -> bool
     requires { ⌜ n ≤ attributeLimit ⌝ }
     ensures { λ r. ⌜ r ≡ allRanks (now (w .entry)) n ⌝ }
 {
@@ -156,15 +163,12 @@ fn attributes_right(w: &[u64; WORDS], n: usize, m: usize) -> bool
     if !rising(w, KEY, m, n as u64 * HALF) {
         return false;
     }
-    if !all_traits(w, m) {
-        return false;
-    }
-    all_ranks(w, m)
+    all_traits(w, m)
 }
 
-// True exactly if the words are a schema.
-pub fn well_formed(w: &[u64; WORDS]) -> bool
-    ensures { λ r. ⌜ r ≡ wellFormed (now (w .entry)) ⌝ }
+// Every rule but that of the ranks, which a server tests together with what it holds.
+pub fn columns_right(w: &[u64; WORDS]) -> bool
+    ensures { λ r. ⌜ r ≡ columnsRight (now (w .entry)) ⌝ }
 {
     if w[SPARE_WORD] != 0 {
         return false;
@@ -181,4 +185,14 @@ pub fn well_formed(w: &[u64; WORDS]) -> bool
         return false;
     }
     attributes_right(w, n, m)
+}
+
+// True exactly if the words are a schema.
+pub fn well_formed(w: &[u64; WORDS]) -> bool
+    ensures { λ r. ⌜ r ≡ wellFormed (now (w .entry)) ⌝ }
+{
+    if !columns_right(w) {
+        return false;
+    }
+    all_ranks(w, super::attribute_count(w))
 }

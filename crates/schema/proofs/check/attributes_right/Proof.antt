@@ -18,16 +18,7 @@ all-traits-requires : tie.Need-all-traits-requires
 all-traits-requires c κs = search needs
 
 returns-2 : tie.Need-returns-2
-returns-2 c = fails _ _ (sym (c .before .all-traits .ensures) ∙ not-true _ (c .if2 .taken)) ∙ past _ _ (sym (c .before .before .before .rising .ensures) ∙ not-false _ (c .before .before .if1 .left))
-
-all-ranks-requires : tie.Need-all-ranks-requires
-all-ranks-requires c κs = search needs
-
-returns-3 : tie.Need-returns-3
-returns-3 c =
-    c .all-ranks .ensures
-    ∙ past _ _ (sym (c .before .before .all-traits .ensures) ∙ not-false _ (c .before .if2 .left))
-    ∙ past _ _ (sym (c .before .before .before .before .rising .ensures) ∙ not-false _ (c .before .before .before .if1 .left))
+returns-2 c = c .all-traits .ensures ∙ past _ _ (sym (c .before .before .rising .ensures) ∙ not-false _ (c .before .if1 .left))
 
 pub attributes-right-spec : {M : Type 1} → statement M
 attributes-right-spec =
@@ -37,6 +28,4 @@ attributes-right-spec =
     rising-requires
     returns
     all-traits-requires
-    returns-2
-    all-ranks-requires
-    returns-3)
+    returns-2)

@@ -1,26 +1,32 @@
-use mathlib.Core.Path.{_≡_, refl, sym, _∙_}
-use Prim.Native.Nat.{_-_, _≤_}
+-- `schema::check::rising` meets its contract. The invariant: the ORs tell of the words before here whether they rise.
+use mathlib.Core.Path.{_≡_, refl, ap, _∙_}
+use mathlib.Core.Bool.{Bool, _&&_}
+use Prim.Native.Nat.{ℕ, _+_, _-_, _^_, _≤_}
 use native.Mathlib.Omega.{arith}
-use borrow.Author.Tests.{lt-ltb, le-ltb}
-use Rattle.schema.specs.Rows.{word}
-use Rattle.schema.specs.Check.{rises}
-use Rattle.schema.proofs.BoolLaws.{past, fails}
-use Rattle.schema.proofs.CheckLaws.{rises-next}
 use borrow.Author.Needs.{needs}
+use lib.Dec.{ltb}
+use Rattle.schema.specs.Rows.{word}
+use Rattle.schema.specs.Check.{every, rises}
+use Rattle.schema.proofs.RiseLaws.{step, rise-turn, rise-whole}
 use Rattle.schema.proofs.check.rising.Statement.{statement}
 use Rattle.schema.proofs.check.rising.Tie as tie
 
 abbrev Inv-loop : tie.InvT-loop
-Inv-loop w from n limit high₀ i₀ high i = (i ≤ n) × (rises w from n limit ≡ rises w from i high)
+Inv-loop w from n limit last words₀ gaps₀ i₀ words gaps i = (i ≤ last) × ((ltb words (2 ^ 62) && ltb gaps (2 ^ 63)) ≡ every (step w from) i)
 
 abbrev μ-loop : tie.MeasureT-loop
-μ-loop w from n limit high₀ i₀ high i = i
+μ-loop w from n limit last words₀ gaps₀ i₀ words gaps i = last - i
+
+returns : tie.Need-returns Inv-loop μ-loop
+unfolding rises
+returns c = let e : c .before .args .n ≡ 0 = c .if1 .taken in rw e
+
+sub-last : tie.Need-sub-last Inv-loop μ-loop
+sub-last c = search needs
 
 loop-holds : tie.Need-loop-holds Inv-loop μ-loop
+unfolding every
 loop-holds c = (search needs, refl)
-
-sub-i : tie.Need-sub-i Inv-loop μ-loop
-sub-i c = search needs
 
 add-x : tie.Need-add-x Inv-loop μ-loop
 add-x c = search needs
@@ -31,24 +37,58 @@ mul-x c = search needs
 element-copy-out-x : tie.Need-element-copy-out-x Inv-loop μ-loop
 element-copy-out-x c = search needs
 
-returns : tie.Need-returns Inv-loop μ-loop
-returns c =
-    let a = c .before .before .before .before .args in
-    let l = c .before .before .before .loop in
-    sym (l .inv .1 ∙ rises-next _ _ _ _ (search needs) ∙ sym (fails _ _ (le-ltb (word (a .w .now) (a .from) (l .i - 1)) (l .high) (omega arith))))
+add-i : tie.Need-add-i Inv-loop μ-loop
+add-i c = search needs
+
+mul-gaps : tie.Need-mul-gaps Inv-loop μ-loop
+mul-gaps c = search needs
+
+add-gaps : tie.Need-add-gaps Inv-loop μ-loop
+add-gaps c = search needs
+
+mul-gaps-2 : tie.Need-mul-gaps-2 Inv-loop μ-loop
+mul-gaps-2 c = search needs
+
+element-copy-out-gaps : tie.Need-element-copy-out-gaps Inv-loop μ-loop
+element-copy-out-gaps c = search needs
+
+sub-gaps : tie.Need-sub-gaps Inv-loop μ-loop
+sub-gaps c = search needs
+
+add-gaps-2 : tie.Need-add-gaps-2 Inv-loop μ-loop
+add-gaps-2 c = search needs
 
 loop-less : tie.Need-loop-less Inv-loop μ-loop
 loop-less c = search needs
 
 loop-again : tie.Need-loop-again Inv-loop μ-loop
 loop-again c =
-    let a = c .before .before .before .before .args in
+    let a = c .before .before .before .before .before .args in
     let l = c .before .before .before .loop in
-    (omega arith, l .inv .1 ∙ rises-next _ _ _ _ (search needs) ∙ sym (past _ _ (lt-ltb (word (a .w .now) (a .from) (l .i - 1)) (l .high) (omega arith))))
+    (search needs, rise-turn (a .w .now) (a .from) (l .words) (l .gaps) (l .i) (l .inv .1))
+
+mul-result : tie.Need-mul-result Inv-loop μ-loop
+mul-result c = search needs
+
+add-result : tie.Need-add-result Inv-loop μ-loop
+add-result c = search needs
+
+mul-result-2 : tie.Need-mul-result-2 Inv-loop μ-loop
+mul-result-2 c = search needs
+
+element-copy-out-result : tie.Need-element-copy-out-result Inv-loop μ-loop
+element-copy-out-result c = search needs
 
 returns-2 : tie.Need-returns-2 Inv-loop μ-loop
-unfolding rises
-returns-2 c = sym (c .before .loop .inv .1 ∙ let e : c .before .loop .i ≡ 0 = omega arith in rw e)
+returns-2 c =
+    let a = c .before .before .before .before .args in
+    let l = c .before .before .loop in
+    let last = a .n - 1 in
+    let e : l .i ≡ last = omega arith in
+    let f : last + 1 ≡ a .n = omega arith in
+    ap (λ (b : Bool). b && ltb (word (a .w .now) (a .from) last) (a .limit)) (l .inv .1 ∙ ap (every (step (a .w .now) (a .from))) e)
+    ∙ rise-whole (a .w .now) (a .from) last (a .limit) (c .before .before .before .before .pre .1)
+    ∙ ap (λ (k : ℕ). rises (a .w .now) (a .from) k (a .limit)) f
 
 pub rising-spec : {M : Type 1} → statement M
 rising-spec =
@@ -56,12 +96,23 @@ rising-spec =
     (tie.spec
     Inv-loop
     μ-loop
+    returns
+    sub-last
     loop-holds
-    sub-i
     add-x
     mul-x
     element-copy-out-x
-    returns
+    add-i
+    mul-gaps
+    add-gaps
+    mul-gaps-2
+    element-copy-out-gaps
+    sub-gaps
+    add-gaps-2
     loop-less
     loop-again
+    mul-result
+    add-result
+    mul-result-2
+    element-copy-out-result
     returns-2)

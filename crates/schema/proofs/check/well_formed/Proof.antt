@@ -1,87 +1,32 @@
-use mathlib.Core.Path.{sym, ap, ap₂, _∙_}
-use native.Mathlib.Omega.{arith}
-use borrow.Author.Tests.{not-true, not-false, eq-eqb, ne-eqb, le-leb, lt-leb}
-use lib.ListN.{getD}
-use Rattle.schema.specs.Layout.{clusterLimit, attributeLimit, clusterCountWord, attributeCountWord}
-use Rattle.schema.specs.Check.{clustersRight, attributesRight, wellFormed}
+use mathlib.Core.Path.{sym, ap, _∙_}
+use borrow.Author.Tests.{not-true, not-false}
+use Rattle.schema.specs.Check.{allRanks, wellFormed}
 use Rattle.schema.proofs.BoolLaws.{past, fails}
 use borrow.Author.Needs.{needs}
 use Rattle.schema.proofs.check.well_formed.Statement.{statement}
 use Rattle.schema.proofs.check.well_formed.Tie as tie
 
-element-copy-out-if1 : tie.Need-element-copy-out-if1
-element-copy-out-if1 c = search needs
+columns-right-requires : tie.Need-columns-right-requires
+columns-right-requires c κs = search needs
 
 returns : tie.Need-returns
 unfolding wellFormed
-returns c = fails _ _ (ne-eqb _ _ (c .if1 .taken))
-
-element-copy-out-if2 : tie.Need-element-copy-out-if2
-element-copy-out-if2 c = search needs
-
-returns-2 : tie.Need-returns-2
-unfolding wellFormed
-returns-2 c =
-    fails _ _ (lt-leb (getD (c .before .before .before .before .args .w .now) clusterCountWord 0) clusterLimit (omega arith)) ∙ past _ _ (eq-eqb _ _ (c .before .before .if1 .left))
-
-element-copy-out-if3 : tie.Need-element-copy-out-if3
-element-copy-out-if3 c = search needs
-
-returns-3 : tie.Need-returns-3
-unfolding wellFormed
-returns-3 c =
-    let w = c .before .before .before .before .before .before .args .w .now in
-    fails _ _ (lt-leb (getD w attributeCountWord 0) attributeLimit (omega arith))
-    ∙ past _ _ (le-leb (getD w clusterCountWord 0) clusterLimit (omega arith))
-    ∙ past _ _ (eq-eqb _ _ (c .before .before .before .before .if1 .left))
-
-cluster-count-requires : tie.Need-cluster-count-requires
-cluster-count-requires c κs = search needs
+returns c = fails _ _ (sym (c .before .columns-right .ensures) ∙ not-true _ (c .if1 .taken))
 
 attribute-count-requires : tie.Need-attribute-count-requires
 attribute-count-requires c κs = search needs
 
-clusters-right-requires : tie.Need-clusters-right-requires
-clusters-right-requires c κs = search needs
+all-ranks-requires : tie.Need-all-ranks-requires
+all-ranks-requires c κs = search needs
 
-returns-4 : tie.Need-returns-4
+returns-2 : tie.Need-returns-2
 unfolding wellFormed
-returns-4 c =
-    let w = c .before .before .before .before .before .before .before .before .before .before .args .w .now in
-    let e = c .before .clusters-right .ensures ∙ ap (clustersRight w) (c .before .before .before .cluster-count .ensures) in
-    fails _ _ (sym e ∙ not-true _ (c .if4 .taken))
-    ∙ past _ _ (le-leb (getD w attributeCountWord 0) attributeLimit (omega arith))
-    ∙ past _ _ (le-leb (getD w clusterCountWord 0) clusterLimit (omega arith))
-    ∙ past _ _ (eq-eqb _ _ (c .before .before .before .before .before .before .before .before .if1 .left))
-
-attributes-right-requires : tie.Need-attributes-right-requires
-attributes-right-requires c κs = search needs
-
-returns-5 : tie.Need-returns-5
-unfolding wellFormed
-returns-5 c =
-    let w = c .before .before .before .before .before .before .before .before .before .before .before .args .w .now in
-    let e = c .before .before .clusters-right .ensures ∙ ap (clustersRight w) (c .before .before .before .before .cluster-count .ensures) in
-    c .attributes-right .ensures
-    ∙ ap₂ (attributesRight w) (c .before .before .before .before .cluster-count .ensures) (c .before .before .before .attribute-count .ensures)
-    ∙ past _ _ (sym e ∙ not-false _ (c .before .if4 .left))
-    ∙ past _ _ (le-leb (getD w attributeCountWord 0) attributeLimit (omega arith))
-    ∙ past _ _ (le-leb (getD w clusterCountWord 0) clusterLimit (omega arith))
-    ∙ past _ _ (eq-eqb _ _ (c .before .before .before .before .before .before .before .before .before .if1 .left))
+returns-2 c =
+    c .all-ranks .ensures
+    ∙ ap (allRanks (c .before .before .before .before .args .w .now)) (c .before .attribute-count .ensures)
+    ∙ past _ _ (sym (c .before .before .before .columns-right .ensures) ∙ not-false _ (c .before .before .if1 .left))
 
 pub well-formed-spec : {M : Type 1} → statement M
 well-formed-spec =
     tie.close
-    (tie.spec
-    element-copy-out-if1
-    returns
-    element-copy-out-if2
-    returns-2
-    element-copy-out-if3
-    returns-3
-    cluster-count-requires
-    attribute-count-requires
-    clusters-right-requires
-    returns-4
-    attributes-right-requires
-    returns-5)
+    (tie.spec columns-right-requires returns attribute-count-requires all-ranks-requires returns-2)
