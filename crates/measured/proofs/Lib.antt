@@ -1,3 +1,4 @@
+pub mod ValidLaws
 pub mod ReadLaws
 pub mod MessageLaws
 pub mod RunLaws

@@ -20,7 +20,7 @@ use report::part::make_part;
 use schema::ATTRIBUTES;
 use schema::CLUSTERS;
 use schema::WORDS;
-use schema::check::well_formed;
+use schema::check::columns_right;
 use selection::asked::Asked;
 use values::Values;
 use values::valid::values_ok;
@@ -50,16 +50,10 @@ pub extern "C" fn sign_valid<'a>(
 ) -> bool
     ensures { λ r. ⌜ r ≡ signRight (now (w .entry)) (now (defaults .entry)) (now (edits .entry)) (valuesOf (now (words .entry)) (now (nulls .entry)) (now (edited .entry)) (now (versions .entry))) ⌝ }
 {
-    if !well_formed(w) {
+    if !columns_right(w) {
         return false;
     }
-    let v = Values {
-        words: *words,
-        nulls: *nulls,
-        edited: *edited,
-        versions: *versions,
-    };
-    values_ok(w, defaults, edits, v)
+    values_ok(w, defaults, edits, words, nulls, edited)
 }
 
 // A read of everything, with no filter.

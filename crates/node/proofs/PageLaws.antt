@@ -1,13 +1,13 @@
 -- Laws of the two pages: a stored text is shown, and every other shown text stays as it was.
 use mathlib.Core.Path.{_≡_, refl, sym, ap, _∙_}
 use mathlib.Core.Bool.{Bool, true, false}
-use mathlib.Core.List.{List, [], _∷_}
-use Prim.Native.Nat.{ℕ, suc, _+_, _-_, _≤_, min}
+use mathlib.Core.List.{List, []}
+use Prim.Native.Nat.{ℕ, _+_, _-_, _≤_, min}
 use native.Mathlib.Omega.{arith}
-use borrow.Author.Tests.{ltb-true, ltb-false, leb-true, leb-false, eqb-true, eqb-false, eq-eqb, ne-eqb}
+use borrow.Author.Tests.{ltb-true, ltb-false, leb-true, leb-false, eq-eqb, ne-eqb}
 use lib.Dec.{ltb, leb, eqb}
-use lib.ListN.{length, take, drop, set, length-take, length-drop}
-use lib.Seq.{take-all, take-nil, drop-nil, drop-length, drop-drop, take-set-le, drop-set-lt, drop-set-add}
+use lib.ListN.{length, take, drop, length-take, length-drop}
+use lib.Seq.{take-all, take-nil, drop-nil, drop-length, drop-drop}
 use Rattle.octets.specs.Store.{store}
 use Rattle.octets.proofs.StoreLaws.{store-back, part-after, part-before}
 use Rattle.schema.specs.Layout.{textSize}
@@ -35,11 +35,6 @@ part-whole n start l =
     let e : length (take n (drop start l)) ≡ min n (length l - start) = length-take n (drop start l) ∙ ap (min n) (length-drop start l) in
     by-test (leb n (length l - start)) (λ t. t ∙ sym (eq-eqb _ n (omega (arith, e, leb-true n _ t))))
     (λ t. t ∙ sym (ne-eqb _ n (λ q. omega (arith, e, q, leb-false n _ t))))
-
-pub none-there : (n start : ℕ) (l : List ℕ) → length l ≤ start → eqb n 0 ≡ eqb (length (take n (drop start l))) n
-none-there n start l h =
-    by-test (eqb n 0) (λ t. t ∙ sym (eq-eqb _ n (omega (arith, eqb-true n 0 t, ap (length {A = ℕ}) (nothing-there n start l h)))))
-    (λ t. t ∙ sym (ne-eqb _ n (λ q. eqb-false n 0 t (sym q ∙ ap length (nothing-there n start l h)))))
 
 module _ (defaults edits : List ℕ) (rank : ℕ) (text : List ℕ) where
   pub stored-shown : place rank + length text ≤ length edits → (start : ℕ) → shownText defaults (store edits (place rank) text) start rank (length text) true ≡ text

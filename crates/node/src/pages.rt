@@ -4,7 +4,6 @@ use octets::put_bytes;
 use schema::TEXT_SIZE;
 ghost use mathlib.Core.Path.{_≡_};
 ghost use Prim.Native.Nat.{_+_, _^_, _≤_, _<_};
-ghost use lib.Dec.{eqb};
 ghost use lib.ListN.{length, take, drop};
 ghost use Rattle.octets.specs.Store.{store};
 ghost use Rattle.node.specs.Pages.{place, shownText};
@@ -48,36 +47,6 @@ pub fn shown<'a>(
         return part(edits, edits.len(), len);
     }
     part(edits, place_of(rank), len)
-}
-
-// Whether a page has len bytes from start on.
-fn has(page: &[u8], start: usize, len: usize) -> bool
-    ensures { λ r. ⌜ r ≡ eqb (length (take len (drop start (now (page .entry))))) len ⌝ }
-{
-    if page.len() < start {
-        return len == 0;
-    }
-    len <= page.len() - start
-}
-
-// Whether the shown text is there whole: asked without making it a slice.
-pub fn is_whole<'a>(
-    defaults: &'a [u8],
-    edits: &'a [u8],
-    start: usize,
-    rank: usize,
-    len: usize,
-    edited: bool,
-) -> bool
-    ensures { λ r. ⌜ r ≡ eqb (length (shownText (now (defaults .entry)) (now (edits .entry)) start rank len edited)) len ⌝ }
-{
-    if !edited {
-        return has(defaults, start, len);
-    }
-    if edits.len() / TEXT_SIZE < rank {
-        return len == 0;
-    }
-    has(edits, place_of(rank), len)
 }
 
 // Stores a text in its place: exactly its bytes, the rest of the page as it was.

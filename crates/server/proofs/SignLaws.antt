@@ -6,15 +6,17 @@ use Prim.Native.Nat.{ℕ}
 use Rattle.schema.specs.Check as Schema
 use Rattle.schema.proofs.BoolLaws.{both, left, right}
 use Rattle.node.specs.Check.{numbersRight}
-use Rattle.values.specs.Valid.{valuesRight}
+use Rattle.values.specs.Valid.{heldRight, valuesRight}
 use Rattle.replies.specs.Row.{rowRight}
 use Rattle.server.specs.declared.State.{State}
 use Rattle.server.specs.State.{signRight}
 
--- four tests, the middle two taken together
-grouped : (a b c d : Bool) → (a && (b && (c && d))) ≡ (a && ((b && c) && d))
-grouped a true c d = refl
-grouped a false c d = refl
+-- five tests, the middle three taken together
+grouped : (a b c d e : Bool) → ((a && b) && (c && (d && e))) ≡ (a && ((b && (c && d)) && e))
+grouped false b c d e = refl
+grouped true false c d e = refl
+grouped true true true d e = refl
+grouped true true false d e = refl
 
 pub record RightSign (w defaults edits : List ℕ) (s : State) : Type 0 where
   pub schema : Schema.wellFormed w ≡ true
@@ -34,10 +36,11 @@ module _ (w defaults edits : List ℕ) (s : State) where
       let h₂ = right t₁ (t₂ && t₃) h₁ in
       record { schema = left t₀ (t₁ && (t₂ && t₃)) h; numbers = left t₁ (t₂ && t₃) h₁; values = left t₂ t₃ h₂; row = right t₂ t₃ h₂ }
 
-  -- as the code tests it: first values and values in one loop
-  pub as-tested : signRight w defaults edits s ≡ (Schema.wellFormed w && ((numbersRight w && valuesRight w defaults edits (s .values)) && rowRight (s .row)))
-  unfolding signRight
-  as-tested = grouped (Schema.wellFormed w) (numbersRight w) (valuesRight w defaults edits (s .values)) (rowRight (s .row))
+  -- as the code tests it: ranks, first values and values together
+  pub as-tested : signRight w defaults edits s ≡ (Schema.columnsRight w && ((Schema.ranksRight w && (numbersRight w && heldRight w defaults edits (s .values .words) (s .values .nulls) (s .values .edited))) && rowRight (s .row)))
+  unfolding signRight Schema.wellFormed valuesRight
+  as-tested =
+      grouped (Schema.columnsRight w) (Schema.ranksRight w) (numbersRight w) (heldRight w defaults edits (s .values .words) (s .values .nulls) (s .values .edited)) (rowRight (s .row))
 
   pub right-sign : RightSign w defaults edits s → signRight w defaults edits s ≡ true
   unfolding signRight

@@ -1,11 +1,10 @@
 // The sign: a server of the Interaction Model. Every call takes any bytes, any buffer, any state, and answers one of document 01's numbers.
 ghost use mathlib.Core.Path.{_≡_};
-ghost use Prim.Native.Nat.{ℕ};
 ghost use Rattle.server.specs.State.{signRight};
 use replies::Row;
 use replies::kept::row_ok;
 use schema::WORDS;
-use schema::check::well_formed;
+use schema::check::columns_right;
 use values::Values;
 use values::valid::values_ok;
 
@@ -42,10 +41,11 @@ pub const SCHEMA_REFUSED: u8 = 11;
 pub fn sign_ok<'a>(w: &'a [u64; WORDS], defaults: &'a [u8], edits: &'a [u8], s: State) -> bool
     ensures { λ r. ⌜ r ≡ signRight (now (w .entry)) (now (defaults .entry)) (now (edits .entry)) s ⌝ }
 {
-    if !well_formed(w) {
+    if !columns_right(w) {
         return false;
     }
-    if !values_ok(w, defaults, edits, s.values) {
+    let v = s.values;
+    if !values_ok(w, defaults, edits, &v.words, &v.nulls, &v.edited) {
         return false;
     }
     row_ok(s.row)

@@ -1,7 +1,7 @@
 pub mod ChangeLaws
 pub mod ValueLaws
 pub mod ValidLaws
-pub mod PlainLaws
+pub mod QuickLaws
 pub mod FreshLaws
 pub mod AcceptedLaws
 pub mod ExactLaws

@@ -1,7 +1,7 @@
 -- The check of a sign's values, test by test.
 use mathlib.Core.Path.{_≡_, refl, sym, ap, _∙_}
 use mathlib.Core.Bool.{Bool, true, false, _&&_, false≢true}
-use mathlib.Core.List.{List}
+use mathlib.Core.List.{List, []}
 use Prim.Native.Nat.{ℕ, _*_, _≤_, _<_}
 use borrow.Author.Tests.{eqb-true, eq-eqb, ne-eqb, le-leb, lt-leb}
 use lib.Dec.{eqb}
@@ -71,13 +71,9 @@ module _ (w defaults edits : List ℕ) (i word : ℕ) (isNull edited : Bool) whe
     text-kind : kindOf (attributeRow w i) ≡ Text
     text-kind = kind-text (attributeRow w i) (eqb-true (attributeRow w i .kind) 4 t)
 
-    pub null-allowed : isNull ≡ true → eqb (attributeRow w i .nullable) 1 ≡ true → eqb word 0 ≡ valueRight w defaults edits i word isNull edited
+    pub null-text : isNull ≡ true → (eqb (attributeRow w i .nullable) 1 && eqb word 0) ≡ valueRight w defaults edits i word isNull edited
     unfolding valueRight held
-    null-allowed n y = rw (text-kind, n, y) (and-true (eqb word 0))
-
-    pub null-refused : isNull ≡ true → eqb (attributeRow w i .nullable) 1 ≡ false → false ≡ valueRight w defaults edits i word isNull edited
-    unfolding valueRight held
-    null-refused n y = rw (text-kind, n, y)
+    null-text n = rw (text-kind, n) (and-true (eqb (attributeRow w i .nullable) 1 && eqb word 0))
 
     pub too-long : isNull ≡ false → textMax < word → false ≡ valueRight w defaults edits i word isNull edited
     unfolding valueRight held
@@ -88,6 +84,10 @@ module _ (w defaults edits : List ℕ) (i word : ℕ) (isNull edited : Bool) whe
     shown-right n l = rw (text-kind, n, le-leb word textMax l, t)
 
 -- ---- the check by index
+
+-- what is held, as the code is lent it: the versions are judged by nothing here
+abbrev pub heldOf : List ℕ → List Bool → List Bool → Values
+heldOf words nulls edited = record { words = words; nulls = nulls; edited = edited; versions = [] }
 
 -- attribute i holds what it may
 abbrev pub rightAt : List ℕ → List ℕ → List ℕ → Values → ℕ → Bool

@@ -2,4 +2,4 @@ pub mod Values
 pub mod Change
 pub mod Fresh
 pub mod Valid
-pub mod Plain
+pub mod Quick

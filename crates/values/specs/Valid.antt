@@ -25,8 +25,13 @@ valueRight w defaults edits i word isNull edited =
     held (kindOf (attributeRow w i)) (eqb (attributeRow w i .nullable) 1) word isNull
     && pick isNull true (pick (isText (attributeRow w i)) (shownRight (textAt w defaults edits i word edited) word) true)
 
+-- what is held by index, whatever the versions are
+abbrev pub heldRight : List ℕ → List ℕ → List ℕ → List ℕ → List Bool → List Bool → Bool
+unfolding valueRight
+heldRight w defaults edits words nulls edited =
+    eqb (length edits) (textSize * textCount w)
+    && every (λ i. valueRight w defaults edits i (getD words i 0) (getD nulls i false) (getD edited i false)) (attributeCount w)
+
 unfoldable pub valuesRight : List ℕ → List ℕ → List ℕ → Values → Bool
 unfolding valueRight
-valuesRight w defaults edits v =
-    eqb (length edits) (textSize * textCount w)
-    && every (λ i. valueRight w defaults edits i (getD (v .words) i 0) (getD (v .nulls) i false) (getD (v .edited) i false)) (attributeCount w)
+valuesRight w defaults edits v = heldRight w defaults edits (v .words) (v .nulls) (v .edited)

@@ -13,6 +13,7 @@ use tlv::Value;
 
 pub mod change; // change.rt: whether a value differs from the one held, and storing it
 pub mod fresh; // fresh.rt: what a fresh sign holds
+pub mod quick; // quick.rt: a quick test of values and pages
 pub mod valid; // valid.rt: whether values and pages keep the rules
 
 pub struct Values {

@@ -1,24 +1,22 @@
 use mathlib.Core.Path.{sym, _∙_}
 use borrow.Author.Tests.{not-true, not-false}
 use Rattle.schema.proofs.BoolLaws.{past, fails}
-use Rattle.measured.specs.Sign.{signRight}
+use Rattle.measured.proofs.ValidLaws.{as-tested}
 use borrow.Author.Needs.{needs}
 use Rattle.measured.proofs.sign_valid.Statement.{statement}
 use Rattle.measured.proofs.sign_valid.Tie as tie
 
-well-formed-requires : tie.Need-well-formed-requires
-well-formed-requires c κs = search needs
+columns-right-requires : tie.Need-columns-right-requires
+columns-right-requires c κs = search needs
 
 returns : tie.Need-returns
-unfolding signRight
-returns c = fails _ _ (sym (c .before .well-formed .ensures) ∙ not-true _ (c .if1 .taken))
+returns c = fails _ _ (sym (c .before .columns-right .ensures) ∙ not-true _ (c .if1 .taken)) ∙ sym (as-tested _ _ _ _)
 
 values-ok-requires : tie.Need-values-ok-requires
 values-ok-requires c κs = search needs
 
 returns-2 : tie.Need-returns-2
-unfolding signRight
-returns-2 c = c .values-ok .ensures ∙ past _ _ (sym (c .before .before .before .before .before .before .well-formed .ensures) ∙ not-false _ (c .before .before .before .before .before .if1 .left))
+returns-2 c = c .values-ok .ensures ∙ past _ _ (sym (c .before .before .columns-right .ensures) ∙ not-false _ (c .before .if1 .left)) ∙ sym (as-tested _ _ _ _)
 
 pub sign-valid-spec : {M : Type 1} → statement M
-sign-valid-spec = tie.close (tie.spec well-formed-requires returns values-ok-requires returns-2)
+sign-valid-spec = tie.close (tie.spec columns-right-requires returns values-ok-requires returns-2)

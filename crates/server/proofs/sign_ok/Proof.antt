@@ -2,31 +2,29 @@ use mathlib.Core.Path.{sym, _∙_}
 use borrow.Author.Needs.{needs}
 use borrow.Author.Tests.{not-true, not-false}
 use Rattle.schema.proofs.BoolLaws.{past, fails}
-use Rattle.server.specs.State.{signRight}
 use Rattle.server.proofs.SignLaws.{as-tested}
 use Rattle.server.proofs.sign_ok.Statement.{statement}
 use Rattle.server.proofs.sign_ok.Tie as tie
 
-well-formed-requires : tie.Need-well-formed-requires
-well-formed-requires c κs = search needs
+columns-right-requires : tie.Need-columns-right-requires
+columns-right-requires c κs = search needs
 
 returns : tie.Need-returns
-unfolding signRight
-returns c = fails _ _ (sym (c .before .well-formed .ensures) ∙ not-true _ (c .if1 .taken))
+returns c = fails _ _ (sym (c .before .columns-right .ensures) ∙ not-true _ (c .if1 .taken)) ∙ sym (as-tested _ _ _ _)
 
 values-ok-requires : tie.Need-values-ok-requires
 values-ok-requires c κs = search needs
 
 returns-2 : tie.Need-returns-2
-returns-2 c = fails _ _ (sym (c .before .values-ok .ensures) ∙ not-true _ (c .if2 .taken)) ∙ past _ _ (sym (c .before .before .before .well-formed .ensures) ∙ not-false _ (c .before .before .if1 .left)) ∙ sym (as-tested _ _ _ _)
+returns-2 c = fails _ _ (sym (c .before .values-ok .ensures) ∙ not-true _ (c .if2 .taken)) ∙ past _ _ (sym (c .before .before .before .before .before .before .before .before .columns-right .ensures) ∙ not-false _ (c .before .before .before .before .before .before .before .if1 .left)) ∙ sym (as-tested _ _ _ _)
 
 row-ok-requires : tie.Need-row-ok-requires
 row-ok-requires c κs = search needs
 
 returns-3 : tie.Need-returns-3
-returns-3 c = c .row-ok .ensures ∙ past _ _ (sym (c .before .before .values-ok .ensures) ∙ not-false _ (c .before .if2 .left)) ∙ past _ _ (sym (c .before .before .before .before .well-formed .ensures) ∙ not-false _ (c .before .before .before .if1 .left)) ∙ sym (as-tested _ _ _ _)
+returns-3 c = c .row-ok .ensures ∙ past _ _ (sym (c .before .before .values-ok .ensures) ∙ not-false _ (c .before .if2 .left)) ∙ past _ _ (sym (c .before .before .before .before .before .before .before .before .before .columns-right .ensures) ∙ not-false _ (c .before .before .before .before .before .before .before .before .if1 .left)) ∙ sym (as-tested _ _ _ _)
 
 pub sign-ok-spec : {M : Type 1} → statement M
 sign-ok-spec =
     tie.close
-    (tie.spec well-formed-requires returns values-ok-requires returns-2 row-ok-requires returns-3)
+    (tie.spec columns-right-requires returns values-ok-requires returns-2 row-ok-requires returns-3)

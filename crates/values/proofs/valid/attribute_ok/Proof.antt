@@ -9,7 +9,7 @@ is-text-requires : tie.Need-is-text-requires
 is-text-requires c κs = search needs
 
 text-ok-requires : tie.Need-text-ok-requires
-text-ok-requires c κs = let q = c .before .before .before .before .pre in (q .0, sym (c .before .is-text .ensures) ∙ c .if1 .taken, q .1, q .2)
+text-ok-requires c κs = (c .before .before .before .before .pre, sym (c .before .is-text .ensures) ∙ c .if1 .taken)
 
 returns : tie.Need-returns
 returns c =

@@ -1,19 +1,16 @@
--- `values::valid::is_plain` meets its contract.
+-- `values::quick::is_plain` meets its contract.
 use mathlib.Core.Path.{sym, _∙_}
 use borrow.Author.Needs.{needs}
 use borrow.Author.Tests.{not-true, not-false}
-use Rattle.schema.proofs.BoolLaws.{fails}
-use Rattle.values.specs.Plain.{plainPage}
-use Rattle.values.proofs.PlainLaws.{plain-long, plain-all}
-use Rattle.values.proofs.valid.is_plain.Statement.{statement}
-use Rattle.values.proofs.valid.is_plain.Tie as tie
+use Rattle.values.proofs.QuickLaws.{plain-none, plain-long, plain-all}
+use Rattle.values.proofs.quick.is_plain.Statement.{statement}
+use Rattle.values.proofs.quick.is_plain.Tie as tie
 
 some-mark-requires : tie.Need-some-mark-requires
 some-mark-requires c κs = search needs
 
 returns : tie.Need-returns
-unfolding plainPage
-returns c = fails _ _ (sym (c .before .some-mark .ensures) ∙ not-true _ (c .if1 .taken))
+returns c = plain-none _ _ _ _ (sym (c .before .some-mark .ensures) ∙ not-true _ (c .if1 .taken))
 
 returns-2 : tie.Need-returns-2
 returns-2 c = plain-long _ _ _ _ (sym (c .before .before .some-mark .ensures) ∙ not-false _ (c .before .if1 .left)) (c .if2 .taken)

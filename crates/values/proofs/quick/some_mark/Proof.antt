@@ -1,4 +1,4 @@
--- `values::valid::some_mark` meets its contract. The invariant: whether the mark was found among those before here.
+-- `values::quick::some_mark` meets its contract. The invariant: whether the mark was found among those before here.
 use mathlib.Core.Path.{_≡_, refl, ap, _∙_}
 use mathlib.Core.Bool.{Bool, false, _||_, Bool·beq}
 use Prim.Native.Nat.{_≤_, _-_}
@@ -6,10 +6,10 @@ use native.Mathlib.Omega.{arith}
 use borrow.Author.Needs.{needs}
 use lib.ListN.{getD}
 use Rattle.schema.specs.Check.{every}
-use Rattle.values.specs.Plain.{someMark}
-use Rattle.values.proofs.PlainLaws.{mark-turn}
-use Rattle.values.proofs.valid.some_mark.Statement.{statement}
-use Rattle.values.proofs.valid.some_mark.Tie as tie
+use Rattle.values.specs.Quick.{someMark}
+use Rattle.values.proofs.QuickLaws.{mark-turn}
+use Rattle.values.proofs.quick.some_mark.Statement.{statement}
+use Rattle.values.proofs.quick.some_mark.Tie as tie
 
 abbrev Inv-loop : tie.InvT-loop
 Inv-loop marks n mark found₀ i₀ found i = (i ≤ n) × (found ≡ someMark marks mark i)

@@ -1,0 +1,171 @@
+-- `values::quick::all_quick` meets its contract. The invariant: the rows before here pass, and their texts are counted.
+use mathlib.Core.Path.{_≡_, refl, sym, ap, _∙_}
+use mathlib.Core.Bool.{true, false}
+use Prim.Native.Nat.{ℕ, _*_, _≤_, _-_}
+use native.Mathlib.Omega.{arith}
+use borrow.Author.Needs.{needs}
+use borrow.Author.Tests.{not-true, not-false}
+use lib.Dec.{eqb}
+use lib.ListN.{getD}
+use Rattle.schema.specs.Layout.{textSize}
+use Rattle.schema.specs.Rows.{attributeCount}
+use Rattle.schema.specs.Check.{every, count, rank as rankOf}
+use Rattle.schema.proofs.CheckLaws.{every-more, rank-more, rank-same}
+use Rattle.values.specs.Quick.{near, quickAt}
+use Rattle.values.proofs.QuickLaws.{quick-rank, quick-text, quick-number, quick-wrong, quick-done}
+use Rattle.values.proofs.quick.all_quick.Statement.{statement}
+use Rattle.values.proofs.quick.all_quick.Tie as tie
+
+abbrev Inv-loop : tie.InvT-loop
+Inv-loop w words nulls edited len size n cap rank₀ i₀ rank i =
+    (i ≤ n) × (rank ≤ i) × (n ≡ attributeCount w) × (rank ≡ rankOf w i) × (every (quickAt w words nulls edited len) i ≡ true)
+
+abbrev μ-loop : tie.MeasureT-loop
+μ-loop w words nulls edited len size n cap rank₀ i₀ rank i = n - i
+
+attribute-count-requires : tie.Need-attribute-count-requires Inv-loop μ-loop
+attribute-count-requires c κs = search needs
+
+longest-requires : tie.Need-longest-requires Inv-loop μ-loop
+longest-requires c κs = search needs
+
+loop-holds : tie.Need-loop-holds Inv-loop μ-loop
+unfolding every count
+loop-holds c = (search needs, search needs, c .before .attribute-count .ensures, refl, refl)
+
+is-text-requires : tie.Need-is-text-requires Inv-loop μ-loop
+is-text-requires c κs = search needs
+
+first-value-requires : tie.Need-first-value-requires Inv-loop μ-loop
+first-value-requires c κs = search needs
+
+returns : tie.Need-returns Inv-loop μ-loop
+returns c =
+    let a = c .before .before .before .before .before .before .before .before .args in
+    let l = c .before .before .before .before .before .loop in
+    quick-wrong (a .w .now) (a .words .now) (a .nulls .now) (a .edited .now) (a .len) (a .size) (l .i) (search needs)
+    (quick-rank (a .w .now) (a .words .now) (a .nulls .now) (a .edited .now) (a .len) (l .i) _ (l .inv .3) (sym (c .before .before .before .is-text .ensures) ∙ c .before .before .if1 .taken) (λ q. c .if2 .taken (c .before .first-value .ensures ∙ q)))
+
+lowest-requires : tie.Need-lowest-requires Inv-loop μ-loop
+lowest-requires c κs = search needs
+
+mul-is-near : tie.Need-mul-is-near Inv-loop μ-loop
+mul-is-near c = search needs
+
+element-copy-out-is-near : tie.Need-element-copy-out-is-near Inv-loop μ-loop
+element-copy-out-is-near c = search needs
+
+element-copy-out-is-near-2 : tie.Need-element-copy-out-is-near-2 Inv-loop μ-loop
+element-copy-out-is-near-2 c = search needs
+
+is-near-requires : tie.Need-is-near-requires Inv-loop μ-loop
+is-near-requires c κs = c .before .before .before .before .before .before .before .before .before .longest .ensures
+
+returns-2 : tie.Need-returns-2 Inv-loop μ-loop
+returns-2 c =
+    let a = c .before .before .before .before .before .before .before .before .before .before .before .before .before .args in
+    let l = c .before .before .before .before .before .before .before .before .before .before .loop in
+    quick-wrong (a .w .now) (a .words .now) (a .nulls .now) (a .edited .now) (a .len) (a .size) (l .i) (search needs)
+    (sym (quick-text (a .w .now) (a .words .now) (a .nulls .now) (a .edited .now) (a .len) (l .i) _ (l .inv .3) (sym (c .before .before .before .before .before .before .before .before .is-text .ensures) ∙ c .before .before .before .before .before .before .before .if1 .taken) (sym (c .before .before .before .before .before .before .first-value .ensures) ∙ c .before .before .before .before .before .if2 .left)) ∙ ap (λ (k : ℕ). near k (getD (a .words .now) (l .i) 0) (getD (a .edited .now) (l .i) false) (a .len)) (sym (c .before .before .before .before .lowest .ensures)) ∙ sym (c .before .is-near .ensures) ∙ not-true _ (c .if3 .taken))
+
+add-rank : tie.Need-add-rank Inv-loop μ-loop
+add-rank c = search needs
+
+add-i : tie.Need-add-i Inv-loop μ-loop
+add-i c = search needs
+
+loop-less : tie.Need-loop-less Inv-loop μ-loop
+loop-less c = search needs
+
+loop-again : tie.Need-loop-again Inv-loop μ-loop
+loop-again c =
+    let a = c .before .before .before .before .before .before .before .before .before .before .before .before .before .args in
+    let l = c .before .before .before .before .before .before .before .before .before .before .loop in (
+      search needs,
+      search needs,
+      l .inv .2,
+      rank-more (a .w .now) (l .i) _ (l .inv .3) (sym (c .before .before .before .before .before .before .before .before .is-text .ensures) ∙ c .before .before .before .before .before .before .before .if1 .taken),
+      every-more (quickAt (a .w .now) (a .words .now) (a .nulls .now) (a .edited .now) (a .len)) (l .i) (l .inv .4)
+          (sym (quick-text (a .w .now) (a .words .now) (a .nulls .now) (a .edited .now) (a .len) (l .i) _ (l .inv .3) (sym (c .before .before .before .before .before .before .before .before .is-text .ensures) ∙ c .before .before .before .before .before .before .before .if1 .taken) (sym (c .before .before .before .before .before .before .first-value .ensures) ∙ c .before .before .before .before .before .if2 .left)) ∙ ap (λ (k : ℕ). near k (getD (a .words .now) (l .i) 0) (getD (a .edited .now) (l .i) false) (a .len)) (sym (c .before .before .before .before .lowest .ensures)) ∙ sym (c .before .is-near .ensures) ∙ not-false _ (c .if3 .left)),
+    )
+
+mul-limits-hold : tie.Need-mul-limits-hold Inv-loop μ-loop
+mul-limits-hold c = search needs
+
+element-copy-out-limits-hold : tie.Need-element-copy-out-limits-hold Inv-loop μ-loop
+element-copy-out-limits-hold c = search needs
+
+element-copy-out-limits-hold-2 : tie.Need-element-copy-out-limits-hold-2 Inv-loop μ-loop
+element-copy-out-limits-hold-2 c = search needs
+
+limits-hold-requires : tie.Need-limits-hold-requires Inv-loop μ-loop
+limits-hold-requires c κs = search needs
+
+returns-3 : tie.Need-returns-3 Inv-loop μ-loop
+returns-3 c =
+    let a = c .before .before .before .before .before .before .before .before .before .before .args in
+    let l = c .before .before .before .before .before .before .before .loop in
+    quick-wrong (a .w .now) (a .words .now) (a .nulls .now) (a .edited .now) (a .len) (a .size) (l .i) (search needs)
+    (sym (quick-number (a .w .now) (a .words .now) (a .nulls .now) (a .edited .now) (a .len) (l .i) (sym (c .before .before .before .before .before .is-text .ensures) ∙ c .before .before .before .before .if1 .left)) ∙ sym (c .before .limits-hold .ensures) ∙ not-true _ (c .if4 .taken))
+
+add-i-2 : tie.Need-add-i-2 Inv-loop μ-loop
+add-i-2 c = search needs
+
+loop-less-2 : tie.Need-loop-less-2 Inv-loop μ-loop
+loop-less-2 c = search needs
+
+loop-again-2 : tie.Need-loop-again-2 Inv-loop μ-loop
+loop-again-2 c =
+    let a = c .before .before .before .before .before .before .before .before .before .before .args in
+    let l = c .before .before .before .before .before .before .before .loop in (
+      search needs,
+      search needs,
+      l .inv .2,
+      rank-same (a .w .now) (l .i) _ (l .inv .3) (sym (c .before .before .before .before .before .is-text .ensures) ∙ c .before .before .before .before .if1 .left),
+      every-more (quickAt (a .w .now) (a .words .now) (a .nulls .now) (a .edited .now) (a .len)) (l .i) (l .inv .4)
+          (sym (quick-number (a .w .now) (a .words .now) (a .nulls .now) (a .edited .now) (a .len) (l .i) (sym (c .before .before .before .before .before .is-text .ensures) ∙ c .before .before .before .before .if1 .left)) ∙ sym (c .before .limits-hold .ensures) ∙ not-false _ (c .if4 .left)),
+    )
+
+mul-result : tie.Need-mul-result Inv-loop μ-loop
+mul-result c = search needs
+
+returns-4 : tie.Need-returns-4 Inv-loop μ-loop
+returns-4 c =
+    let a = c .before .before .before .before .args in
+    let l = c .before .loop in
+    let e : l .i ≡ attributeCount (a .w .now) = omega (arith, l .inv .2) in
+    ap (λ (k : ℕ). eqb (a .size) (textSize * k)) (l .inv .3 ∙ ap (rankOf (a .w .now)) e)
+    ∙ quick-done (a .w .now) (a .words .now) (a .nulls .now) (a .edited .now) (a .len) (a .size) (sym (ap (every (quickAt (a .w .now) (a .words .now) (a .nulls .now) (a .edited .now) (a .len))) e) ∙ l .inv .4)
+
+pub all-quick-spec : {M : Type 1} → statement M
+all-quick-spec =
+    tie.close
+    (tie.spec
+    Inv-loop
+    μ-loop
+    attribute-count-requires
+    longest-requires
+    loop-holds
+    is-text-requires
+    first-value-requires
+    returns
+    lowest-requires
+    mul-is-near
+    element-copy-out-is-near
+    element-copy-out-is-near-2
+    is-near-requires
+    returns-2
+    add-rank
+    add-i
+    loop-less
+    loop-again
+    mul-limits-hold
+    element-copy-out-limits-hold
+    element-copy-out-limits-hold-2
+    limits-hold-requires
+    returns-3
+    add-i-2
+    loop-less-2
+    loop-again-2
+    mul-result
+    returns-4)

@@ -1,0 +1,182 @@
+// The quick test of what a sign holds, asked at every call: a page that shows texts is looked at as a whole, and where all is ASCII, a row takes a few
+// comparisons. What it passes is right; what it does not pass is looked at closely (valid.rt).
+ghost use mathlib.Core.Path.{_≡_};
+ghost use mathlib.Core.Bool.{_&&_};
+ghost use Prim.Native.Nat.{_<_, _≤_, min};
+ghost use lib.Dec.{eqb};
+ghost use Rattle.kinds.specs.Limits.{textMax};
+ghost use Rattle.schema.specs.Layout.{attributeLimit};
+ghost use Rattle.schema.specs.Rows.{attributeRow};
+ghost use Rattle.schema.specs.Check.{every};
+ghost use Rattle.values.specs.Quick.{someMark, plainPage, near, nullAt, allQuick, quickRight};
+use kinds::TEXT_MAX;
+use node::held::limits_hold;
+use schema::ATTRIBUTES;
+use schema::TEXT_SIZE;
+use schema::WORDS;
+
+// What the texts of a schema take at most: a longer page is not looked at as a whole.
+const PAGE: usize = ATTRIBUTES * TEXT_SIZE;
+
+// Whether one of the first n marks is this one. No way out of the loop, so that it becomes vector code.
+fn some_mark(marks: &[bool; ATTRIBUTES], n: usize, mark: bool) -> bool
+    requires { ⌜ n ≤ attributeLimit ⌝ }
+    ensures { λ r. ⌜ r ≡ someMark (now (marks .entry)) mark n ⌝ }
+{
+    let mut found = false;
+    let mut i = 0;
+    while i < n {
+        found = found | (marks[i] == mark);
+        i += 1;
+    }
+    found
+}
+
+// Whether no text has to be looked at in this page: none is shown from it (has this mark), or all of it is ASCII.
+fn is_plain<'a>(page: &'a [u8], marks: &'a [bool; ATTRIBUTES], n: usize, mark: bool) -> bool
+    requires { ⌜ n ≤ attributeLimit ⌝ }
+    ensures { λ r. ⌜ r ≡ plainPage (now (page .entry)) (now (marks .entry)) mark n ⌝ }
+{
+    if !some_mark(marks, n, mark) {
+        return true;
+    }
+    if PAGE < page.len() {
+        return false;
+    }
+    utf8::ascii(page)
+}
+
+// The longest text that is not looked at closely: what a page of len bytes can have.
+fn longest(len: u64) -> u64
+    ensures { λ r. ⌜ r ≡ min len textMax ⌝ }
+{
+    if len < TEXT_MAX as u64 {
+        len
+    } else {
+        TEXT_MAX as u64
+    }
+}
+
+// Whether the page that a text is shown from has it, where a factory text starts at `low` of len bytes. `cap` is the longest text: given, since it is the
+// same for every row.
+fn is_near(low: u64, word: u64, edited: bool, len: u64, cap: u64) -> bool
+    requires { ⌜ cap ≡ min len textMax ⌝ }
+    ensures { λ r. ⌜ r ≡ near low word edited len ⌝ }
+{
+    if cap < word {
+        return false;
+    }
+    edited | (low <= len - word)
+}
+
+// Whether what is stored of a null of attribute i is right: the attribute allows it, and its word is 0.
+pub fn null_ok(w: &[u64; WORDS], i: usize, word: u64) -> bool
+    requires { ⌜ i < attributeLimit ⌝ }
+    ensures { λ r. ⌜ r ≡ (eqb (attributeRow (now (w .entry)) i .nullable) 1 && eqb word 0) ⌝ }
+{
+    if schema::is_nullable(w, i) {
+        word == 0
+    } else {
+        false
+    }
+}
+
+// Every null of the first n attributes.
+fn all_nulls<'a>(
+    w: &'a [u64; WORDS],
+    words: &'a [u64; ATTRIBUTES],
+    nulls: &'a [bool; ATTRIBUTES],
+    n: usize,
+) -> bool
+    requires { ⌜ n ≤ attributeLimit ⌝ }
+    ensures { λ r. ⌜ r ≡ every (nullAt (now (w .entry)) (now (words .entry)) (now (nulls .entry))) n ⌝ }
+{
+    let mut i = 0;
+    while i < n {
+        if nulls[i] {
+            if !null_ok(w, i, words[i]) {
+                return false;
+            }
+            i += 1;
+        } else {
+            i += 1;
+        }
+    }
+    true
+}
+
+// The same, at once where there is none.
+fn nulls_ok<'a>(
+    w: &'a [u64; WORDS],
+    words: &'a [u64; ATTRIBUTES],
+    nulls: &'a [bool; ATTRIBUTES],
+    n: usize,
+) -> bool
+    requires { ⌜ n ≤ attributeLimit ⌝ }
+    ensures { λ r. ⌜ r ≡ every (nullAt (now (w .entry)) (now (words .entry)) (now (nulls .entry))) n ⌝ }
+{
+    if !some_mark(nulls, n, true) {
+        return true;
+    }
+    all_nulls(w, words, nulls, n)
+}
+
+// Every attribute by a few comparisons, with the ranks of the texts, which are counted on the way and give the size of the page of edits. Whether a text is
+// null is not asked here, where it would take a tenth of the whole test.
+fn all_quick<'a>(
+    w: &'a [u64; WORDS],
+    words: &'a [u64; ATTRIBUTES],
+    nulls: &'a [bool; ATTRIBUTES],
+    edited: &'a [bool; ATTRIBUTES],
+    len: u64,
+    size: usize,
+) -> bool
+    ensures { λ r. ⌜ r ≡ allQuick (now (w .entry)) (now (words .entry)) (now (nulls .entry)) (now (edited .entry)) len size ⌝ }
+{
+    let n = schema::attribute_count(w);
+    let cap = longest(len);
+    let mut rank: usize = 0;
+    let mut i = 0;
+    while i < n {
+        if schema::is_text(w, i) {
+            if schema::first_value(w, i) != rank as u64 {
+                return false;
+            }
+            if !is_near(schema::lowest(w, i), words[i], edited[i], len, cap) {
+                return false;
+            }
+            rank += 1;
+            i += 1;
+        } else {
+            if !limits_hold(w, i, words[i], nulls[i]) {
+                return false;
+            }
+            i += 1;
+        }
+    }
+    size == TEXT_SIZE * rank
+}
+
+// The quick test: nulls, then pages that need not be looked at text by text, then the rows.
+pub fn is_quick<'a>(
+    w: &'a [u64; WORDS],
+    defaults: &'a [u8],
+    edits: &'a [u8],
+    words: &'a [u64; ATTRIBUTES],
+    nulls: &'a [bool; ATTRIBUTES],
+    edited: &'a [bool; ATTRIBUTES],
+) -> bool
+    ensures { λ r. ⌜ r ≡ quickRight (now (w .entry)) (now (defaults .entry)) (now (edits .entry)) (now (words .entry)) (now (nulls .entry)) (now (edited .entry)) ⌝ }
+{
+    let n = schema::attribute_count(w);
+    if !nulls_ok(w, words, nulls, n) {
+        return false;
+    }
+    if !is_plain(defaults, edited, n, false) {
+        return false;
+    }
+    if !is_plain(edits, edited, n, true) {
+        return false;
+    }
+    all_quick(w, words, nulls, edited, defaults.len() as u64, edits.len())
+}
