@@ -123,7 +123,7 @@ fn all_traits(w: &[u64; WORDS], n: usize) -> bool
 }
 
 // The first word of each text is its rank: how many texts stand before it.
-pub fn all_ranks(w: &[u64; WORDS], n: usize) -> bool
+fn all_ranks(w: &[u64; WORDS], n: usize) -> bool
     requires { ⌜ n ≤ attributeLimit ⌝ }
     ensures { λ r. ⌜ r ≡ allRanks (now (w .entry)) n ⌝ }
 {
@@ -166,7 +166,7 @@ fn attributes_right(w: &[u64; WORDS], n: usize, m: usize) -> bool
     all_traits(w, m)
 }
 
-// Every rule but that of the ranks, which a server tests together with what it holds.
+// Every rule but that of the ranks, which a server tests with the values of its rows.
 pub fn columns_right(w: &[u64; WORDS]) -> bool
     ensures { λ r. ⌜ r ≡ columnsRight (now (w .entry)) ⌝ }
 {

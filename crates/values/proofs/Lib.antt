@@ -2,6 +2,7 @@ pub mod ChangeLaws
 pub mod ValueLaws
 pub mod ValidLaws
 pub mod QuickLaws
+pub mod CloseLaws
 pub mod FreshLaws
 pub mod AcceptedLaws
 pub mod ExactLaws

@@ -1,15 +1,15 @@
 -- The check of a sign's values, test by test.
-use mathlib.Core.Path.{_≡_, refl, sym, ap, _∙_}
-use mathlib.Core.Bool.{Bool, true, false, _&&_, false≢true}
+use mathlib.Core.Path.{_≡_, refl, sym, ap}
+use mathlib.Core.Bool.{Bool, true, false, _&&_}
 use mathlib.Core.List.{List, []}
 use Prim.Native.Nat.{ℕ, _*_, _≤_, _<_}
-use borrow.Author.Tests.{eqb-true, eq-eqb, ne-eqb, le-leb, lt-leb}
-use lib.Dec.{eqb}
+use borrow.Author.Tests.{eqb-true, eq-eqb, le-leb}
+use lib.Dec.{eqb, leb}
 use lib.ListN.{length, getD}
 use Rattle.schema.specs.Layout.{clusterLimit, attributeLimit, textSize}
 use Rattle.schema.specs.Rows.{attributeRow, attributeCount, isText}
 use Rattle.schema.specs.Check.{every, textCount}
-use Rattle.schema.proofs.BoolLaws.{both, left, right, by-test}
+use Rattle.schema.proofs.BoolLaws.{both, left, right}
 use Rattle.schema.proofs.CheckLaws.{every-at, every-all}
 use Rattle.tlv.specs.Octet.{pick}
 use Rattle.kinds.specs.declared.Kind.the-variants.{Text}
@@ -20,7 +20,7 @@ use Rattle.node.specs.Check.{numberRight, numbersRight}
 use Rattle.node.proofs.KindLaws.{kind-text}
 use Rattle.values.specs.declared.Values.{Values}
 use Rattle.values.specs.Values.{textAt}
-use Rattle.values.specs.Valid.{shownRight, valueRight, valuesRight}
+use Rattle.values.specs.Valid.{shownRight, shownAt, valueRight, valuesRight}
 
 -- the limits of attribute i allow what is held
 abbrev pub withinLimits : List ℕ → ℕ → ℕ → Bool → Bool
@@ -49,6 +49,18 @@ pub and-true : (x : Bool) → x ≡ (x && true)
 and-true true = refl
 and-true false = refl
 
+-- the tests of a shown text
+module _ (w defaults edits : List ℕ) (i word : ℕ) (isNull edited : Bool) where
+  pub shown-null : isNull ≡ true → true ≡ shownAt w defaults edits i word isNull edited
+  shown-null n = rw n
+
+  module _ (n : isNull ≡ false) where
+    pub shown-none : isText (attributeRow w i) ≡ false → true ≡ shownAt w defaults edits i word isNull edited
+    shown-none t = rw (n, t)
+
+    pub shown-text : isText (attributeRow w i) ≡ true → shownRight (textAt w defaults edits i word edited) word ≡ shownAt w defaults edits i word isNull edited
+    shown-text t = rw (n, t)
+
 -- the limits alone decide where there is no text
 limits-alone : (b n t x : Bool) → t ≡ false → b ≡ (b && pick n true (pick t x true))
 limits-alone true true t x e = refl
@@ -71,13 +83,13 @@ module _ (w defaults edits : List ℕ) (i word : ℕ) (isNull edited : Bool) whe
     text-kind : kindOf (attributeRow w i) ≡ Text
     text-kind = kind-text (attributeRow w i) (eqb-true (attributeRow w i .kind) 4 t)
 
+    pub text-limits : withinLimits w i word isNull ≡ pick isNull (eqb (attributeRow w i .nullable) 1 && eqb word 0) (leb word textMax)
+    unfolding held
+    text-limits = rw text-kind
+
     pub null-text : isNull ≡ true → (eqb (attributeRow w i .nullable) 1 && eqb word 0) ≡ valueRight w defaults edits i word isNull edited
     unfolding valueRight held
     null-text n = rw (text-kind, n) (and-true (eqb (attributeRow w i .nullable) 1 && eqb word 0))
-
-    pub too-long : isNull ≡ false → textMax < word → false ≡ valueRight w defaults edits i word isNull edited
-    unfolding valueRight held
-    too-long n l = rw (text-kind, n, lt-leb word textMax l)
 
     pub shown-right : isNull ≡ false → word ≤ textMax → shownRight (textAt w defaults edits i word edited) word ≡ valueRight w defaults edits i word isNull edited
     unfolding valueRight held
@@ -113,19 +125,12 @@ module _ (w defaults edits : List ℕ) (v : Values) where
   abbrev pub bothAt : ℕ → Bool
   bothAt i = numberRight (attributeRow w i) && rightAt w defaults edits v i
 
-  pub wrong-size : (length edits ≡ textSize * textCount w → ⊥) → false ≡ allRight
-  unfolding valuesRight
-  wrong-size n = rw (ne-eqb _ _ n) (sym (and-false (numbersRight w)))
-
-  at-each : allRight ≡ true → (i : ℕ) → i < attributeCount w → bothAt i ≡ true
+  pub at-each : allRight ≡ true → (i : ℕ) → i < attributeCount w → bothAt i ≡ true
   unfolding numbersRight
   at-each h i l =
       both (numberRight (attributeRow w i)) (rightAt w defaults edits v i)
       (every-at (λ k. numberRight (attributeRow w k)) (attributeCount w) (left (numbersRight w) (valuesRight w defaults edits v) h) i l)
       (right-at (right (numbersRight w) (valuesRight w defaults edits v) h) i l)
-
-  pub wrong-at : (i : ℕ) → i < attributeCount w → bothAt i ≡ false → false ≡ allRight
-  wrong-at i l t = by-test allRight (λ h. absurd (false≢true (sym t ∙ at-each h i l))) sym
 
   pub right-done : length edits ≡ textSize * textCount w → every bothAt (attributeCount w) ≡ true → true ≡ allRight
   unfolding numbersRight

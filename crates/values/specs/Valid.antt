@@ -19,11 +19,15 @@ use Rattle.values.specs.Values.{textAt}
 unfoldable pub shownRight : List ℕ → ℕ → Bool
 shownRight shown word = eqb (length shown) word && wellFormed shown
 
+-- attribute i, if it is a text and not null, shows a right one
+abbrev pub shownAt : List ℕ → List ℕ → List ℕ → ℕ → ℕ → Bool → Bool → Bool
+shownAt w defaults edits i word isNull edited =
+    pick isNull true (pick (isText (attributeRow w i)) (shownRight (textAt w defaults edits i word edited) word) true)
+
 unfoldable pub valueRight : List ℕ → List ℕ → List ℕ → ℕ → ℕ → Bool → Bool → Bool
 unfolding shownRight
 valueRight w defaults edits i word isNull edited =
-    held (kindOf (attributeRow w i)) (eqb (attributeRow w i .nullable) 1) word isNull
-    && pick isNull true (pick (isText (attributeRow w i)) (shownRight (textAt w defaults edits i word edited) word) true)
+    held (kindOf (attributeRow w i)) (eqb (attributeRow w i .nullable) 1) word isNull && shownAt w defaults edits i word isNull edited
 
 -- what is held by index, whatever the versions are
 abbrev pub heldRight : List ℕ → List ℕ → List ℕ → List ℕ → List Bool → List Bool → Bool
@@ -31,6 +35,11 @@ unfolding valueRight
 heldRight w defaults edits words nulls edited =
     eqb (length edits) (textSize * textCount w)
     && every (λ i. valueRight w defaults edits i (getD words i 0) (getD nulls i false) (getD edited i false)) (attributeCount w)
+
+-- the texts alone
+abbrev pub allShown : List ℕ → List ℕ → List ℕ → List ℕ → List Bool → List Bool → Bool
+allShown w defaults edits words nulls edited =
+    every (λ i. shownAt w defaults edits i (getD words i 0) (getD nulls i false) (getD edited i false)) (attributeCount w)
 
 unfoldable pub valuesRight : List ℕ → List ℕ → List ℕ → Values → Bool
 unfolding valueRight

@@ -70,7 +70,7 @@ fn is_near(low: u64, word: u64, edited: bool, len: u64, cap: u64) -> bool
 }
 
 // Whether what is stored of a null of attribute i is right: the attribute allows it, and its word is 0.
-pub fn null_ok(w: &[u64; WORDS], i: usize, word: u64) -> bool
+fn null_ok(w: &[u64; WORDS], i: usize, word: u64) -> bool
     requires { ⌜ i < attributeLimit ⌝ }
     ensures { λ r. ⌜ r ≡ (eqb (attributeRow (now (w .entry)) i .nullable) 1 && eqb word 0) ⌝ }
 {
@@ -106,7 +106,7 @@ fn all_nulls<'a>(
 }
 
 // The same, at once where there is none.
-fn nulls_ok<'a>(
+pub fn nulls_ok<'a>(
     w: &'a [u64; WORDS],
     words: &'a [u64; ATTRIBUTES],
     nulls: &'a [bool; ATTRIBUTES],
@@ -123,7 +123,7 @@ fn nulls_ok<'a>(
 
 // Every attribute by a few comparisons, with the ranks of the texts, which are counted on the way and give the size of the page of edits. Whether a text is
 // null is not asked here, where it would take a tenth of the whole test.
-fn all_quick<'a>(
+pub fn all_quick<'a>(
     w: &'a [u64; WORDS],
     words: &'a [u64; ATTRIBUTES],
     nulls: &'a [bool; ATTRIBUTES],
