@@ -22,7 +22,7 @@ use Rattle.protocol.proofs.Inductive.{reach-inv}
 use Rattle.refinement.proofs.Bytes.{blockAs, partPayload, partBytes, PartRight}
 use Rattle.panel_parts.proofs.PartLaws.{each-sent}
 use Rattle.promises.specs.World.{Plan, Start, granted}
-use Rattle.promises.specs.Claims.{exchangeOf, Last, FirstHalf, SecondHalf, Possible, FewParts}
+use Rattle.promises.specs.Claims.{exchangeOf, Last, FirstHalf, SecondHalf, AtTheStep, Possible, FewParts}
 use Rattle.promises.specs.Never.{Never}
 use Rattle.promises.proofs.MessageLaws.{part-envelope, answer-envelope}
 use Rattle.promises.proofs.ReadableLaws.{parts-few}
@@ -59,6 +59,23 @@ second-half p b u v reach open-read run calm arrived = (
     second.making p b reach open-read run calm arrived,
     λ e c _ _. second.settled p b reach open-read run calm arrived e c,
   ),
+)
+  where
+    q : Part Datum
+    q = second.law p b reach open-read run calm arrived .0
+
+    right : PartRight (p .words) q
+    right = second.right p b reach open-read run calm arrived
+
+pub at-the-step : AtTheStep
+at-the-step p b u v reach open-read run calm arrived = (
+  second.ending p b reach open-read run calm arrived,
+  partBytes (p .words) q,
+  ap exchangeOf (part-envelope (p .words) q right) ∙ ap just (second.law p b reach open-read run calm arrived .1 ∙ second.own p b reach open-read run calm arrived),
+  last-part p b q right (second.law p b reach open-read run calm arrived .2),
+  second.taking p b reach open-read run calm arrived,
+  second.making p b reach open-read run calm arrived,
+  λ e c _ _. second.settled-on p b reach open-read run calm arrived e c,
 )
   where
     q : Part Datum

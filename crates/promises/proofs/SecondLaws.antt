@@ -26,21 +26,22 @@ use Rattle.protocol.specs.Model.{Place, Message, Part, Cache, System, CoherentI
 use Rattle.protocol.specs.Steps as steps
 use Rattle.protocol.specs.Claims as claims
 use Rattle.protocol.proofs.Main as protocol
-use Rattle.protocol.proofs.SmallLaws.{and-l, T-true}
-use Rattle.protocol.proofs.OnceLaws.{part-once, passes-more, passes-reach}
-use Rattle.protocol.proofs.ProgressLaws.{calm-parts}
+use Rattle.protocol.proofs.SmallLaws.{and-l, and-r, T-true, T-of}
+use Rattle.protocol.proofs.OnceLaws.{part-once, passes-more, passes-reach, calm-rest}
+use Rattle.protocol.proofs.ProgressLaws.{calm-parts, calm-keeps}
 use Rattle.refinement.proofs.Terms.{placeAt}
 use Rattle.refinement.proofs.Bytes.{PartRight, partBytes}
 use Rattle.promises.specs.World.{Plan, World, Start, granted}
-use Rattle.promises.specs.Runs.{Run, Reach, join, Visits, Passes, Calm, Heard, Got}
-use Rattle.promises.specs.Claims.{In, exchangeOf, Arrived, Ended, Taking, Making, MayReadSome, CallsWhole, versionOf, changesOf}
+use Rattle.promises.specs.Runs.{Run, Reach, none, then, join, Visits, Passes, Calm, Heard, Got}
+use Rattle.promises.specs.Claims.{In, exchangeOf, Arrived, Ended, Ending, Taking, Making, MayReadSome, CallsWhole, versionOf, changesOf}
 use Rattle.panel_steps.proofs.CoherentLaws.{coherent-as}
 use Rattle.promises.proofs.MessageLaws.{InExchange, message-in, part-envelope}
 use Rattle.promises.proofs.ReadableLaws.{readable-has}
 use Rattle.promises.proofs.Stands.{ReplyOf, part, answer, Stands}
 use Rattle.promises.proofs.StepLaws.{node, rules, other-reply}
 use Rattle.promises.proofs.RunLaws.{Took, Follows, follow, passes-first, passes-second, model-passes}
-use Rattle.promises.proofs.AskLaws.{coherent-whole, row-found, version-at, changes-at, Sees, value, none, sees}
+use Rattle.promises.proofs.AskLaws.{coherent-whole, row-found, version-at, changes-at, Sees, value, sees}
+use Rattle.promises.proofs.AskLaws as asks
 use Rattle.promises.proofs.StageLaws.{Goes, run-goes}
 use Rattle.promises.proofs.FirstLaws.{nothing-just, from-fresh}
 
@@ -55,7 +56,7 @@ last steps.none = refl
 last (steps.then run x) = inr refl
 
 step-there : {n : model.Node Datum} {s t : System Datum} (x : steps.Step n s t) (q : Part Datum) → steps.Gets q x → List·Memᴰ q (s .parts)
-step-there (steps.changes c a v) q g = absurd g
+step-there (steps.alters stores) q g = absurd g
 step-there (steps.beginsRead fs f) q g = absurd g
 step-there steps.beginsWrite q g = absurd g
 step-there (steps.serves m n l i) q g = absurd g
@@ -84,6 +85,15 @@ after-last : (a : System Datum) (q : Part Datum) → T (model.awaited (a .cache)
 unfolding model.receive model.accept
 after-last a q wanted e =
     rw (T-true (model.awaited (a .cache) q) wanted) (e, sym (eqb→eq (q .exchange) (a .cache .exchange) (and-l (eqb (q .exchange) (a .cache .exchange)) (eqb (q .turn) (a .cache .next)) (and-l (eqb (q .exchange) (a .cache .exchange) && eqb (q .turn) (a .cache .next)) (a .cache .reading) wanted))))
+
+-- the run up to one of its steps
+up-to : {p : Plan} {u v : World} (run : Run p u v) → Calm run → (x y : World) → Passes run x y → (r : Run p u y) × Calm r
+up-to none c x y i = absurd i
+up-to {p} {u} {v} (then {v = v′} run step) c x y i = go (up-to run (c .0) x y) i
+  where
+    go : (Passes run x y → (r : Run p u y) × Calm r) → Passes run x y ⊎ ((x ≡ v′) × (y ≡ v)) → (r : Run p u y) × Calm r
+    go known (inl k) = known k
+    go known (inr k) = subst (λ (z : World). (r : Run p u z) × Calm r) (sym (k .1)) (then run step, c)
 
 module _ (p : Plan) (b : Start p) {u v : World} (reach : Reach p b u) (open-read : u .panel .asked .stage ≡ reading) (run : Run p u v) (calm : Calm run) (arrived : Arrived run) where
   abbrev w : List ℕ
@@ -132,20 +142,32 @@ module _ (p : Plan) (b : Start p) {u v : World} (reach : Reach p b u) (open-read
   arrives : claims.Arrived (g .follows)
   arrives = record { messages = heard; parts = got }
 
-  -- the read has ended on its last part
-  over : claims.Ended (g .follows)
-  over = protocol.progress .ends Datum (node p b) s t (f .follows) reads (g .follows) calm-model arrives
+  -- the read has ended on its last part, and that settles what it says
+  pub rests : (k : claims.Ended (g .follows)) × claims.Settles (node p b) all-reach (k .part) (k .next)
+  rests = protocol.second-half Datum (node p b) s t (f .follows) reads (g .follows) calm-model arrives
+
+  abbrev pub over : claims.Ended (g .follows)
+  over = rests .0
+
+  pub rest-calm : steps.Calm (over .rest)
+  rest-calm = calm-rest (node p b) (steps.then (over .before) (over .step)) (over .rest) (subst (λ (r : steps.Run (node p b) s t). steps.Calm r) (over .whole) calm-model)
+
+  shut-next : over .next .cache .reading ≡ false
+  shut-next = ap (λ (x : System Datum). x .cache .reading) (over .taken) ∙ after-last (over .at) (over .part) (over .wanted) (over .last) .0
+
+  stays : t .cache ≡ (model.receive (over .at) (over .part)) .cache
+  stays = calm-keeps (node p b) (over .rest) rest-calm shut-next ∙ ap (λ (x : System Datum). x .cache) (over .taken)
 
   pub ended : Ended u v
   ended = record { same = same; last = stage (run-goes p b s (f .stands) (f .follows) run calm (inl open-read)) }
     where
       -- the protocol's panel is as the last part left it
       shut : t .cache .reading ≡ false
-      shut = ap (λ (c : Cache Datum). c .reading) (over .stays) ∙ after-last (over .at) (over .part) (over .wanted) (over .last) .0
+      shut = ap (λ (c : Cache Datum). c .reading) stays ∙ after-last (over .at) (over .part) (over .wanted) (over .last) .0
 
       same : v .panel .asked .exchange ≡ u .panel .asked .exchange
       same =
-          sym (g .stands .panel .exchange) ∙ ap (λ (c : Cache Datum). c .exchange) (over .stays) ∙ after-last (over .at) (over .part) (over .wanted) (over .last) .1
+          sym (g .stands .panel .exchange) ∙ ap (λ (c : Cache Datum). c .exchange) stays ∙ after-last (over .at) (over .part) (over .wanted) (over .last) .1
           ∙ over .own ∙ own
 
       stage : Goes (v .panel) → v .panel .asked .stage ≡ lastPart
@@ -160,8 +182,8 @@ module _ (p : Plan) (b : Start p) {u v : World} (reach : Reach p b u) (open-read
       → taking .at .clusters (q .cluster) .changes ≡ making .at .clusters (q .cluster) .changes
       → CoherentIn (t .cache) (q .cluster) (making .at .clusters (q .cluster) .version))
 
-  pub law : Second
-  law = protocol.second-half Datum (node p b) s t (f .follows) reads (g .follows) calm-model arrives
+  abbrev pub law : Second
+  law = (over .part, over .own, over .last, rests .1 .0, rests .1 .1, λ q i e. rests .1 .2 q i e t (over .rest) rest-calm)
 
   -- a step of the protocol's run is one of the ends'
   passed : (a c : System Datum) → steps.Passes all-reach a c → (x : World) × (x′ : World) × Passes (join reach run) x x′ × Stands p x a × Stands p x′ c
@@ -218,7 +240,7 @@ module _ (p : Plan) (b : Start p) {u v : World} (reach : Reach p b u) (open-read
   settled e c some still = go (sees p (rules p b) v e c (some .0))
     where
       go : Sees p (rules p b) v e c (some .0) → (version : ℕ) × (versionOf p (making .at) e c ≡ just version) × CallsWhole v e c version
-      go (none is never) = absurd (nothing-just (some .1) (sym is ∙ some .3))
+      go (asks.none is never) = absurd (nothing-just (some .1) (sym is ∙ some .3))
       go (value i l path-is may is) = (version, version-at p (rules p b) k e c row (making .at) ∙ ap just (sym (made .3 .sign .held .versions k low)), whole)
         where
           k : ℕ
@@ -252,3 +274,66 @@ module _ (p : Plan) (b : Start p) {u v : World} (reach : Reach p b u) (open-read
           whole =
               coherent-whole (v .page) (v .panel) (g .stands .panel .valid) e c version
               ((λ j. coherentOf (v .panel .held) (clusterWord (ap (λ (x : Path). x .endpoint) (sym word) j) (ap (λ (x : Path). x .cluster) (sym word) j))) ∙ coherent-as w (rules p b) (v .requests) (v .page) (v .panel) (t .cache) (g .stands .panel) k low version .1 coherent)
+
+  -- AT THE STEP that takes the last part, and from then on
+  abbrev stepped : (x : World) × (x′ : World) × Passes run x x′ × Stands p x (over .at) × Stands p x′ (over .next)
+  stepped = g .passed (over .at) (over .next) (over .passes)
+
+  pub ending : Ending run
+  ending =
+      record {
+        at = stepped .0;
+        next = stepped .1;
+        passes = stepped .2;
+        opened = eqb→eq (stepped .0 .panel .asked .stage) reading (T-of (eqb (stepped .0 .panel .asked .stage) reading) (sym (stepped .3 .panel .reading-is) ∙ T-true (over .at .cache .reading) (and-r (eqb (over .part .exchange) (over .at .cache .exchange) && eqb (over .part .turn) (over .at .cache .next)) (over .at .cache .reading) (over .wanted))));
+        last = stage (run-goes p b s (f .stands) (f .follows) (before .0) (before .1) (inl open-read));
+        same = sym (stepped .4 .panel .exchange) ∙ ap (λ (x : System Datum). x .cache .exchange) (over .taken) ∙ after-last (over .at) (over .part) (over .wanted) (over .last) .1 ∙ over .own ∙ own;
+      }
+    where
+      before : (r : Run p u (stepped .1)) × Calm r
+      before = up-to run calm (stepped .0) (stepped .1) (stepped .2)
+
+      stage : Goes (stepped .1 .panel) → stepped .1 .panel .asked .stage ≡ lastPart
+      stage (inl e) = absurd (true≢false (sym (stepped .4 .panel .reading-is ∙ eq-eqb (stepped .1 .panel .asked .stage) reading e) ∙ shut-next))
+      stage (inr e) = e
+
+  pub settled-on : (e c : ℕ) → MayReadSome p v e c → changesOf p (taking .at) e c ≡ changesOf p (making .at) e c
+      → (version : ℕ) × (versionOf p (making .at) e c ≡ just version) × ((z : World) (on : Run p (ending .next) z) → Calm on → CallsWhole z e c version)
+  unfolding taking making ending
+  settled-on e c some still = go (sees p (rules p b) v e c (some .0))
+    where
+      go : Sees p (rules p b) v e c (some .0) → (version : ℕ) × (versionOf p (making .at) e c ≡ just version) × ((z : World) (on : Run p (ending .next) z) → Calm on → CallsWhole z e c version)
+      go (asks.none is never) = absurd (nothing-just (some .1) (sym is ∙ some .3))
+      go (value i l path-is may is) = (version, version-at p (rules p b) k e c row (making .at) ∙ ap just (sym (made .3 .sign .held .versions k low)), λ z on quiet. whole z (follow p b on (over .next) (stepped .4) next-reach) quiet)
+        where
+          k : ℕ
+          k = attributeRow w i .clusterIndex
+
+          low : k < clusterCount w
+          low = cluster-there w (rules p b) i l
+
+          word : path (clusterRow w k .endpoint) (clusterRow w k .cluster) (attributeRow w i .id) ≡ path e c (some .0)
+          word = sym (path-word w i low) ∙ path-is
+
+          row : findCluster w e c ≡ found.At k
+          row = row-found p (rules p b) k low e c (ap (λ (x : Path). x .endpoint) word) (ap (λ (x : Path). x .cluster) word)
+
+          made : (x : World) × (x′ : World) × Passes (join reach run) x x′ × Stands p x (law .4 .at) × Stands p x′ (law .4 .next)
+          made = passed (law .4 .at) (law .4 .next) (law .4 .passes)
+
+          took : (x : World) × (x′ : World) × Passes (join reach run) x x′ × Stands p x (law .3 .at) × Stands p x′ (law .3 .next)
+          took = passed (law .3 .at) (law .3 .next) (law .3 .passes)
+
+          version : ℕ
+          version = law .4 .at .clusters k .version
+
+          unchanged : law .3 .at .clusters k .changes ≡ law .4 .at .clusters k .changes
+          unchanged = sym (took .3 .counted k low) ∙ sym (changes-at p (rules p b) k e c row (took .0)) ∙ still ∙ changes-at p (rules p b) k e c row (made .0) ∙ made .3 .counted k low
+
+          next-reach : steps.Reach (node p b) (over .next)
+          next-reach = steps.then (steps.join (f .follows) (over .before)) (over .step)
+
+          whole : (z : World) {on : Run p (stepped .1) z} (h : Follows p b on (over .next)) → Calm on → CallsWhole z e c version
+          whole z h quiet =
+              coherent-whole (z .page) (z .panel) (h .stands .panel .valid) e c version
+              ((λ j. coherentOf (z .panel .held) (clusterWord (ap (λ (x : Path). x .endpoint) (sym word) j) (ap (λ (x : Path). x .cluster) (sym word) j))) ∙ coherent-as w (rules p b) (z .requests) (z .page) (z .panel) (h .end .cache) (h .stands .panel) k low version .1 (rests .1 .2 (placeAt w i) (readable-has w (granted p) i l may) unchanged (h .end) (h .follows) (h .calm quiet)))

@@ -37,7 +37,7 @@ use Rattle.cache_part.specs.Block.{usableIn}
 use Rattle.cache_request.specs.Filters.{filtersOf}
 use Rattle.cache_receive.specs.Receive as panel
 use Rattle.protocol.specs.Model as Model
-use Rattle.protocol.specs.Model.{Filter, Node, Message, read, write, Part, Row, Cluster, System, Store, FiltersFor, exchangeOf, change, beginRead, beginWrite, serve, accept, awaited, receive}
+use Rattle.protocol.specs.Model.{Filter, Node, Message, read, write, Part, Row, Cluster, System, Store, FiltersFor, exchangeOf, storeAll, beginRead, beginWrite, serve, accept, awaited, receive}
 use Rattle.protocol.specs.Steps as model
 use Rattle.protocol.proofs.SmallLaws.{by-cond}
 use Rattle.protocol.proofs.Inductive.{reach-inv}
@@ -167,7 +167,7 @@ module _ (p : Plan) (b : Start p) where
         }
       where
         same : (a d : ℕ) → a ≡ d → (n : ℕ) → n ≡ n + moved a d
-        same a d e n = rw (eq-eqb a d e) (omega arith)
+        same a d e n = omega arith
 
     unmoved : (x : sign.Reaction) → Untouched (u .sign) (u .edits) x → Stands p (afterSign u (x .state) (x .edits) (x .reply)) s
     unmoved x k = sign-stands p u s s h (x .state) (x .edits) (x .reply) (still-serves x k)
@@ -184,13 +184,12 @@ module _ (p : Plan) (b : Start p) where
         leaves : (t : System Datum) → After t → Stands p (afterSign u (altered p u e c a src new .state) (altered p u e c a src new .edits) []) t
         leaves t k = sign-stands p u s t h (altered p u e c a src new .state) (altered p u e c a src new .edits) [] k
 
-        go : (t : System Datum) → (t ≡ s) ⊎ ((cluster : ℕ) × (attribute : ℕ) × (value : Datum) × (t ≡ change s cluster attribute value)) → After t → Shadow {u = u} (alters e c a src new typed) s
-        go t (inl z) k = record { next = s; move = stays; stands = leaves s (subst After z k); quiet = λ _. tt; heard = λ m x. absurd x; got = λ m x. absurd x }
-        go t (inr z) k =
+        go : (t : System Datum) → (stores : List (Store Datum)) × (t ≡ storeAll s stores) → After t → Shadow {u = u} (alters e c a src new typed) s
+        go t z k =
             record {
-              next = change s (z .0) (z .1) (z .2);
-              move = steps (model.changes (z .0) (z .1) (z .2));
-              stands = leaves (change s (z .0) (z .1) (z .2)) (subst After (z .3) k);
+              next = storeAll s (z .0);
+              move = steps (model.alters (z .0));
+              stands = leaves (storeAll s (z .0)) (subst After (z .1) k);
               quiet = λ _. tt;
               heard = λ m x. absurd x;
               got = λ m x. absurd x;

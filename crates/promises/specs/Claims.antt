@@ -126,6 +126,26 @@ SecondHalf =
     → changesOf p (taking .at) endpoint cluster ≡ changesOf p (making .at) endpoint cluster
     → (version : ℕ) × (versionOf p (making .at) endpoint cluster ≡ just version) × CallsWhole v endpoint cluster version))
 
+-- the step in which the panel takes the last part of the read that was open
+pub record Ending {p : Plan} {u v : World} (run : Run p u v) : Type 0 where
+  pub at : World
+  pub next : World
+  pub passes : Passes run at next
+  pub opened : at .panel .asked .stage ≡ reading
+  pub last : next .panel .asked .stage ≡ lastPart
+  pub same : next .panel .asked .exchange ≡ u .panel .asked .exchange
+
+-- The same, said of that step: after it, and for as long as the panel begins nothing, it calls those clusters whole
+abbrev pub AtTheStep : Type 0
+AtTheStep =
+    (p : Plan) (b : Start p) (u v : World) (reach : Reach p b u) → u .panel .asked .stage ≡ reading
+    → (run : Run p u v) → Calm run → Arrived run
+    → (k : Ending run) × (m : List ℕ) × In (u .panel .asked .exchange) m × Last m
+    × (taking : Taking (join reach run) (u .panel .asked .exchange)) × (making : Making (join reach run) m)
+    × ((endpoint cluster : ℕ) → endpoint < 2 ^ 16 → cluster < 2 ^ 32 → MayReadSome p v endpoint cluster
+    → changesOf p (taking .at) endpoint cluster ≡ changesOf p (making .at) endpoint cluster
+    → (version : ℕ) × (versionOf p (making .at) endpoint cluster ≡ just version) × ((z : World) (on : Run p (k .next) z) → Calm on → CallsWhole z endpoint cluster version))
+
 -- a run from u in which all of that has arrived
 pub record Complete (p : Plan) (u : World) : Type 0 where
   pub end : World

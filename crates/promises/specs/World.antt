@@ -1,15 +1,13 @@
 -- BOTH ENDS AS THEY ARE, in bytes: what each holds, every message that was ever made, and what a call leaves. Each call is the definition that its contract cites.
 use mathlib.Core.List.{List, [], _∷_}
-use Prim.Native.Nat.{ℕ, _+_, _*_, _^_, _<_}
+use Prim.Native.Nat.{ℕ, _+_, _-_, _*_, _%_, _^_, _<_}
 use mathlib.Core.Path.{_≡_}
 use mathlib.Core.Bool.{true}
-use lib.Dec.{eqb}
 use lib.ListN.{length, getD}
 use mir.Syntax.{w64}
 use mir.Val.{SFits}
 use Rattle.tlv.specs.declared.Value.{Value}
 use Rattle.tlv.specs.declared.Value.the-variants as value
-use Rattle.tlv.specs.Octet.{pick}
 use Rattle.schema.specs.Layout.{subjectWord, textSize}
 use Rattle.schema.specs.Check.{textCount}
 use Rattle.node.specs.Check.{accepted}
@@ -77,9 +75,9 @@ abbrev pub with : List ℕ → List (List ℕ) → List (List ℕ)
 with [] l = l
 with (b ∷ m) l = (b ∷ m) ∷ l
 
--- one where a version has moved
+-- how far a version has moved, which is how often it changed: one call changes a cluster fewer than 2^32 times
 abbrev pub moved : ℕ → ℕ → ℕ
-moved old new = pick (eqb old new) 0 1
+moved old new = (new + 2 ^ 32 - old) % 2 ^ 32
 
 -- after a call of the sign, which leaves this state, page and reply
 unfoldable pub afterSign : World → server.State → List ℕ → List ℕ → World

@@ -2,10 +2,8 @@
 use mathlib.Core.Path.{_≡_}
 use mathlib.Core.Bool.{true}
 use mathlib.Core.List.{List, [], _∷_, _++_}
-use Prim.Native.Nat.{ℕ, _+_, _-_, _^_, _<_}
-use lib.Dec.{eqb}
+use Prim.Native.Nat.{ℕ, _+_, _-_, _%_, _^_, _<_}
 use lib.ListN.{length, getD}
-use Rattle.tlv.specs.Octet.{pick}
 use Rattle.tlv.specs.Value.{Datum}
 use Rattle.schema.specs.Rows.{clusterCount, attributeCount}
 use Rattle.acl.specs.declared.Grants.{Grants}
@@ -42,9 +40,9 @@ pub record SignAs (w defaults : List ℕ) (g : Grants) (sent : List (List ℕ)) 
   pub held : ClustersAs w defaults edits (s .values) clusters
   pub row : RowAs w g sent (s .row) r
 
--- one where a version has moved
+-- how far a version has moved, which is how often it changed: one call changes a cluster fewer than 2^32 times
 abbrev pub moved : ℕ → ℕ → ℕ
-moved old new = pick (eqb old new) 0 1
+moved old new = (new + 2 ^ 32 - old) % 2 ^ 32
 
 -- WHAT A CALL OF THE SIGN LEAVES: the state and page after it, the reply, and the step that the protocol takes
 pub record Serves (w defaults : List ℕ) (g : Grants) (sent : List (List ℕ)) (old new : State) (edits reply : List ℕ) (s t : System Datum) : Type 0 where

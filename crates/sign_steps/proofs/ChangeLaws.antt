@@ -22,7 +22,7 @@ use Rattle.writes.proofs.HeldLaws.{placed-holds}
 use Rattle.server.specs.Start.{Altered, altered, alteredBy}
 use Rattle.server.proofs.StartLaws.{altered-right}
 use Rattle.server.proofs.KeptLaws.{change-kept}
-use Rattle.protocol.specs.Model.{System, change}
+use Rattle.protocol.specs.Model.{System, storeAll}
 use Rattle.refinement.proofs.Bytes.{silent}
 use Rattle.refinement.proofs.Sign.{Serves}
 use Rattle.sign_steps.proofs.Standing.{Standing, right-of}
@@ -36,9 +36,8 @@ pub record Beside (s t : System Datum) : Type 0 where
   pub parts : t .parts ≡ s .parts
 
 pub once-beside : (s t : System Datum) → Once s t → Beside s t
-unfolding change
-once-beside s t (inl e) = subst (Beside s) (sym e) (record { row = refl; cache = refl; messages = refl; parts = refl })
-once-beside s t (inr (k, i, d, e)) = subst (Beside s) (sym e) (record { row = refl; cache = refl; messages = refl; parts = refl })
+unfolding storeAll
+once-beside s t (stores, e) = subst (Beside s) (sym e) (record { row = refl; cache = refl; messages = refl; parts = refl })
 
 module _ {w defaults : List ℕ} {g : Grants} {sent : List (List ℕ)} (here : Standing w defaults g sent) where
   open Standing here using (edits, state as s, system as sys, stands)

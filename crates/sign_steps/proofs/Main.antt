@@ -19,7 +19,7 @@ use Rattle.server.specs.Receive.{received}
 use Rattle.server.specs.Start.{started, alteredBy}
 use Rattle.server.proofs.ReceivedLaws.{Untouched}
 use Rattle.protocol.specs.Model as Model
-use Rattle.protocol.specs.Model.{Message, Node, System, Store, change, serve}
+use Rattle.protocol.specs.Model.{Message, Node, System, Store, storeAll, serve}
 use Rattle.refinement.proofs.Terms.{nodeOf}
 use Rattle.refinement.proofs.Bytes.{MessageAs}
 use Rattle.refinement.proofs.Sign.{SignAs, Serves}
@@ -51,7 +51,7 @@ module _ (w defaults start : List ℕ) (g : Grants) (words-fit : (k : ℕ) → g
     -- A LOCAL CHANGE
     pub change-served : (e c a : ℕ) (src : List ℕ) (new : Value) → Sized new →
         let x = alteredBy w defaults edits s e c a src new in
-        (t : System Datum) × ((t ≡ sys) ⊎ ((cluster : ℕ) × (attribute : ℕ) × (value : Datum) × (t ≡ change sys cluster attribute value))) × Serves w defaults g sent s (x .state) (x .edits) [] sys t
+        (t : System Datum) × ((stores : List (Store Datum)) × (t ≡ storeAll sys stores)) × Serves w defaults g sent s (x .state) (x .edits) [] sys t
     change-served = changed-as here
 
     -- another subject: silence, or a refusal

@@ -2,7 +2,7 @@
 use mathlib.Core.Path.{_≡_, refl, sym, ap, _∙_}
 use mathlib.Core.Logic.{_⊎_, inl, inr}
 use mathlib.Core.Bool.{true}
-use mathlib.Core.List.{List}
+use mathlib.Core.List.{List, [], _∷_}
 use Prim.Native.Nat.{ℕ, suc, _+_, _^_, _<_}
 use native.Mathlib.Omega.{arith}
 use borrow.Author.Tests.{eqb-true, eqb-false, eq-eqb, ne-eqb}
@@ -20,13 +20,13 @@ use Rattle.values.specs.Change.{changes, storedValues, storedEdits}
 use Rattle.values.proofs.StoreLaws.{Storing}
 use Rattle.values.proofs.MoveLaws.{version-stays, version-raised, stored-datum, other-datum}
 use Rattle.protocol.specs.Model as Model
-use Rattle.protocol.specs.Model.{System, change}
+use Rattle.protocol.specs.Model.{System, Store, storedIn, storeAll, change}
 use Rattle.refinement.proofs.Terms.{ClustersAs}
 use Rattle.refinement.proofs.Sign.{moved}
 
--- the protocol has changed one value, or nothing
+-- the protocol has made some stores
 abbrev pub Once : System Datum → System Datum → Type 0
-Once s t = (t ≡ s) ⊎ ((cluster : ℕ) × (attribute : ℕ) × (value : Datum) × (t ≡ change s cluster attribute value))
+Once s t = (stores : List (Store Datum)) × (t ≡ storeAll s stores)
 
 -- what is held afterwards stands for what the protocol then has, and a cluster's version moved exactly where it counts a change
 pub record Holds (w defaults : List ℕ) (old : Values) (s t : System Datum) (new : Values) (edits : List ℕ) : Type 0 where
@@ -36,15 +36,17 @@ pub record Holds (w defaults : List ℕ) (old : Values) (s t : System Datum) (ne
   pub counted : (k : ℕ) → k < clusterCount w → t .clusters k .changes ≡ s .clusters k .changes + moved (getD (old .versions) k 0) (getD (new .versions) k 0)
 
 moved-not : (a b : ℕ) → b ≡ a → (n : ℕ) → n ≡ n + moved a b
-moved-not a b e n = rw (eq-eqb a b (sym e)) (omega arith)
+moved-not a b e n = omega arith
 
-moved-once : (a b : ℕ) → (b ≡ a → ⊥) → (n : ℕ) → suc n ≡ n + moved a b
-moved-once a b e n = rw (ne-eqb a b (λ q. e (sym q))) (omega arith)
+moved-once : (a b : ℕ) → b ≡ kinds.nextVersion a → a < 2 ^ 32 → (n : ℕ) → suc n ≡ n + moved a b
+unfolding kinds.nextVersion
+moved-once a b e l n = omega arith
 
 module _ (w defaults edits : List ℕ) (v : Values) (s : System Datum) (fit : (k : ℕ) → getD (v .versions) k 0 < 2 ^ 32) (held : ClustersAs w defaults edits v (s .clusters)) where
   -- nothing was stored
   pub unmoved : Holds w defaults v s s v edits
-  unmoved = record { once = inl refl; versions-fit = fit; held = held; counted = λ k l. moved-not (getD (v .versions) k 0) (getD (v .versions) k 0) refl (s .clusters k .changes) }
+  unfolding storeAll storedIn
+  unmoved = record { once = ([], refl); versions-fit = fit; held = held; counted = λ k l. moved-not (getD (v .versions) k 0) (getD (v .versions) k 0) refl (s .clusters k .changes) }
 
   module _ (i : ℕ) (d : Datum) (st : Storing w defaults edits v i d) where
     abbrev new : Values
@@ -73,14 +75,14 @@ module _ (w defaults edits : List ℕ) (v : Values) (s : System Datum) (fit : (k
           (λ t. rw (version-stays w defaults edits v i d k (eqb-false k place t)) (fit k))
 
       raised-version : (k : ℕ) → k < clusterCount w → next .clusters k .version ≡ getD (new .versions) k 0
-      unfolding change kinds.nextVersion
+      unfolding storeAll storedIn kinds.nextVersion
       raised-version k l =
           by-test (eqb k place)
           (λ t. rw (t, eqb-true k place t) (sym (raised ∙ ap Model.nextVersion (sym (held .versions place there)))))
           (λ t. rw (t, version-stays w defaults edits v i d k (eqb-false k place t)) (held .versions k l))
 
       raised-value : (j : ℕ) → j < attributeCount w → next .clusters (attributeRow w j .clusterIndex) .values j ≡ datumAt w defaults page new j
-      unfolding change
+      unfolding storeAll storedIn
       raised-value j l =
           by-test (eqb j i)
           (λ t. let e = eqb-true j i t in rw (e, eq-eqb place place refl, eq-eqb i i refl) (sym (stored-datum w defaults edits v i d st)))
@@ -90,17 +92,17 @@ module _ (w defaults edits : List ℕ) (v : Values) (s : System Datum) (fit : (k
           (λ u. rw (u, other-datum w defaults edits v i d st j n l) (held .values j l)))
 
       raised-counted : (k : ℕ) → k < clusterCount w → next .clusters k .changes ≡ s .clusters k .changes + moved (getD (v .versions) k 0) (getD (new .versions) k 0)
-      unfolding change
+      unfolding storeAll storedIn
       raised-counted k l =
           by-test (eqb k place)
-          (λ t. rw (t, eqb-true k place t) (moved-once _ _ (λ q. version-moves (getD (v .versions) place 0) (omega (arith, fit place)) (sym raised ∙ q)) (s .clusters place .changes)))
+          (λ t. rw (t, eqb-true k place t) (moved-once _ _ raised (fit place) (s .clusters place .changes)))
           (λ t. rw t (moved-not _ _ (version-stays w defaults edits v i d k (eqb-false k place t)) (s .clusters k .changes)))
 
       -- a change
       changed-once : Holds w defaults v s next new page
       changed-once =
           record {
-            once = inr (place, i, d, refl);
+            once = (record { cluster = place; attribute = i; value = d } ∷ [], refl);
             versions-fit = raised-fits;
             held = record { versions = raised-version; values = raised-value };
             counted = raised-counted;

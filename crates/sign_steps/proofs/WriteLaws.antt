@@ -38,12 +38,6 @@ use Rattle.sign_steps.proofs.StoreLaws.{Once}
 use Rattle.sign_steps.proofs.ChangeLaws.{heldBy, Reached, placed-as, once-beside}
 use Rattle.sign_steps.proofs.ServeLaws.{Serving, Valid}
 
--- at most one change, as what a write stores
-stores-of : (s t : System Datum) → Once s t → (stores : List (Store Datum)) × (storeAll s stores ≡ t)
-unfolding storeAll
-stores-of s t (inl e) = ([], sym e)
-stores-of s t (inr (k, i, d, e)) = (record { cluster = k; attribute = i; value = d } ∷ [], sym e)
-
 module _ {w defaults : List ℕ} {g : Grants} {sent : List (List ℕ)} (here : Standing w defaults g sent) (x : ℕ) (fx : x < 2 ^ 40) (given : Bool) (version e c a : ℕ) (d : Datum) (fits : WriteFits version e c a d) where
   open Standing here using (edits, state as s, system as sys, stands)
 
@@ -106,10 +100,10 @@ module _ {w defaults : List ℕ} {g : Grants} {sent : List (List ℕ)} (here : S
     unfolding written
     write-served valid =
         let (t, h) = rw (← begun-held) at reached in
-        let (stores, is) = stores-of sys t (h .once) in
+        let (stores, is) = h .once in
         let b = once-beside sys t (h .once) in (
           stores,
-          rw is (record {
+          rw (← is) (record {
             sign = record { valid = valid; versions-fit = h .versions-fit; held = h .held; row = row-as t };
             made = [];
             reply-is = row-as t .kept;
