@@ -9,6 +9,7 @@ use Rattle.tlv.specs.Octet.{structure, list, endOfContainer}
 use Rattle.tlv.specs.Tree.Tag.{anonymous}
 use Rattle.tlv.specs.Tree.Tree.{container}
 use Rattle.tlv.specs.Tree.Trees.{none}
+use Rattle.tlv.specs.declared.Cursor.{Cursor}
 use Rattle.tlv.specs.Walk.{Got, bindG}
 use Rattle.tlv.specs.Walk.Got.{got, bad}
 use Rattle.tlv.specs.Decode.{place, treeAt}
@@ -102,30 +103,42 @@ pub path-lacks : (g : Got Path) → pathRead g ≡ path.BadPath → g ≡ bad
 path-lacks bad e = refl
 path-lacks (got p n) e = never (cc)
 
-pub path-has : (g : Got Path) {p : Path} {n : ℕ} → pathRead g ≡ path.Path p n → g ≡ got p n
+pub path-has : (g : Got Path) {p : Path} {n : Cursor} → pathRead g ≡ path.Path p n → g ≡ got p (n .at)
 path-has bad e = never (cc)
-path-has (got q m) e = cc
+path-has (got q m) {p} {n} e =
+    let f : q ≡ p = cc in
+    let k : m ≡ n .at = cc in
+    rw (f, k) refl
 
 pub cluster-lacks : (g : Got Cluster) → clusterRead g ≡ cluster.BadCluster → g ≡ bad
 cluster-lacks bad e = refl
 cluster-lacks (got p n) e = never (cc)
 
-pub cluster-has : (g : Got Cluster) {p : Cluster} {n : ℕ} → clusterRead g ≡ cluster.Cluster p n → g ≡ got p n
+pub cluster-has : (g : Got Cluster) {p : Cluster} {n : Cursor} → clusterRead g ≡ cluster.Cluster p n → g ≡ got p (n .at)
 cluster-has bad e = never (cc)
-cluster-has (got q m) e = cc
+cluster-has (got q m) {p} {n} e =
+    let f : q ≡ p = cc in
+    let k : m ≡ n .at = cc in
+    rw (f, k) refl
 
 pub status-lacks : (g : Got Status) → statusRead g ≡ status.BadStatus → g ≡ bad
 status-lacks bad e = refl
 status-lacks (got p n) e = never (cc)
 
-pub status-has : (g : Got Status) {p : Status} {n : ℕ} → statusRead g ≡ status.Status p n → g ≡ got p n
+pub status-has : (g : Got Status) {p : Status} {n : Cursor} → statusRead g ≡ status.Status p n → g ≡ got p (n .at)
 status-has bad e = never (cc)
-status-has (got q m) e = cc
+status-has (got q m) {p} {n} e =
+    let f : q ≡ p = cc in
+    let k : m ≡ n .at = cc in
+    rw (f, k) refl
 
 pub answer-lacks : (g : Got Answer) → answerRead g ≡ answer.BadAnswer → g ≡ bad
 answer-lacks bad e = refl
 answer-lacks (got p n) e = never (cc)
 
-pub answer-has : (g : Got Answer) {p : Answer} {n : ℕ} → answerRead g ≡ answer.Answer p n → g ≡ got p n
+pub answer-has : (g : Got Answer) {p : Answer} {n : Cursor} → answerRead g ≡ answer.Answer p n → g ≡ got p (n .at)
 answer-has bad e = never (cc)
-answer-has (got q m) e = cc
+answer-has (got q m) {p} {n} e =
+    let f : q ≡ p = cc in
+    let k : m ≡ n .at = cc in
+    rw (f, k) refl

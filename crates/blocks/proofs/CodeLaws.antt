@@ -3,7 +3,7 @@ use mathlib.Core.Path.{_≡_, refl, sym, ap, _∙_}
 use mathlib.Core.Bool.{Bool, true, false}
 use mathlib.Core.List.{List}
 use Prim.Native.Nat.{ℕ, _-_, _<_, _≤_}
-use borrow.Author.Tests.{eq-eqb, ne-eqb, lt-ltb, le-ltb}
+use borrow.Author.Tests.{eq-eqb, ne-eqb, lt-ltb, le-ltb, eqb-true, eqb-false}
 use lib.ListN.{getD}
 use lib.Dec.{eqb}
 use Rattle.tlv.specs.Octet.{pick}
@@ -11,11 +11,8 @@ use Rattle.tlv.specs.Walk.{Got, bindG}
 use Rattle.tlv.specs.Walk.Got.{bad}
 use Rattle.tlv.specs.Decode.{Opt, bindO, place}
 use Rattle.tlv.specs.Decode.Opt.{just, nothing}
-use Rattle.members.specs.declared.Members.{Members}
-use Rattle.members.specs.Fields.{insideAt, membersOf}
 use Rattle.members.specs.Scalar.{ABSENT, WRONG, numberIn, flagIn, wideIn}
 use Rattle.members.specs.Array.{requiredIn}
-use Rattle.members.proofs.FieldLaws.{inside-deep, bad-members, good-members}
 use Rattle.blocks.specs.declared.Path.{Path}
 use Rattle.blocks.specs.declared.Cluster.{Cluster}
 use Rattle.blocks.specs.declared.Status.{Status}
@@ -24,21 +21,6 @@ use Rattle.blocks.specs.Path.{checked, soundPath, pathFrom, pathAt}
 use Rattle.blocks.specs.Filter.{soundCluster, clusterFrom, clusterAt, filterOf, filterFrom}
 use Rattle.blocks.specs.Status.{soundStatus, statusFrom, statusAt, answerFrom, answerAt}
 use Rattle.blocks.specs.Data.{DataOf, anyIn, dataFrom, dataAt, shown, refused, maybeIn, reportFrom}
-
--- a frame: the members of a container, and what is made of them
-module _ {A : Type 0} (kind d : ℕ) (s : List ℕ) (tags : List Bool) (at : ℕ) (F : List ℕ → Opt A) where
-  abbrev pub frame : Got A
-  frame = bindG (insideAt kind d s tags at) (λ seen n. place (F seen) n)
-
-  pub frame-deep : d ≡ 0 → frame ≡ bad
-  frame-deep e = ap (λ g. bindG g (λ seen n. place (F seen) n)) (inside-deep kind d s tags at e)
-
-  module _ (m : Members) (e : m ≡ membersOf (insideAt kind d s tags at)) where
-    pub frame-bad : m .good ≡ false → frame ≡ bad
-    frame-bad q = bad-members m (insideAt kind d s tags at) (λ seen n. place (F seen) n) e q
-
-    pub frame-good : m .good ≡ true → {o : Opt A} → F (m .at) ≡ o → frame ≡ place o (m .next)
-    frame-good q f = good-members m (insideAt kind d s tags at) (λ seen n. place (F seen) n) e q ∙ ap (λ o. place o (m .next)) f
 
 -- what was checked
 pub checked-no : {A : Type 0} (sound : A → Bool) (x : A) → sound x ≡ false → checked sound x ≡ nothing
@@ -136,6 +118,20 @@ module _ (d : ℕ) (s : List ℕ) (xs : List ℕ) where
   pub report-status : (getD xs 0 0 ≡ 0 → ⊥) → getD xs 1 0 ≡ 0 → {o : Opt Answer} → requiredIn (answerAt d s) (getD xs 0 0) ≡ o → reportFrom d s xs ≡ bindO o (λ x. just (refused x))
   unfolding reportFrom
   report-status n e f = rw (maybe-some (answerAt d s) (getD xs 0 0) n f, maybe-none (dataAt d s) (getD xs 1 0) e) refl
+
+  pub report-no-answer : (getD xs 0 0 ≡ 0 → ⊥) → requiredIn (answerAt d s) (getD xs 0 0) ≡ nothing → reportFrom d s xs ≡ nothing
+  report-no-answer n f = go (eqb (getD xs 1 0) 0) refl
+    where
+      go : (b : Bool) → eqb (getD xs 1 0) 0 ≡ b → reportFrom d s xs ≡ nothing
+      go true e = report-status n (eqb-true (getD xs 1 0) 0 e) f
+      go false e = report-both n (eqb-false (getD xs 1 0) 0 e)
+
+  pub report-no-data : (getD xs 1 0 ≡ 0 → ⊥) → requiredIn (dataAt d s) (getD xs 1 0) ≡ nothing → reportFrom d s xs ≡ nothing
+  report-no-data n f = go (eqb (getD xs 0 0) 0) refl
+    where
+      go : (b : Bool) → eqb (getD xs 0 0) 0 ≡ b → reportFrom d s xs ≡ nothing
+      go true e = report-data (eqb-true (getD xs 0 0) 0 e) n f
+      go false e = report-both (eqb-false (getD xs 0 0) 0 e) n
 
 -- a filter's version is required
 pub filter-over : (p : Cluster) (v : ℕ) → ABSENT ≤ v → filterOf p v ≡ nothing

@@ -12,6 +12,7 @@ use Rattle.tlv.specs.Tree.{Tree}
 use Rattle.tlv.specs.Tree.Tag.{anonymous}
 use Rattle.tlv.specs.Tree.Tree.{container}
 use Rattle.tlv.specs.Tree.Trees.{none}
+use Rattle.tlv.specs.declared.Cursor.{Cursor}
 use Rattle.tlv.specs.Walk.{Got, mapG, bindG}
 use Rattle.tlv.specs.Walk.Got.{got, bad}
 use Rattle.tlv.specs.Decode.{Opt, place, bindO, treeAt}
@@ -116,10 +117,10 @@ data-lacks (got p n) e = never (cc)
 unfoldable pub dataFound : Data → DataOf ℕ
 dataFound x = record { version = x .version; path = x .path; element = x .place }
 
-pub data-has : (g : Got (DataOf ℕ)) {x : Data} {n : ℕ} → dataRead g ≡ data-read.Data x n → g ≡ got (dataFound x) n
+pub data-has : (g : Got (DataOf ℕ)) {x : Data} {n : Cursor} → dataRead g ≡ data-read.Data x n → g ≡ got (dataFound x) (n .at)
 unfolding dataFound
 data-has bad e = never (cc)
 data-has (got y m) {x} {n} e =
     let f : dataStruct y ≡ x = cc in
-    let k : m ≡ n = cc in
+    let k : m ≡ n .at = cc in
     rw (← f, k) refl

@@ -2,3 +2,4 @@ pub mod BlockLaws
 pub mod DataLaws
 pub mod CodeLaws
 pub mod OrderLaws
+pub mod OnLaws

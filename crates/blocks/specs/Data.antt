@@ -10,6 +10,8 @@ use Rattle.tlv.specs.Walk.{Got, bindG}
 use Rattle.tlv.specs.Walk.Got.{got, bad}
 use Rattle.tlv.specs.Decode.{Opt, bindO, place, treeAt}
 use Rattle.tlv.specs.Decode.Opt.{just, nothing}
+use Rattle.tlv.specs.declared.Element.{Element}
+use Rattle.members.specs.Pass.{frameOn}
 use Rattle.members.specs.Fields.{Slot, insideAt, insideT, orNone}
 use Rattle.members.specs.Fields.Slot.{absent, present}
 use Rattle.members.specs.Scalar.{WRONG, numberIn, numberT}
@@ -57,12 +59,15 @@ dataFrom d s seen = dataWith (requiredIn (pathAt d s)) anyIn (λ m b p. numberIn
 unfoldable pub dataAt : ℕ → List ℕ → ℕ → Got (DataOf ℕ)
 dataAt d s at = bindG (insideAt structure d s tripleTags at) (λ seen n. place (dataFrom (d - 1) s seen) n)
 
+unfoldable pub dataOn : ℕ → List ℕ → Element → Got (DataOf ℕ)
+dataOn d s e = frameOn structure d s tripleTags (dataFrom (d - 1) s) e
+
 abbrev pub dataStruct : DataOf ℕ → Data
 dataStruct x = record { version = x .version; path = x .path; place = x .element }
 
 abbrev pub dataRead : Got (DataOf ℕ) → DataRead
 dataRead bad = data-read.BadData
-dataRead (got x n) = data-read.Data (dataStruct x) n
+dataRead (got x n) = data-read.Data (dataStruct x) (record { at = n })
 
 unfoldable pub dataOf : List Slot → Opt (DataOf Tree)
 dataOf xs = dataWith (requiredT pathT) anyT numberT (λ i. getD xs i absent)
@@ -96,13 +101,16 @@ reportFrom d s seen = either (maybeIn (answerAt d s) (getD seen 0 0)) (maybeIn (
 unfoldable pub reportAt : ℕ → List ℕ → ℕ → Got (ReportOf ℕ)
 reportAt d s at = bindG (insideAt structure d s pairTags at) (λ seen n. place (reportFrom (d - 1) s seen) n)
 
+unfoldable pub reportOn : ℕ → List ℕ → Element → Got (ReportOf ℕ)
+reportOn d s e = frameOn structure d s pairTags (reportFrom (d - 1) s) e
+
 abbrev pub reportStruct : ReportOf ℕ → Report
 reportStruct (shown x) = report.Shown (dataStruct x)
 reportStruct (refused x) = report.Refused x
 
 abbrev pub reportRead : Got (ReportOf ℕ) → ReportRead
 reportRead bad = report-read.BadReport
-reportRead (got x n) = report-read.Report (reportStruct x) n
+reportRead (got x n) = report-read.Report (reportStruct x) (record { at = n })
 
 unfoldable pub reportOf : List Slot → Opt (ReportOf Tree)
 reportOf xs = either (maybeT answerT (getD xs 0 absent)) (maybeT dataT (getD xs 1 absent))

@@ -10,6 +10,8 @@ use Rattle.tlv.specs.Walk.{Got, bindG}
 use Rattle.tlv.specs.Walk.Got.{got, bad}
 use Rattle.tlv.specs.Decode.{Opt, bindO, place}
 use Rattle.tlv.specs.Decode.Opt.{just, nothing}
+use Rattle.tlv.specs.declared.Element.{Element}
+use Rattle.members.specs.Pass.{frameOn}
 use Rattle.members.specs.Fields.{Slot, insideAt, insideT}
 use Rattle.members.specs.Fields.Slot.{absent}
 use Rattle.members.specs.Scalar.{ABSENT, WRONG, numberIn, wideIn, numberT, wideT}
@@ -42,9 +44,12 @@ clusterFrom s seen = checked soundCluster (clusterWith (wideIn s) (λ m b p. num
 unfoldable pub clusterAt : ℕ → List ℕ → ℕ → Got Cluster
 clusterAt d s at = bindG (insideAt list d s clusterTags at) (λ seen n. place (clusterFrom s seen) n)
 
+unfoldable pub clusterOn : ℕ → List ℕ → Element → Got Cluster
+clusterOn d s e = frameOn list d s clusterTags (clusterFrom s) e
+
 abbrev pub clusterRead : Got Cluster → ClusterRead
 clusterRead bad = cluster.BadCluster
-clusterRead (got p n) = cluster.Cluster p n
+clusterRead (got p n) = cluster.Cluster p (record { at = n })
 
 unfoldable pub clusterOf : List Slot → Opt Cluster
 clusterOf xs = checked soundCluster (clusterWith wideT numberT (λ i. getD xs i absent))
@@ -69,9 +74,12 @@ filterFrom d s seen = filterWith (requiredIn (clusterAt d s)) (λ m b p. numberI
 unfoldable pub filterAt : ℕ → List ℕ → ℕ → Got Filter
 filterAt d s at = bindG (insideAt structure d s pairTags at) (λ seen n. place (filterFrom (d - 1) s seen) n)
 
+unfoldable pub filterOn : ℕ → List ℕ → Element → Got Filter
+filterOn d s e = frameOn structure d s pairTags (filterFrom (d - 1) s) e
+
 abbrev pub filterRead : Got Filter → FilterRead
 filterRead bad = filter.BadFilter
-filterRead (got p n) = filter.Filter p n
+filterRead (got p n) = filter.Filter p (record { at = n })
 
 unfoldable pub filterSlots : List Slot → Opt Filter
 filterSlots xs = filterWith (requiredT clusterT) numberT (λ i. getD xs i absent)

@@ -10,6 +10,8 @@ use Rattle.tlv.specs.Walk.{Got, bindG}
 use Rattle.tlv.specs.Walk.Got.{got, bad}
 use Rattle.tlv.specs.Decode.{Opt, bindO, place}
 use Rattle.tlv.specs.Decode.Opt.{just, nothing}
+use Rattle.tlv.specs.declared.Element.{Element}
+use Rattle.members.specs.Pass.{frameOn}
 use Rattle.members.specs.Fields.{Slot, insideAt, insideT}
 use Rattle.members.specs.Fields.Slot.{absent}
 use Rattle.members.specs.Scalar.{ABSENT, WRONG, numberIn, flagIn, wideIn, numberT, flagT, wideT}
@@ -50,9 +52,13 @@ pathFrom s seen = checked soundPath (pathWith (flagIn s) (wideIn s) (λ m b p. n
 unfoldable pub pathAt : ℕ → List ℕ → ℕ → Got Path
 pathAt d s at = bindG (insideAt list d s pathTags at) (λ seen n. place (pathFrom s seen) n)
 
+-- of the element with this head
+unfoldable pub pathOn : ℕ → List ℕ → Element → Got Path
+pathOn d s e = frameOn list d s pathTags (pathFrom s) e
+
 abbrev pub pathRead : Got Path → PathRead
 pathRead bad = read.BadPath
-pathRead (got p n) = read.Path p n
+pathRead (got p n) = read.Path p (record { at = n })
 
 -- THE MEANING of a tree as a path
 unfoldable pub pathOf : List Slot → Opt Path

@@ -10,6 +10,8 @@ use Rattle.tlv.specs.Walk.{Got, bindG}
 use Rattle.tlv.specs.Walk.Got.{got, bad}
 use Rattle.tlv.specs.Decode.{Opt, bindO, place}
 use Rattle.tlv.specs.Decode.Opt.{just}
+use Rattle.tlv.specs.declared.Element.{Element}
+use Rattle.members.specs.Pass.{frameOn}
 use Rattle.members.specs.Fields.{Slot, insideAt, insideT}
 use Rattle.members.specs.Fields.Slot.{absent}
 use Rattle.members.specs.Scalar.{ABSENT, WRONG, numberIn, numberT}
@@ -37,9 +39,12 @@ statusFrom s seen = checked soundStatus (statusWith (λ m b p. numberIn m b s p)
 unfoldable pub statusAt : ℕ → List ℕ → ℕ → Got Status
 statusAt d s at = bindG (insideAt structure d s pairTags at) (λ seen n. place (statusFrom s seen) n)
 
+unfoldable pub statusOn : ℕ → List ℕ → Element → Got Status
+statusOn d s e = frameOn structure d s pairTags (statusFrom s) e
+
 abbrev pub statusRead : Got Status → StatusRead
 statusRead bad = status.BadStatus
-statusRead (got x n) = status.Status x n
+statusRead (got x n) = status.Status x (record { at = n })
 
 unfoldable pub statusOf : List Slot → Opt Status
 statusOf xs = checked soundStatus (statusWith numberT (λ i. getD xs i absent))
@@ -57,9 +62,12 @@ answerFrom d s seen = answerWith (requiredIn (pathAt d s)) (requiredIn (statusAt
 unfoldable pub answerAt : ℕ → List ℕ → ℕ → Got Answer
 answerAt d s at = bindG (insideAt structure d s pairTags at) (λ seen n. place (answerFrom (d - 1) s seen) n)
 
+unfoldable pub answerOn : ℕ → List ℕ → Element → Got Answer
+answerOn d s e = frameOn structure d s pairTags (answerFrom (d - 1) s) e
+
 abbrev pub answerRead : Got Answer → AnswerRead
 answerRead bad = answer.BadAnswer
-answerRead (got x n) = answer.Answer x n
+answerRead (got x n) = answer.Answer x (record { at = n })
 
 unfoldable pub answerOf : List Slot → Opt Answer
 answerOf xs = answerWith (requiredT pathT) (requiredT statusT) (λ i. getD xs i absent)

@@ -1,12 +1,14 @@
 // Information blocks of the Interaction Model, read (chapter 10, section 10.5).
 ghost use mathlib.Core.Path.{_≡_};
-ghost use Rattle.blocks.specs.Path.{soundPath, pathAt, pathRead, banned, loose, askableP, exactP};
-ghost use Rattle.blocks.specs.Filter.{soundCluster, clusterAt, clusterRead, filterAt, filterRead};
-ghost use Rattle.blocks.specs.Status.{soundStatus, statusAt, statusRead, answerAt, answerRead};
-ghost use Rattle.blocks.specs.Data.{dataAt, dataRead, reportAt, reportRead};
+ghost use Rattle.blocks.specs.Path.{soundPath, pathOn, pathRead, banned, loose, askableP, exactP};
+ghost use Rattle.blocks.specs.Filter.{soundCluster, clusterOn, clusterRead, filterOn, filterRead};
+ghost use Rattle.blocks.specs.Status.{soundStatus, statusOn, statusAt, statusRead, answerOn, answerAt, answerRead};
+ghost use Rattle.blocks.specs.Data.{dataOn, dataRead, reportOn, reportAt, reportRead};
 use members::ABSENT;
 use members::WRONG;
 use tlv::Cursor;
+use tlv::Element;
+use tlv::Head;
 
 // An attribute path: each part its number, ABSENT, or (of a list index) NULL.
 pub struct Path {
@@ -19,9 +21,23 @@ pub struct Path {
 }
 
 pub enum PathRead {
-    Path(Path, usize),
+    Path(Path, Cursor),
     BadPath,
 }
+
+// No slot.
+const NOWHERE: [bool; 10] = [
+    false,
+    false,
+    false,
+    false,
+    false,
+    false,
+    false,
+    false,
+    false,
+    false,
+];
 
 const PATH: [bool; 10] = [
     true,
@@ -57,28 +73,31 @@ fn sound_path(p: Path) -> bool
     p.index != WRONG
 }
 
-// AttributePathIB: a list with context tags 0 to 5.
-pub fn path_at(s: &[u8], c: Cursor, left: usize) -> PathRead
-    ensures { λ r. ⌜ r ≡ pathRead (pathAt left (now (s .entry)) (c .at)) ⌝ }
+// AttributePathIB: a list with context tags 0 to 5, whose head was read.
+pub fn path_of(s: &[u8], e: Element, left: usize) -> PathRead
+    ensures { λ r. ⌜ r ≡ pathRead (pathOn left (now (s .entry)) e) ⌝ }
 {
     let listed = PATH;
-    let m = members::inside(s, c, left, tlv::LIST, &listed);
+    let stops = NOWHERE;
+    let m = members::begin(s, e, left, tlv::LIST, &listed, &stops);
     if !m.good {
         return PathRead::BadPath;
     }
-    let a = m.at;
+    let k = m.codes;
     let p = Path {
-        compress: members::flag_at(s, a[0]),
-        node: members::wide_at(s, a[1]),
-        endpoint: members::number_at(s, a[2], 65535, false),
-        cluster: members::number_at(s, a[3], 4294967295, false),
-        attribute: members::number_at(s, a[4], 4294967295, false),
-        index: members::number_at(s, a[5], 65535, true),
+        compress: members::flag_by(k[0]),
+        node: members::wide_by(k[1]),
+        endpoint: members::number_by(k[2], 65535, false),
+        cluster: members::number_by(k[3], 4294967295, false),
+        attribute: members::number_by(k[4], 4294967295, false),
+        index: members::number_by(k[5], 65535, true),
     };
     if !sound_path(p) {
         return PathRead::BadPath;
     }
-    PathRead::Path(p, m.next)
+    let end = m.head;
+    let next = end.next;
+    PathRead::Path(p, next)
 }
 
 // A path with compression, a node or a list index: document 01 gives 80.
@@ -144,7 +163,7 @@ pub struct Cluster {
 }
 
 pub enum ClusterRead {
-    Cluster(Cluster, usize),
+    Cluster(Cluster, Cursor),
     BadCluster,
 }
 
@@ -173,25 +192,28 @@ fn sound_cluster(p: Cluster) -> bool
     p.cluster < ABSENT
 }
 
-// ClusterPathIB: a list with context tags 0 to 2.
-pub fn cluster_at(s: &[u8], c: Cursor, left: usize) -> ClusterRead
-    ensures { λ r. ⌜ r ≡ clusterRead (clusterAt left (now (s .entry)) (c .at)) ⌝ }
+// ClusterPathIB: a list with context tags 0 to 2, whose head was read.
+pub fn cluster_of(s: &[u8], e: Element, left: usize) -> ClusterRead
+    ensures { λ r. ⌜ r ≡ clusterRead (clusterOn left (now (s .entry)) e) ⌝ }
 {
     let listed = CLUSTER;
-    let m = members::inside(s, c, left, tlv::LIST, &listed);
+    let stops = NOWHERE;
+    let m = members::begin(s, e, left, tlv::LIST, &listed, &stops);
     if !m.good {
         return ClusterRead::BadCluster;
     }
-    let a = m.at;
+    let k = m.codes;
     let p = Cluster {
-        node: members::wide_at(s, a[0]),
-        endpoint: members::number_at(s, a[1], 65535, false),
-        cluster: members::number_at(s, a[2], 4294967295, false),
+        node: members::wide_by(k[0]),
+        endpoint: members::number_by(k[1], 65535, false),
+        cluster: members::number_by(k[2], 4294967295, false),
     };
     if !sound_cluster(p) {
         return ClusterRead::BadCluster;
     }
-    ClusterRead::Cluster(p, m.next)
+    let end = m.head;
+    let next = end.next;
+    ClusterRead::Cluster(p, next)
 }
 
 // A data version filter.
@@ -201,7 +223,7 @@ pub struct Filter {
 }
 
 pub enum FilterRead {
-    Filter(Filter, usize),
+    Filter(Filter, Cursor),
     BadFilter,
 }
 
@@ -218,31 +240,52 @@ const PAIR: [bool; 10] = [
     false,
 ];
 
-// DataVersionFilterIB: a structure with a cluster path (tag 0) and a version (tag 1).
-pub fn filter_at(s: &[u8], c: Cursor, left: usize) -> FilterRead
-    ensures { λ r. ⌜ r ≡ filterRead (filterAt left (now (s .entry)) (c .at)) ⌝ }
+const FIRST: [bool; 10] = [
+    true,
+    false,
+    false,
+    false,
+    false,
+    false,
+    false,
+    false,
+    false,
+    false,
+];
+
+// DataVersionFilterIB: a structure with a cluster path (tag 0) and a version (tag 1), whose head was read.
+pub fn filter_of(s: &[u8], e: Element, left: usize) -> FilterRead
+    ensures { λ r. ⌜ r ≡ filterRead (filterOn left (now (s .entry)) e) ⌝ }
 {
     if left == 0 {
         return FilterRead::BadFilter;
     }
     let listed = PAIR;
-    let m = members::inside(s, c, left, tlv::STRUCTURE, &listed);
+    let stops = FIRST;
+    let m = members::begin(s, e, left, tlv::STRUCTURE, &listed, &stops);
     if !m.good {
         return FilterRead::BadFilter;
     }
-    let a = m.at;
-    let p = a[0];
-    if p == 0 {
+    if 10 <= m.slot {
         return FilterRead::BadFilter;
     }
-    let ClusterRead::Cluster(path, _) = cluster_at(s, Cursor { at: p - 1 }, left - 1) else {
+    let inner = m.head;
+    let ClusterRead::Cluster(path, after) = cluster_of(s, inner, left - 1) else {
         return FilterRead::BadFilter;
     };
-    let version = members::number_at(s, a[1], 4294967295, false);
+    let never = NOWHERE;
+    let z = members::resume(s, after, left - 1, tlv::STRUCTURE, &listed, &never, m);
+    if !z.good {
+        return FilterRead::BadFilter;
+    }
+    let k = z.codes;
+    let version = members::number_by(k[1], 4294967295, false);
     if ABSENT <= version {
         return FilterRead::BadFilter;
     }
-    FilterRead::Filter(Filter { path, version }, m.next)
+    let end = z.head;
+    let next = end.next;
+    FilterRead::Filter(Filter { path, version }, next)
 }
 
 // A status: its code, and a cluster's own or ABSENT.
@@ -252,7 +295,7 @@ pub struct Status {
 }
 
 pub enum StatusRead {
-    Status(Status, usize),
+    Status(Status, Cursor),
     BadStatus,
 }
 
@@ -265,24 +308,37 @@ fn sound_status(x: Status) -> bool
     x.cluster != WRONG
 }
 
-// StatusIB: a structure with context tags 0 and 1.
-pub fn status_at(s: &[u8], c: Cursor, left: usize) -> StatusRead
-    ensures { λ r. ⌜ r ≡ statusRead (statusAt left (now (s .entry)) (c .at)) ⌝ }
+// StatusIB: a structure with context tags 0 and 1, whose head was read.
+pub fn status_of(s: &[u8], e: Element, left: usize) -> StatusRead
+    ensures { λ r. ⌜ r ≡ statusRead (statusOn left (now (s .entry)) e) ⌝ }
 {
     let listed = PAIR;
-    let m = members::inside(s, c, left, tlv::STRUCTURE, &listed);
+    let stops = NOWHERE;
+    let m = members::begin(s, e, left, tlv::STRUCTURE, &listed, &stops);
     if !m.good {
         return StatusRead::BadStatus;
     }
-    let a = m.at;
+    let k = m.codes;
     let x = Status {
-        code: members::number_at(s, a[0], 255, false),
-        cluster: members::number_at(s, a[1], 255, false),
+        code: members::number_by(k[0], 255, false),
+        cluster: members::number_by(k[1], 255, false),
     };
     if !sound_status(x) {
         return StatusRead::BadStatus;
     }
-    StatusRead::Status(x, m.next)
+    let end = m.head;
+    let next = end.next;
+    StatusRead::Status(x, next)
+}
+
+// The same where its head is still to be read.
+fn status_at(s: &[u8], c: Cursor, left: usize) -> StatusRead
+    ensures { λ r. ⌜ r ≡ statusRead (statusAt left (now (s .entry)) (c .at)) ⌝ }
+{
+    let Head::Found(e) = c.head(s) else {
+        return StatusRead::BadStatus;
+    };
+    status_of(s, e, left)
 }
 
 // An attribute's status.
@@ -292,38 +348,56 @@ pub struct Answer {
 }
 
 pub enum AnswerRead {
-    Answer(Answer, usize),
+    Answer(Answer, Cursor),
     BadAnswer,
 }
 
-// AttributeStatusIB: a structure with a path (tag 0) and a status (tag 1).
-pub fn answer_at(s: &[u8], c: Cursor, left: usize) -> AnswerRead
-    ensures { λ r. ⌜ r ≡ answerRead (answerAt left (now (s .entry)) (c .at)) ⌝ }
+// AttributeStatusIB: a structure with a path (tag 0) and a status (tag 1), whose head was read.
+pub fn answer_of(s: &[u8], e: Element, left: usize) -> AnswerRead
+    ensures { λ r. ⌜ r ≡ answerRead (answerOn left (now (s .entry)) e) ⌝ }
 {
     if left == 0 {
         return AnswerRead::BadAnswer;
     }
     let listed = PAIR;
-    let m = members::inside(s, c, left, tlv::STRUCTURE, &listed);
+    let stops = FIRST;
+    let m = members::begin(s, e, left, tlv::STRUCTURE, &listed, &stops);
     if !m.good {
         return AnswerRead::BadAnswer;
     }
-    let a = m.at;
-    let p = a[0];
-    let q = a[1];
-    if p == 0 {
+    if 10 <= m.slot {
         return AnswerRead::BadAnswer;
     }
+    let inner = m.head;
+    let PathRead::Path(path, after) = path_of(s, inner, left - 1) else {
+        return AnswerRead::BadAnswer;
+    };
+    let never = NOWHERE;
+    let z = members::resume(s, after, left - 1, tlv::STRUCTURE, &listed, &never, m);
+    if !z.good {
+        return AnswerRead::BadAnswer;
+    }
+    let a = z.at;
+    let q = a[1];
     if q == 0 {
         return AnswerRead::BadAnswer;
     }
-    let PathRead::Path(path, _) = path_at(s, Cursor { at: p - 1 }, left - 1) else {
-        return AnswerRead::BadAnswer;
-    };
     let StatusRead::Status(status, _) = status_at(s, Cursor { at: q - 1 }, left - 1) else {
         return AnswerRead::BadAnswer;
     };
-    AnswerRead::Answer(Answer { path, status }, m.next)
+    let end = z.head;
+    let next = end.next;
+    AnswerRead::Answer(Answer { path, status }, next)
+}
+
+// The same where its head is still to be read.
+pub fn answer_at(s: &[u8], c: Cursor, left: usize) -> AnswerRead
+    ensures { λ r. ⌜ r ≡ answerRead (answerAt left (now (s .entry)) (c .at)) ⌝ }
+{
+    let Head::Found(e) = c.head(s) else {
+        return AnswerRead::BadAnswer;
+    };
+    answer_of(s, e, left)
 }
 
 // An attribute's data: its version or ABSENT, its path, and where its data stands.
@@ -334,7 +408,7 @@ pub struct Data {
 }
 
 pub enum DataRead {
-    Data(Data, usize),
+    Data(Data, Cursor),
     BadData,
 }
 
@@ -351,42 +425,64 @@ const TRIPLE: [bool; 10] = [
     false,
 ];
 
-// AttributeDataIB: a structure with a version (tag 0, optional), a path (tag 1) and data (tag 2).
-pub fn data_at(s: &[u8], c: Cursor, left: usize) -> DataRead
-    ensures { λ r. ⌜ r ≡ dataRead (dataAt left (now (s .entry)) (c .at)) ⌝ }
+const SECOND: [bool; 10] = [
+    false,
+    true,
+    false,
+    false,
+    false,
+    false,
+    false,
+    false,
+    false,
+    false,
+];
+
+// AttributeDataIB: a structure with a version (tag 0, optional), a path (tag 1) and data (tag 2), whose head was read.
+pub fn data_of(s: &[u8], e: Element, left: usize) -> DataRead
+    ensures { λ r. ⌜ r ≡ dataRead (dataOn left (now (s .entry)) e) ⌝ }
 {
     if left == 0 {
         return DataRead::BadData;
     }
     let listed = TRIPLE;
-    let m = members::inside(s, c, left, tlv::STRUCTURE, &listed);
+    let stops = SECOND;
+    let m = members::begin(s, e, left, tlv::STRUCTURE, &listed, &stops);
     if !m.good {
         return DataRead::BadData;
     }
-    let a = m.at;
-    let p = a[1];
-    let q = a[2];
-    if p == 0 {
+    if 10 <= m.slot {
         return DataRead::BadData;
     }
+    let inner = m.head;
+    let PathRead::Path(path, after) = path_of(s, inner, left - 1) else {
+        return DataRead::BadData;
+    };
+    let never = NOWHERE;
+    let z = members::resume(s, after, left - 1, tlv::STRUCTURE, &listed, &never, m);
+    if !z.good {
+        return DataRead::BadData;
+    }
+    let a = z.at;
+    let k = z.codes;
+    let q = a[2];
     if q == 0 {
         return DataRead::BadData;
     }
-    let version = members::number_at(s, a[0], 4294967295, false);
+    let version = members::number_by(k[0], 4294967295, false);
     if version == WRONG {
         return DataRead::BadData;
     }
-    let PathRead::Path(path, _) = path_at(s, Cursor { at: p - 1 }, left - 1) else {
-        return DataRead::BadData;
-    };
     let place = q - 1;
+    let end = z.head;
+    let next = end.next;
     DataRead::Data(
         Data {
             version,
             path,
             place,
         },
-        m.next,
+        next,
     )
 }
 
@@ -397,39 +493,65 @@ pub enum Report {
 }
 
 pub enum ReportRead {
-    Report(Report, usize),
+    Report(Report, Cursor),
     BadReport,
 }
 
-// AttributeReportIB: a structure with a status (tag 0) or data (tag 1), not both.
-pub fn report_at(s: &[u8], c: Cursor, left: usize) -> ReportRead
-    ensures { λ r. ⌜ r ≡ reportRead (reportAt left (now (s .entry)) (c .at)) ⌝ }
+// AttributeReportIB: a structure with a status (tag 0) or data (tag 1), not both, whose head was read.
+pub fn report_of(s: &[u8], e: Element, left: usize) -> ReportRead
+    ensures { λ r. ⌜ r ≡ reportRead (reportOn left (now (s .entry)) e) ⌝ }
 {
     if left == 0 {
         return ReportRead::BadReport;
     }
     let listed = PAIR;
-    let m = members::inside(s, c, left, tlv::STRUCTURE, &listed);
+    let m = members::begin(s, e, left, tlv::STRUCTURE, &listed, &listed);
     if !m.good {
         return ReportRead::BadReport;
     }
-    let a = m.at;
-    let p = a[0];
-    let q = a[1];
-    if p == 0 {
-        if q == 0 {
-            return ReportRead::BadReport;
-        }
-        let DataRead::Data(d, _) = data_at(s, Cursor { at: q - 1 }, left - 1) else {
+    if 10 <= m.slot {
+        return ReportRead::BadReport;
+    }
+    let inner = m.head;
+    let never = NOWHERE;
+    if m.slot == 0 {
+        let AnswerRead::Answer(x, after) = answer_of(s, inner, left - 1) else {
             return ReportRead::BadReport;
         };
-        return ReportRead::Report(Report::Shown(d), m.next);
+        let z = members::resume(s, after, left - 1, tlv::STRUCTURE, &listed, &never, m);
+        if !z.good {
+            return ReportRead::BadReport;
+        }
+        let a = z.at;
+        if a[1] != 0 {
+            return ReportRead::BadReport;
+        }
+        let end = z.head;
+        let next = end.next;
+        return ReportRead::Report(Report::Refused(x), next);
     }
-    if q != 0 {
-        return ReportRead::BadReport;
-    }
-    let AnswerRead::Answer(x, _) = answer_at(s, Cursor { at: p - 1 }, left - 1) else {
+    let DataRead::Data(d, after) = data_of(s, inner, left - 1) else {
         return ReportRead::BadReport;
     };
-    ReportRead::Report(Report::Refused(x), m.next)
+    let z = members::resume(s, after, left - 1, tlv::STRUCTURE, &listed, &never, m);
+    if !z.good {
+        return ReportRead::BadReport;
+    }
+    let a = z.at;
+    if a[0] != 0 {
+        return ReportRead::BadReport;
+    }
+    let end = z.head;
+    let next = end.next;
+    ReportRead::Report(Report::Shown(d), next)
+}
+
+// The same where its head is still to be read.
+pub fn report_at(s: &[u8], c: Cursor, left: usize) -> ReportRead
+    ensures { λ r. ⌜ r ≡ reportRead (reportAt left (now (s .entry)) (c .at)) ⌝ }
+{
+    let Head::Found(e) = c.head(s) else {
+        return ReportRead::BadReport;
+    };
+    report_of(s, e, left)
 }

@@ -7,6 +7,7 @@ use native.Mathlib.Omega.{arith}
 use borrow.Author.Tests.{eqb-true, eqb-false}
 use lib.Dec.{eqb}
 use lib.ListN.{length}
+use Rattle.tlv.specs.declared.Cursor.{Cursor}
 use Rattle.tlv.specs.declared.Element.{Element}
 use Rattle.tlv.specs.declared.Head.{Head}
 use Rattle.tlv.specs.declared.Head.the-variants.{Found, Malformed}
@@ -184,8 +185,8 @@ module _ (s : List ℕ) {r : Report} (x : ReportOf ℕ) (e : r ≡ reportStruct 
 
 -- what the reader of a block says of the next one
 module _ {g : Got (ReportOf ℕ)} {x : ReportOf ℕ} {n : ℕ} (here : g ≡ got x n) where
-  pub read-has : {r : Report} {m : ℕ} → reportRead g ≡ report-read.Report r m → (r ≡ reportStruct x) × (m ≡ n)
-  read-has {r} {m} e = let q : report-read.Report r m ≡ report-read.Report (reportStruct x) n = sym e ∙ ap reportRead here in (cc, cc)
+  pub read-has : {r : Report} {m : Cursor} → reportRead g ≡ report-read.Report r m → (r ≡ reportStruct x) × (m .at ≡ n)
+  read-has {r} {m} e = let q : report-read.Report r m ≡ report-read.Report (reportStruct x) (record { at = n }) = sym e ∙ ap reportRead here in let f : m ≡ record { at = n } = cc in (cc, ap (λ (y : Cursor). y .at) f)
 
   pub read-lacks : reportRead g ≡ report-read.BadReport → ⊥
-  read-lacks e = never (let q : report-read.BadReport ≡ report-read.Report (reportStruct x) n = sym e ∙ ap reportRead here in cc)
+  read-lacks e = never (let q : report-read.BadReport ≡ report-read.Report (reportStruct x) (record { at = n }) = sym e ∙ ap reportRead here in cc)

@@ -32,7 +32,7 @@ pub fn judge_part(s: &[u8], p: Part, held: Cached) -> u8
             return UNUSABLE;
         };
         j = judge_block(s, j, x);
-        at = next;
+        at = next.at;
         i += 1;
     }
     j.number
@@ -52,7 +52,7 @@ pub fn take_part(s: &[u8], p: Part, held: Cached, page: &mut [u8]) -> Cached
             return c;
         };
         c = take_block(s, c, x, page);
-        at = next;
+        at = next.at;
         i += 1;
     }
     c

@@ -4,3 +4,6 @@ pub mod StatusLaws
 pub mod ListLaws
 pub mod ReadLaws
 pub mod WholeLaws
+pub mod LoopLaws
+pub mod PassLaws
+pub mod ReadPass

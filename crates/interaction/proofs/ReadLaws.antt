@@ -15,17 +15,21 @@ use Rattle.tlv.specs.Walk.Got.{got, bad}
 use Rattle.tlv.specs.Decode.{Opt, bindO, place, treeAt}
 use Rattle.tlv.specs.Decode.Opt.{just, nothing}
 use Rattle.members.specs.Array.{optOf}
-use Rattle.members.proofs.ArrayLaws.{plain, each-none, each-ends, each-barred, each-breaks, each-on, each-onward}
+use Rattle.tlv.specs.declared.Cursor.{Cursor}
+use Rattle.members.proofs.PassLaws.{Reads, then-reads}
+use Rattle.blocks.proofs.OnLaws.{path-reads, filter-reads}
+use Rattle.interaction.specs.declared.AskedRead.the-variants as asked
+use Rattle.interaction.specs.declared.WantedRead.the-variants as wanted
 use Rattle.blocks.specs.declared.Path.{Path}
-use Rattle.blocks.specs.Path.{pathAt, pathT, askableP}
+use Rattle.blocks.specs.Path.{pathAt, pathOn, pathT, askableP}
 use Rattle.blocks.specs.declared.Filter.{Filter}
-use Rattle.blocks.specs.Filter.{filterAt, filterT, filterRead}
+use Rattle.blocks.specs.Filter.{filterAt, filterOn, filterT, filterRead}
 use Rattle.blocks.specs.declared.FilterRead.the-variants as filter
 use Rattle.blocks.proofs.BlockLaws.{path-law, filter-law}
 use Rattle.interaction.specs.Message.{snoc, given}
 use Rattle.members.specs.Scalar.{ABSENT}
 use Rattle.interaction.proofs.MessageLaws.{given-no, given-yes}
-use Rattle.interaction.specs.Read.{targetOf, askedOf, askedAt, askedT, pathsFrom, localF, wantedOf, wantedIf, wantedAt, wantedT, wantsFrom, pathsRead, pathsOpt, pathsStruct, wantsRead, wantsOpt, wantsStruct, Read, readOf, readVerdict, readRead}
+use Rattle.interaction.specs.Read.{targetOf, askedOf, askedAt, askedOn, askedRead, askedT, pathsFrom, localF, wantedOf, wantedIf, wantedAt, wantedOn, wantedRead, wantedT, wantsFrom, pathsRead, pathsOpt, pathsStruct, wantsRead, wantsOpt, wantsStruct, Read, readOf, readVerdict, readRead}
 use Rattle.interaction.specs.declared.Target.{Target}
 use Rattle.interaction.specs.declared.Paths.{Paths}
 use Rattle.interaction.specs.declared.Wants.{Wants}
@@ -47,45 +51,22 @@ pub asked-law : (d : ℕ) (s : List ℕ) (at : ℕ) → askedAt d s at ≡ bindG
 unfolding askedAt askedT
 asked-law d s at = then-law d s (pathAt d s) pathT askedOf (path-law d s) at
 
-module _ (d : ℕ) (s : List ℕ) (l : List Target) (at : ℕ) where
-  law : (p : ℕ) → mapG (λ x. x) (askedAt d s p) ≡ bindG (treeAt d s p) (λ t n. place (askedT t) n)
-  law = plain d s (askedAt d s) askedT (asked-law d s)
+pub asked-reads : (d : ℕ) (s : List ℕ) → Reads d s (askedAt d s) (askedOn d s)
+unfolding askedAt askedOn
+asked-reads d s = then-reads d s askedOf (path-reads d s)
 
-  pub asked-bad : pathAt d s at ≡ bad → askedAt d s at ≡ bad
-  unfolding askedAt
-  asked-bad e = ap (λ g. bindG g (λ p n. place (askedOf p) n)) e
+module _ (d : ℕ) (s : List ℕ) (e : Element) where
+  pub asked-bad : pathOn d s e ≡ bad → askedOn d s e ≡ bad
+  unfolding askedOn
+  asked-bad w = ap (λ g. bindG g (λ p n. place (askedOf p) n)) w
 
-  pub asked-banned : {p : Path} {n : ℕ} → pathAt d s at ≡ got p n → askableP p ≡ false → askedAt d s at ≡ bad
-  unfolding askedAt askedOf
-  asked-banned {p} {n} e q = ap (λ g. bindG g (λ p n. place (askedOf p) n)) e ∙ rw q refl
+  pub asked-banned : {p : Path} {n : ℕ} → pathOn d s e ≡ got p n → askableP p ≡ false → askedOn d s e ≡ bad
+  unfolding askedOn askedOf
+  asked-banned w q = ap (λ g. bindG g (λ p n. place (askedOf p) n)) w ∙ rw q refl
 
-  pub asked-got : {p : Path} {n : ℕ} → pathAt d s at ≡ got p n → askableP p ≡ true → askedAt d s at ≡ got (targetOf p) n
-  unfolding askedAt askedOf
-  asked-got {p} {n} e q = ap (λ g. bindG g (λ p n. place (askedOf p) n)) e ∙ rw q refl
-
-  pub paths-none : headAt s at ≡ Malformed → pathsFrom d s l at ≡ bad
-  unfolding pathsFrom
-  paths-none = each-none (λ x. x) d s (askedAt d s) askedT law snoc array l at
-
-  module _ {e : Element} (h : headAt s at ≡ Found e) where
-    pub paths-ends : e .kind ≡ endOfContainer → pathsFrom d s l at ≡ got l (e .next .at)
-    unfolding pathsFrom
-    paths-ends = each-ends (λ x. x) d s (askedAt d s) askedT law snoc array l at h
-
-    pub paths-barred : (e .kind ≡ endOfContainer → ⊥) → allowedIn array (e .form) ≡ false → pathsFrom d s l at ≡ bad
-    unfolding pathsFrom
-    paths-barred = each-barred (λ x. x) d s (askedAt d s) askedT law snoc array l at h
-
-    pub paths-breaks : (e .kind ≡ endOfContainer → ⊥) → allowedIn array (e .form) ≡ true → askedAt d s at ≡ bad → pathsFrom d s l at ≡ bad
-    unfolding pathsFrom
-    paths-breaks = each-breaks (λ x. x) d s (askedAt d s) askedT law snoc array l at h
-
-    pub paths-on : {t : Target} {n : ℕ} → (e .kind ≡ endOfContainer → ⊥) → allowedIn array (e .form) ≡ true → askedAt d s at ≡ got t n → pathsFrom d s l at ≡ pathsFrom d s (snoc l t) n
-    unfolding pathsFrom
-    paths-on = each-on (λ x. x) d s (askedAt d s) askedT law snoc array l at h
-
-    pub paths-onward : {t : Target} {n : ℕ} → askedAt d s at ≡ got t n → (at < n) × (n ≤ length s)
-    paths-onward = each-onward (λ x. x) d s (askedAt d s) askedT law snoc array l at h
+  pub asked-got : {p : Path} {n : ℕ} → pathOn d s e ≡ got p n → askableP p ≡ true → askedOn d s e ≡ got (targetOf p) n
+  unfolding askedOn askedOf
+  asked-got w q = ap (λ g. bindG g (λ p n. place (askedOf p) n)) w ∙ rw q refl
 
 -- the same of filters
 
@@ -93,45 +74,22 @@ pub wanted-law : (d : ℕ) (s : List ℕ) (at : ℕ) → wantedAt d s at ≡ bin
 unfolding wantedAt wantedT
 wanted-law d s at = then-law d s (filterAt d s) filterT wantedIf (filter-law d s) at
 
-module _ (d : ℕ) (s : List ℕ) (l : List Wanted) (at : ℕ) where
-  law′ : (p : ℕ) → mapG (λ x. x) (wantedAt d s p) ≡ bindG (treeAt d s p) (λ t n. place (wantedT t) n)
-  law′ = plain d s (wantedAt d s) wantedT (wanted-law d s)
+pub wanted-reads : (d : ℕ) (s : List ℕ) → Reads d s (wantedAt d s) (wantedOn d s)
+unfolding wantedAt wantedOn
+wanted-reads d s = then-reads d s wantedIf (filter-reads d s)
 
-  pub wanted-bad : filterAt d s at ≡ bad → wantedAt d s at ≡ bad
-  unfolding wantedAt
-  wanted-bad e = ap (λ g. bindG g (λ p n. place (wantedIf p) n)) e
+module _ (d : ℕ) (s : List ℕ) (e : Element) where
+  pub wanted-bad : filterOn d s e ≡ bad → wantedOn d s e ≡ bad
+  unfolding wantedOn
+  wanted-bad w = ap (λ g. bindG g (λ p n. place (wantedIf p) n)) w
 
-  pub wanted-remote : {p : Filter} {n : ℕ} → filterAt d s at ≡ got p n → localF p ≡ false → wantedAt d s at ≡ bad
-  unfolding wantedAt wantedIf
-  wanted-remote {p} {n} e q = ap (λ g. bindG g (λ p n. place (wantedIf p) n)) e ∙ rw q refl
+  pub wanted-remote : {p : Filter} {n : ℕ} → filterOn d s e ≡ got p n → localF p ≡ false → wantedOn d s e ≡ bad
+  unfolding wantedOn wantedIf
+  wanted-remote w q = ap (λ g. bindG g (λ p n. place (wantedIf p) n)) w ∙ rw q refl
 
-  pub wanted-got : {p : Filter} {n : ℕ} → filterAt d s at ≡ got p n → localF p ≡ true → wantedAt d s at ≡ got (wantedOf p) n
-  unfolding wantedAt wantedIf
-  wanted-got {p} {n} e q = ap (λ g. bindG g (λ p n. place (wantedIf p) n)) e ∙ rw q refl
-
-  pub wants-none : headAt s at ≡ Malformed → wantsFrom d s l at ≡ bad
-  unfolding wantsFrom
-  wants-none = each-none (λ x. x) d s (wantedAt d s) wantedT law′ snoc array l at
-
-  module _ {e : Element} (h : headAt s at ≡ Found e) where
-    pub wants-ends : e .kind ≡ endOfContainer → wantsFrom d s l at ≡ got l (e .next .at)
-    unfolding wantsFrom
-    wants-ends = each-ends (λ x. x) d s (wantedAt d s) wantedT law′ snoc array l at h
-
-    pub wants-barred : (e .kind ≡ endOfContainer → ⊥) → allowedIn array (e .form) ≡ false → wantsFrom d s l at ≡ bad
-    unfolding wantsFrom
-    wants-barred = each-barred (λ x. x) d s (wantedAt d s) wantedT law′ snoc array l at h
-
-    pub wants-breaks : (e .kind ≡ endOfContainer → ⊥) → allowedIn array (e .form) ≡ true → wantedAt d s at ≡ bad → wantsFrom d s l at ≡ bad
-    unfolding wantsFrom
-    wants-breaks = each-breaks (λ x. x) d s (wantedAt d s) wantedT law′ snoc array l at h
-
-    pub wants-on : {t : Wanted} {n : ℕ} → (e .kind ≡ endOfContainer → ⊥) → allowedIn array (e .form) ≡ true → wantedAt d s at ≡ got t n → wantsFrom d s l at ≡ wantsFrom d s (snoc l t) n
-    unfolding wantsFrom
-    wants-on = each-on (λ x. x) d s (wantedAt d s) wantedT law′ snoc array l at h
-
-    pub wants-onward : {t : Wanted} {n : ℕ} → wantedAt d s at ≡ got t n → (at < n) × (n ≤ length s)
-    wants-onward = each-onward (λ x. x) d s (wantedAt d s) wantedT law′ snoc array l at h
+  pub wanted-got : {p : Filter} {n : ℕ} → filterOn d s e ≡ got p n → localF p ≡ true → wantedOn d s e ≡ got (wantedOf p) n
+  unfolding wantedOn wantedIf
+  wanted-got w q = ap (λ g. bindG g (λ p n. place (wantedIf p) n)) w ∙ rw q refl
 
 -- what was read of an array, as what it means
 pub paths-opt : (g : Got (List Target)) → pathsRead g ≡ pathsOpt (optOf g)
@@ -150,9 +108,35 @@ pub filter-lacks-read : (g : Got Filter) → filterRead g ≡ filter.BadFilter �
 filter-lacks-read bad e = refl
 filter-lacks-read (got p n) e = never (cc)
 
-pub filter-has-read : (g : Got Filter) {p : Filter} {n : ℕ} → filterRead g ≡ filter.Filter p n → g ≡ got p n
+pub filter-has-read : (g : Got Filter) {p : Filter} {n : Cursor} → filterRead g ≡ filter.Filter p n → g ≡ got p (n .at)
 filter-has-read bad e = never (cc)
-filter-has-read (got q m) e = cc
+filter-has-read (got q m) {p} {n} e =
+    let f : q ≡ p = cc in
+    let k : m ≡ n .at = cc in
+    rw (f, k) refl
+
+-- what the reader of a member says
+pub asked-none : (g : Got Target) → askedRead g ≡ asked.NotAsked → g ≡ bad
+asked-none bad e = refl
+asked-none (got p n) e = never (cc)
+
+pub asked-some : (g : Got Target) {p : Target} {n : Cursor} → askedRead g ≡ asked.Asked p n → g ≡ got p (n .at)
+asked-some bad e = never (cc)
+asked-some (got q m) {p} {n} e =
+    let f : q ≡ p = cc in
+    let k : m ≡ n .at = cc in
+    rw (f, k) refl
+
+pub wanted-none : (g : Got Wanted) → wantedRead g ≡ wanted.NotWanted → g ≡ bad
+wanted-none bad e = refl
+wanted-none (got p n) e = never (cc)
+
+pub wanted-some : (g : Got Wanted) {p : Wanted} {n : Cursor} → wantedRead g ≡ wanted.Wanted p n → g ≡ got p (n .at)
+wanted-some bad e = never (cc)
+wanted-some (got q m) {p} {n} e =
+    let f : q ≡ p = cc in
+    let k : m ≡ n .at = cc in
+    rw (f, k) refl
 
 -- ---- the request, case by case for the code
 

@@ -4,6 +4,7 @@ use mathlib.Core.List.{List, [], _∷_, _++_}
 use mathlib.Core.Bool.{Bool, false}
 use lib.ListN.{length, set}
 use lib.Dec.{ltb, eqb}
+use Rattle.tlv.specs.declared.Element.{Element}
 use Rattle.tlv.specs.Octet.{pick, structure, array}
 use Rattle.tlv.specs.Tree.{Tree, Trees, maxDepth}
 use Rattle.tlv.specs.Tree.Tree.{primitive, container}
@@ -61,6 +62,11 @@ unfoldable pub listAt : {A : Type 0} → (ℕ → List ℕ → ℕ → Got A) �
 listAt read zero s at = bad
 listAt read (suc d) s at =
     headed bad (λ e. pick (eqb (e .kind) array) (foldAt (eachStep snoc (read d s)) (length s) s array [] (e .next .at)) bad) (headAt s at)
+
+-- of the element with this head
+unfoldable pub listOn : {A : Type 0} → (ℕ → List ℕ → ℕ → Got A) → ℕ → List ℕ → Element → Got (List A)
+listOn read zero s e = bad
+listOn read (suc d) s e = pick (eqb (e .kind) array) (foldAt (eachStep snoc (read d s)) (length s) s array [] (e .next .at)) bad
 
 -- where the members of the array at a place start
 unfoldable pub openedIn : List ℕ → ℕ → Opened

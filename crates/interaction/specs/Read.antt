@@ -16,13 +16,21 @@ use Rattle.members.specs.Scalar.{ABSENT, numberIn, flagIn, numberT, flagT}
 use Rattle.members.specs.Array.{eachStep, optionalIn, optionalT}
 use Rattle.blocks.specs.declared.Path.{Path}
 use Rattle.blocks.specs.declared.Filter.{Filter}
-use Rattle.blocks.specs.Path.{pathAt, pathT, askableP}
-use Rattle.blocks.specs.Filter.{filterAt, filterT}
+use Rattle.tlv.specs.declared.Element.{Element}
+use Rattle.interaction.specs.declared.AskedRead.{AskedRead}
+use Rattle.interaction.specs.declared.AskedRead.the-variants as asked
+use Rattle.interaction.specs.declared.WantedRead.{WantedRead}
+use Rattle.interaction.specs.declared.WantedRead.the-variants as wanted
+use Rattle.blocks.specs.Path.{pathOn, pathAt, pathT, askableP}
+use Rattle.blocks.specs.Filter.{filterOn, filterAt, filterT}
 use Rattle.interaction.specs.Message.{snoc, listT, listAt, firstOf, given, wholeIn, wholeT}
 use Rattle.interaction.specs.declared.Target.{Target}
 use Rattle.interaction.specs.declared.Paths.{Paths}
 use Rattle.interaction.specs.declared.Wanted.{Wanted}
 use Rattle.interaction.specs.declared.Wants.{Wants}
+use Rattle.interaction.specs.declared.WantList.{WantList}
+use Rattle.members.specs.declared.Pass.{Pass}
+use Rattle.members.specs.Pass.{numberBy, flagBy}
 use Rattle.interaction.specs.declared.ReadRequest.{ReadRequest}
 
 abbrev pub maxPaths : ℕ
@@ -43,6 +51,14 @@ askedOf p = pick (askableP p) (just (targetOf p)) nothing
 
 unfoldable pub askedAt : ℕ → List ℕ → ℕ → Got Target
 askedAt d s at = bindG (pathAt d s at) (λ p n. place (askedOf p) n)
+
+-- of the element with this head
+unfoldable pub askedOn : ℕ → List ℕ → Element → Got Target
+askedOn d s e = bindG (pathOn d s e) (λ p n. place (askedOf p) n)
+
+abbrev pub askedRead : Got Target → AskedRead
+askedRead bad = asked.NotAsked
+askedRead (got t n) = asked.Asked t (record { at = n })
 
 unfoldable pub askedT : Tree → Opt Target
 askedT t = bindO (pathT t) askedOf
@@ -81,6 +97,13 @@ wantedIf f = pick (localF f) (just (wantedOf f)) nothing
 unfoldable pub wantedAt : ℕ → List ℕ → ℕ → Got Wanted
 wantedAt d s at = bindG (filterAt d s at) (λ f n. place (wantedIf f) n)
 
+unfoldable pub wantedOn : ℕ → List ℕ → Element → Got Wanted
+wantedOn d s e = bindG (filterOn d s e) (λ f n. place (wantedIf f) n)
+
+abbrev pub wantedRead : Got Wanted → WantedRead
+wantedRead bad = wanted.NotWanted
+wantedRead (got t n) = wanted.Wanted t (record { at = n })
+
 unfoldable pub wantedT : Tree → Opt Wanted
 wantedT t = bindO (filterT t) wantedIf
 
@@ -96,6 +119,11 @@ wantsStruct l = record { good = true; count = length l; kept = firstOf maxFilter
 abbrev pub wantsRead : Got (List Wanted) → Wants
 wantsRead bad = record { good = false; count = 0; kept = replicate maxFilters unwanted }
 wantsRead (got l n) = wantsStruct l
+
+-- with where the array ends
+abbrev pub wantsEnd : Got (List Wanted) → WantList
+wantsEnd bad = record { wants = wantsRead bad; next = record { at = 0 } }
+wantsEnd (got l n) = record { wants = wantsStruct l; next = record { at = n } }
 
 abbrev pub wantsOpt : Opt (List Wanted) → Wants
 wantsOpt nothing = record { good = false; count = 0; kept = replicate maxFilters unwanted }
@@ -139,3 +167,19 @@ readRead (just r) = record {
   paths = pathsStruct (r .paths);
   filters = wantsStruct (r .filters);
 }
+
+-- by a pass over the request's members that has ended, with its filters
+abbrev pub withPaths : Wants → Opt (List Target) → ReadRequest
+withPaths fs nothing = readRead nothing
+withPaths fs (just p) = record { verdict = readVerdict (length p) (fs .count); paths = pathsStruct p; filters = fs }
+
+abbrev pub readMade : ℕ → ℕ → Opt (List Target) → Wants → ReadRequest
+readMade filtered revision ps fs = pick (given filtered) (pick (given revision) (withPaths fs ps) (readRead nothing)) (readRead nothing)
+
+unfoldable pub readBy : List ℕ → Pass → Wants → ReadRequest
+readBy s m fs =
+    pick (m .good)
+    (pick (eqb (m .head .next .at) (length s))
+    (readMade (flagBy (getD (m .codes) 3 0)) (numberBy 255 false (getD (m .codes) 9 0)) (optionalIn [] (listAt askedAt 9 s) (getD (m .at) 0 0)) fs)
+    (readRead nothing))
+    (readRead nothing)

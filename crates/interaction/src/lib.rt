@@ -5,16 +5,19 @@ ghost use Rattle.tlv.specs.Walk.Got.{bad};
 ghost use Rattle.tlv.specs.Decode.Opt.{nothing};
 ghost use Rattle.members.specs.Array.{optionalIn};
 ghost use Rattle.members.specs.Fields.{membersOf};
-ghost use Rattle.interaction.specs.Message.{messageAt, keepOf, listAt, openedIn};
+ghost use Rattle.interaction.specs.Message.{messageAt, keepOf, listAt, listOn, openedIn};
 ghost use Rattle.interaction.specs.Status.{responseIn, responseRead};
-ghost use Rattle.interaction.specs.Read.{targetOf, askedAt, pathsAt, pathsRead, pathsOpt, localF, wantedOf, wantedAt, wantsAt, wantsRead, wantsOpt, readVerdict, readIn, readRead};
+ghost use Rattle.interaction.specs.Read.{targetOf, askedAt, askedOn, askedRead, wantedOn, wantedRead, pathsAt, pathsRead, pathsOpt, localF, wantedOf, wantedAt, wantsAt, wantsRead, wantsEnd, readVerdict, readIn, readRead, readBy};
 use blocks::Filter;
 use blocks::FilterRead;
 use blocks::Path;
 use blocks::PathRead;
 use members::ABSENT;
+use members::Item;
 use members::Members;
+use members::Pass;
 use tlv::Cursor;
+use tlv::Element;
 use tlv::Head;
 
 // How many paths and filters of a read, and entries of a write, are kept.
@@ -132,13 +135,31 @@ fn no_paths() -> Paths
     }
 }
 
+// What a path of a read asks for.
+pub enum AskedRead {
+    Asked(Target, Cursor),
+    NotAsked,
+}
+
+fn asked_of(s: &[u8], e: Element, left: usize) -> AskedRead
+    ensures { λ r. ⌜ r ≡ askedRead (askedOn left (now (s .entry)) e) ⌝ }
+{
+    let PathRead::Path(p, next) = blocks::path_of(s, e, left) else {
+        return AskedRead::NotAsked;
+    };
+    if !blocks::askable(p) {
+        return AskedRead::NotAsked;
+    }
+    AskedRead::Asked(target_of(p), next)
+}
+
 // The kept paths with one more, if there is room.
-fn keep_path(kept: [Target; 16], count: usize, p: Path) -> [Target; 16]
-    ensures { λ r. ⌜ r ≡ keepOf 16 kept count (targetOf p) ⌝ }
+fn keep_path(kept: [Target; 16], count: usize, t: Target) -> [Target; 16]
+    ensures { λ r. ⌜ r ≡ keepOf 16 kept count t ⌝ }
 {
     let mut next = kept;
     if count < MAX_PATHS {
-        next[count] = target_of(p);
+        next[count] = t;
     }
     next
 }
@@ -151,30 +172,28 @@ pub fn paths_from(s: &[u8], c: Cursor, left: usize) -> Paths
     let mut kept = [NOWHERE; 16];
     let mut at = c.at;
     loop {
-        let here = Cursor { at };
-        let Head::Found(e) = here.head(s) else {
-            return no_paths();
-        };
-        if e.kind == tlv::END {
-            return Paths {
-                good: true,
-                count,
-                kept,
-            };
+        let item = members::item_at(s, Cursor { at }, tlv::ARRAY);
+        match item {
+            Item::BadItem => {
+                return no_paths();
+            }
+            Item::Ended(_) => {
+                return Paths {
+                    good: true,
+                    count,
+                    kept,
+                };
+            }
+            Item::Member(e) => {
+                let AskedRead::Asked(t, next) = asked_of(s, e, left) else {
+                    return no_paths();
+                };
+                let more = keep_path(kept, count, t);
+                kept = more;
+                count += 1;
+                at = next.at;
+            }
         }
-        if !tlv::allowed(tlv::ARRAY, e.form) {
-            return no_paths();
-        }
-        let PathRead::Path(p, next) = blocks::path_at(s, here, left) else {
-            return no_paths();
-        };
-        if !blocks::askable(p) {
-            return no_paths();
-        }
-        let more = keep_path(kept, count, p);
-        kept = more;
-        count += 1;
-        at = next;
     }
 }
 
@@ -263,17 +282,6 @@ fn wanted_of(f: Filter) -> Wanted
     }
 }
 
-// The kept filters with one more, if there is room.
-fn keep_filter(kept: [Wanted; 32], count: usize, f: Filter) -> [Wanted; 32]
-    ensures { λ r. ⌜ r ≡ keepOf 32 kept count (wantedOf f) ⌝ }
-{
-    let mut next = kept;
-    if count < MAX_FILTERS {
-        next[count] = wanted_of(f);
-    }
-    next
-}
-
 // A filter with no node in its path.
 fn is_local(f: Filter) -> bool
     ensures { λ r. ⌜ r ≡ localF f ⌝ }
@@ -282,58 +290,96 @@ fn is_local(f: Filter) -> bool
     path.node == ABSENT
 }
 
+// The filters of an array, and where it ends.
+pub struct WantList {
+    pub wants: Wants,
+    pub next: Cursor,
+}
+
+fn no_list() -> WantList
+    ensures { λ r. ⌜ r ≡ wantsEnd bad ⌝ }
+{
+    let wants = no_wants();
+    WantList {
+        wants,
+        next: Cursor { at: 0 },
+    }
+}
+
+// What a filter vouches for.
+pub enum WantedRead {
+    Wanted(Wanted, Cursor),
+    NotWanted,
+}
+
+fn wanted_at(s: &[u8], e: Element, left: usize) -> WantedRead
+    ensures { λ r. ⌜ r ≡ wantedRead (wantedOn left (now (s .entry)) e) ⌝ }
+{
+    let FilterRead::Filter(p, next) = blocks::filter_of(s, e, left) else {
+        return WantedRead::NotWanted;
+    };
+    if !is_local(p) {
+        return WantedRead::NotWanted;
+    }
+    WantedRead::Wanted(wanted_of(p), next)
+}
+
+// The kept filters with one more, if there is room.
+fn keep_filter(kept: [Wanted; 32], count: usize, f: Wanted) -> [Wanted; 32]
+    ensures { λ r. ⌜ r ≡ keepOf 32 kept count f ⌝ }
+{
+    let mut next = kept;
+    if count < MAX_FILTERS {
+        next[count] = f;
+    }
+    next
+}
+
 // The filters of an array from one of its members on: all are checked and counted, the first are kept.
-pub fn wants_from(s: &[u8], c: Cursor, left: usize) -> Wants
-    ensures { λ r. ⌜ r ≡ wantsRead (wantsAt left (now (s .entry)) (c .at)) ⌝ }
+pub fn wants_from(s: &[u8], c: Cursor, left: usize) -> WantList
+    ensures { λ r. ⌜ r ≡ wantsEnd (wantsAt left (now (s .entry)) (c .at)) ⌝ }
 {
     let mut count: usize = 0;
     let mut kept = [UNWANTED; 32];
     let mut at = c.at;
     loop {
-        let here = Cursor { at };
-        let Head::Found(e) = here.head(s) else {
-            return no_wants();
-        };
-        if e.kind == tlv::END {
-            return Wants {
-                good: true,
-                count,
-                kept,
-            };
+        let item = members::item_at(s, Cursor { at }, tlv::ARRAY);
+        match item {
+            Item::BadItem => {
+                return no_list();
+            }
+            Item::Ended(next) => {
+                let wants = Wants {
+                    good: true,
+                    count,
+                    kept,
+                };
+                return WantList { wants, next };
+            }
+            Item::Member(e) => {
+                let WantedRead::Wanted(t, next) = wanted_at(s, e, left) else {
+                    return no_list();
+                };
+                let more = keep_filter(kept, count, t);
+                kept = more;
+                count += 1;
+                at = next.at;
+            }
         }
-        if !tlv::allowed(tlv::ARRAY, e.form) {
-            return no_wants();
-        }
-        let FilterRead::Filter(p, next) = blocks::filter_at(s, here, left) else {
-            return no_wants();
-        };
-        if !is_local(p) {
-            return no_wants();
-        }
-        let more = keep_filter(kept, count, p);
-        kept = more;
-        count += 1;
-        at = next;
     }
 }
 
-// The filters of the array at a place; none where it is absent.
-fn optional_wants(s: &[u8], p: usize, left: usize) -> Wants
-    ensures { λ r. ⌜ r ≡ wantsOpt (optionalIn [] (listAt wantedAt left (now (s .entry))) p) ⌝ }
+// The filters of the array whose head was read.
+fn wants_of(s: &[u8], e: Element, left: usize) -> WantList
+    ensures { λ r. ⌜ r ≡ wantsEnd (listOn wantedAt left (now (s .entry)) e) ⌝ }
 {
-    if p == 0 {
-        return Wants {
-            good: true,
-            count: 0,
-            kept: [UNWANTED; 32],
-        };
+    if e.kind != tlv::ARRAY {
+        return no_list();
     }
     if left == 0 {
-        return no_wants();
+        return no_list();
     }
-    let Opened::Members(c) = open_array(s, p) else {
-        return no_wants();
-    };
+    let c = e.next;
     wants_from(s, c, left - 1)
 }
 
@@ -380,21 +426,51 @@ fn read_verdict(paths: usize, filters: usize) -> u64
     0
 }
 
-// ReadRequestMessage: paths (tag 0), FabricFiltered (tag 3), filters (tag 4) and the revision.
-pub fn read_request(s: &[u8]) -> ReadRequest
-    ensures { λ r. ⌜ r ≡ readRead (readIn (now (s .entry))) ⌝ }
+const NO_STOP: [bool; 10] = [
+    false,
+    false,
+    false,
+    false,
+    false,
+    false,
+    false,
+    false,
+    false,
+    false,
+];
+
+const FIFTH: [bool; 10] = [
+    false,
+    false,
+    false,
+    false,
+    true,
+    false,
+    false,
+    false,
+    false,
+    false,
+];
+
+// The request whose members were passed, with these filters.
+fn read_of(s: &[u8], m: Pass, filters: Wants) -> ReadRequest
+    ensures { λ r. ⌜ r ≡ readBy (now (s .entry)) m filters ⌝ }
 {
-    let listed = READ;
-    let m = message(s, &listed);
     if !m.good {
         return refused_read();
     }
+    let end = m.head;
+    let next = end.next;
+    if next.at != s.len() {
+        return refused_read();
+    }
+    let k = m.codes;
     let a = m.at;
-    let filtered = members::flag_at(s, a[3]);
+    let filtered = members::flag_by(k[3]);
     if ABSENT <= filtered {
         return refused_read();
     }
-    let revision = members::number_at(s, a[9], 255, false);
+    let revision = members::number_by(k[9], 255, false);
     if ABSENT <= revision {
         return refused_read();
     }
@@ -402,13 +478,57 @@ pub fn read_request(s: &[u8]) -> ReadRequest
     if !paths.good {
         return refused_read();
     }
-    let filters = optional_wants(s, a[4], tlv::MAX_DEPTH - 1);
-    if !filters.good {
-        return refused_read();
-    }
     ReadRequest {
         verdict: read_verdict(paths.count, filters.count),
         paths,
         filters,
     }
+}
+
+// ReadRequestMessage: paths (tag 0), FabricFiltered (tag 3), filters (tag 4) and the revision.
+pub fn read_request(s: &[u8]) -> ReadRequest
+    ensures { λ r. ⌜ r ≡ readRead (readIn (now (s .entry))) ⌝ }
+{
+    let start = Cursor { at: 0 };
+    let Head::Found(e) = start.head(s) else {
+        return refused_read();
+    };
+    if e.form != 0 {
+        return refused_read();
+    }
+    let listed = READ;
+    let stops = FIFTH;
+    let m = members::begin(s, e, tlv::MAX_DEPTH, tlv::STRUCTURE, &listed, &stops);
+    if !m.good {
+        return refused_read();
+    }
+    if 10 <= m.slot {
+        return read_of(
+            s,
+            m,
+            Wants {
+                good: true,
+                count: 0,
+                kept: [UNWANTED; 32],
+            },
+        );
+    }
+    let inner = m.head;
+    let f = wants_of(s, inner, tlv::MAX_DEPTH - 1);
+    let wants = f.wants;
+    if !wants.good {
+        return refused_read();
+    }
+    let after = f.next;
+    let never = NO_STOP;
+    let z = members::resume(
+        s,
+        after,
+        tlv::MAX_DEPTH - 1,
+        tlv::STRUCTURE,
+        &listed,
+        &never,
+        m,
+    );
+    read_of(s, z, wants)
 }

@@ -7,6 +7,7 @@ use native.Mathlib.Omega.{arith}
 use lib.ListN.{length}
 use lib.Dec.{eqb}
 use borrow.Author.Tests.{ne-eqb}
+use Rattle.tlv.specs.declared.Cursor.{Cursor}
 use Rattle.tlv.specs.declared.Element.{Element}
 use Rattle.tlv.specs.declared.Head.{Head}
 use Rattle.tlv.specs.declared.Head.the-variants.{Found, Malformed}
@@ -84,9 +85,12 @@ pub answer-lacks : (g : Got Answer) → answerRead g ≡ answer-read.BadAnswer �
 answer-lacks bad e = refl
 answer-lacks (got x n) e = never (cc)
 
-pub answer-has : (g : Got Answer) {x : Answer} {n : ℕ} → answerRead g ≡ answer-read.Answer x n → g ≡ got x n
+pub answer-has : (g : Got Answer) {x : Answer} {n : Cursor} → answerRead g ≡ answer-read.Answer x n → g ≡ got x (n .at)
 answer-has bad e = never (cc)
-answer-has (got x m) e = cc
+answer-has (got y m) {x} {n} e =
+    let f : y ≡ x = cc in
+    let k : m ≡ n .at = cc in
+    rw (f, k) refl
 
 module _ (d : ℕ) (s : List ℕ) (at : ℕ) where
   law : (p : ℕ) → mapG (λ x. x) (answerAt d s p) ≡ bindG (treeAt d s p) (λ t n. place (answerT t) n)

@@ -31,10 +31,9 @@ fn one_from(s: &[u8], c: Cursor, left: usize) -> Answered
     if !tlv::allowed(tlv::ARRAY, e.form) {
         return Answered::NotOne;
     }
-    let AnswerRead::Answer(x, next) = blocks::answer_at(s, c, left) else {
+    let AnswerRead::Answer(x, after) = blocks::answer_of(s, e, left) else {
         return Answered::NotOne;
     };
-    let after = Cursor { at: next };
     let Head::Found(f) = after.head(s) else {
         return Answered::NotOne;
     };

@@ -1,4 +1,4 @@
 pub mod BlocksLaws
-pub mod PartLaws
 pub mod MeaningLaws
 pub mod FirstLaws
+pub mod PassLaws

@@ -12,6 +12,8 @@ use Rattle.tlv.specs.Decode.{Opt, bindO}
 use Rattle.tlv.specs.Decode.Opt.{just, nothing}
 use Rattle.members.specs.Fields.{Slot}
 use Rattle.members.specs.Fields.Slot.{absent}
+use Rattle.members.specs.declared.Pass.{Pass}
+use Rattle.members.specs.Pass.{numberBy, flagBy}
 use Rattle.members.specs.Scalar.{WRONG, numberIn, flagIn, numberT, flagT}
 use Rattle.members.specs.Array.{eachStep, optionalIn, optionalT}
 use Rattle.blocks.specs.Data.{ReportOf, reportAt, reportT, reportTree}
@@ -28,12 +30,8 @@ unfoldable pub blocksAt : ℕ → List ℕ → ℕ → Got (List (ReportOf ℕ))
 blocksAt d s at = blocksFrom d s [] at
 
 abbrev pub countRead : Got (List (ReportOf ℕ)) → Count
-countRead bad = record { good = false; blocks = 0 }
-countRead (got l n) = record { good = true; blocks = length l }
-
-abbrev pub countOpt : Opt (List (ReportOf ℕ)) → Count
-countOpt nothing = record { good = false; blocks = 0 }
-countOpt (just l) = record { good = true; blocks = length l }
+countRead bad = record { good = false; blocks = 0; next = record { at = 0 } }
+countRead (got l n) = record { good = true; blocks = length l; next = record { at = n } }
 
 abbrev pub firstOpened : Opened → ℕ
 firstOpened NotArray = 0
@@ -78,6 +76,22 @@ partIn s = wholeIn partTags (partFrom s) s
 abbrev pub partRead : Opt PartAt → Part
 partRead nothing = record { good = false; more = 0; blocks = 0; first = 0 }
 partRead (just p) = record { good = true; more = p .part .more; blocks = length (p .part .blocks); first = p .first }
+
+-- by a pass over the message's members that has ended, with so many blocks from a place on
+abbrev pub partMade : ℕ → ℕ → ℕ → ℕ → ℕ → ℕ → Part
+partMade subscription more suppress revision blocks first =
+    pick (eqb subscription WRONG) (partRead nothing)
+    (pick (eqb more WRONG) (partRead nothing)
+    (pick (eqb suppress WRONG) (partRead nothing)
+    (pick (given revision) (record { good = true; more = more; blocks = blocks; first = first }) (partRead nothing))))
+
+unfoldable pub partBy : ℕ → Pass → ℕ → ℕ → Part
+partBy len m blocks first =
+    pick (m .good)
+    (pick (eqb (m .head .next .at) len)
+    (partMade (numberBy 4294967295 false (getD (m .codes) 0 0)) (flagBy (getD (m .codes) 3 0)) (flagBy (getD (m .codes) 4 0)) (numberBy 255 false (getD (m .codes) 9 0)) blocks first)
+    (partRead nothing))
+    (partRead nothing)
 
 -- IN TREES
 unfoldable pub partSlots : List Slot → Opt (PartOf Tree)

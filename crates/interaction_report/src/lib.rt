@@ -1,23 +1,24 @@
 // Report Data, read to its meaning (chapter 10, section 10.6.3; document 01, Spelling and The panel).
 ghost use mathlib.Core.Path.{_≡_};
-ghost use mathlib.Core.List.{[]};
 ghost use Rattle.tlv.specs.Walk.Got.{bad};
 ghost use Rattle.tlv.specs.Decode.Opt.{nothing};
-ghost use Rattle.members.specs.Array.{optionalIn};
 ghost use Rattle.blocks.specs.Data.{reportAt};
-ghost use Rattle.interaction.specs.Message.{listAt};
-ghost use Rattle.interaction_report.specs.Report.{blocksAt, countRead, countOpt, firstIn, partIn, partRead};
+ghost use Rattle.interaction.specs.Message.{listOn};
+ghost use Rattle.interaction_report.specs.Report.{blocksAt, countRead, partIn, partRead, partBy};
 use blocks::ReportRead;
-use interaction::Opened;
 use members::ABSENT;
+use members::Item;
+use members::Pass;
 use members::WRONG;
 use tlv::Cursor;
+use tlv::Element;
 use tlv::Head;
 
 // How many blocks an array holds, all of which are well formed.
 pub struct Count {
     pub good: bool,
     pub blocks: usize,
+    pub next: Cursor,
 }
 
 fn no_count() -> Count
@@ -26,6 +27,7 @@ fn no_count() -> Count
     Count {
         good: false,
         blocks: 0,
+        next: Cursor { at: 0 },
     }
 }
 
@@ -36,51 +38,41 @@ pub fn blocks_from(s: &[u8], c: Cursor, left: usize) -> Count
     let mut blocks: usize = 0;
     let mut at = c.at;
     loop {
-        let here = Cursor { at };
-        let Head::Found(e) = here.head(s) else {
-            return no_count();
-        };
-        if e.kind == tlv::END {
-            return Count { good: true, blocks };
+        let item = members::item_at(s, Cursor { at }, tlv::ARRAY);
+        match item {
+            Item::BadItem => {
+                return no_count();
+            }
+            Item::Ended(next) => {
+                return Count {
+                    good: true,
+                    blocks,
+                    next,
+                };
+            }
+            Item::Member(e) => {
+                let ReportRead::Report(_, next) = blocks::report_of(s, e, left) else {
+                    return no_count();
+                };
+                blocks += 1;
+                at = next.at;
+            }
         }
-        if !tlv::allowed(tlv::ARRAY, e.form) {
-            return no_count();
-        }
-        let ReportRead::Report(_, next) = blocks::report_at(s, here, left) else {
-            return no_count();
-        };
-        blocks += 1;
-        at = next;
     }
 }
 
-// The blocks of the array at a place; none where it is absent.
-fn optional_blocks(s: &[u8], p: usize, left: usize) -> Count
-    ensures { λ r. ⌜ r ≡ countOpt (optionalIn [] (listAt reportAt left (now (s .entry))) p) ⌝ }
+// The blocks of the array whose head was read.
+fn blocks_of(s: &[u8], e: Element, left: usize) -> Count
+    ensures { λ r. ⌜ r ≡ countRead (listOn reportAt left (now (s .entry)) e) ⌝ }
 {
-    if p == 0 {
-        return Count {
-            good: true,
-            blocks: 0,
-        };
+    if e.kind != tlv::ARRAY {
+        return no_count();
     }
     if left == 0 {
         return no_count();
     }
-    let Opened::Members(c) = interaction::open_array(s, p) else {
-        return no_count();
-    };
+    let c = e.next;
     blocks_from(s, c, left - 1)
-}
-
-// Where the first member of the array at a place stands; 0 where there is none.
-fn first_at(s: &[u8], p: usize) -> usize
-    ensures { λ r. ⌜ r ≡ firstIn (now (s .entry)) p ⌝ }
-{
-    let Opened::Members(c) = interaction::open_array(s, p) else {
-        return 0;
-    };
-    c.at
 }
 
 // A part of a report: whether more is promised (1), how many blocks it holds, and where the first stands.
@@ -115,20 +107,23 @@ fn no_part() -> Part
     }
 }
 
-// ReportDataMessage: SubscriptionID (tag 0), blocks (1), MoreChunkedMessages (3), SuppressResponse (4) and the revision.
-pub fn report_data(s: &[u8]) -> Part
-    ensures { λ r. ⌜ r ≡ partRead (partIn (now (s .entry))) ⌝ }
+// The part whose members were passed, with so many blocks from a place on.
+fn part_of(len: usize, m: Pass, blocks: usize, first: usize) -> Part
+    ensures { λ r. ⌜ r ≡ partBy len m blocks first ⌝ }
 {
-    let listed = REPORT;
-    let m = interaction::message(s, &listed);
     if !m.good {
         return no_part();
     }
-    let a = m.at;
-    let subscription = members::number_at(s, a[0], 4294967295, false);
-    let more = members::flag_at(s, a[3]);
-    let suppress = members::flag_at(s, a[4]);
-    let revision = members::number_at(s, a[9], 255, false);
+    let end = m.head;
+    let next = end.next;
+    if next.at != len {
+        return no_part();
+    }
+    let k = m.codes;
+    let subscription = members::number_by(k[0], 4294967295, false);
+    let more = members::flag_by(k[3]);
+    let suppress = members::flag_by(k[4]);
+    let revision = members::number_by(k[9], 255, false);
     if subscription == WRONG {
         return no_part();
     }
@@ -141,15 +136,76 @@ pub fn report_data(s: &[u8]) -> Part
     if ABSENT <= revision {
         return no_part();
     }
-    let n = optional_blocks(s, a[1], tlv::MAX_DEPTH - 1);
-    if !n.good {
-        return no_part();
-    }
-    let first = first_at(s, a[1]);
     Part {
         good: true,
         more,
-        blocks: n.blocks,
+        blocks,
         first,
     }
+}
+
+const NOWHERE: [bool; 10] = [
+    false,
+    false,
+    false,
+    false,
+    false,
+    false,
+    false,
+    false,
+    false,
+    false,
+];
+
+const SECOND: [bool; 10] = [
+    false,
+    true,
+    false,
+    false,
+    false,
+    false,
+    false,
+    false,
+    false,
+    false,
+];
+
+// ReportDataMessage: SubscriptionID (tag 0), blocks (1), MoreChunkedMessages (3), SuppressResponse (4) and the revision.
+pub fn report_data(s: &[u8]) -> Part
+    ensures { λ r. ⌜ r ≡ partRead (partIn (now (s .entry))) ⌝ }
+{
+    let start = Cursor { at: 0 };
+    let Head::Found(e) = start.head(s) else {
+        return no_part();
+    };
+    if e.form != 0 {
+        return no_part();
+    }
+    let listed = REPORT;
+    let stops = SECOND;
+    let m = members::begin(s, e, tlv::MAX_DEPTH, tlv::STRUCTURE, &listed, &stops);
+    if !m.good {
+        return no_part();
+    }
+    if 10 <= m.slot {
+        return part_of(s.len(), m, 0, 0);
+    }
+    let inner = m.head;
+    let n = blocks_of(s, inner, tlv::MAX_DEPTH - 1);
+    if !n.good {
+        return no_part();
+    }
+    let after = n.next;
+    let never = NOWHERE;
+    let z = members::resume(
+        s,
+        after,
+        tlv::MAX_DEPTH - 1,
+        tlv::STRUCTURE,
+        &listed,
+        &never,
+        m,
+    );
+    let first = inner.next;
+    part_of(s.len(), z, n.blocks, first.at)
 }

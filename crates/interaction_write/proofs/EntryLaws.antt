@@ -1,27 +1,26 @@
 -- The entries of a write: THE LAW that what is read is the meaning of the trees there, and the loop case by case for the code.
 use mathlib.Core.Path.{_≡_, refl, ap, _∙_}
 use mathlib.Core.Bool.{Bool, true, false}
-use mathlib.Core.List.{List, [], _∷_, map}
-use Prim.Native.Nat.{ℕ, _-_, _<_, _≤_}
-use lib.ListN.{length, length-map}
+use mathlib.Core.List.{List}
+use Prim.Native.Nat.{ℕ, _-_}
 use Rattle.tlv.specs.declared.Element.{Element}
-use Rattle.tlv.specs.declared.Head.the-variants.{Found, Malformed}
-use Rattle.tlv.specs.Octet.{pick, array, endOfContainer}
+use Rattle.tlv.specs.Octet.{pick}
 use Rattle.tlv.specs.Tree.{Tree}
-use Rattle.tlv.specs.Head.{headAt}
-use Rattle.tlv.specs.Walk.{Got, mapG, bindG, allowedIn}
+use Rattle.tlv.specs.Walk.{Got, mapG, bindG}
 use Rattle.tlv.specs.Walk.Got.{got, bad}
 use Rattle.tlv.specs.Decode.{Opt, bindO, place, treeAt}
 use Rattle.tlv.specs.Decode.Opt.{just, nothing}
 use Rattle.members.specs.Array.{mapO}
-use Rattle.members.proofs.ArrayLaws.{each-none, each-ends, each-barred, each-breaks, each-on, each-onward}
+use native.Mathlib.Omega.{arith}
+use Rattle.tlv.specs.declared.Cursor.{Cursor}
+use Rattle.members.proofs.PassLaws.{Reads, then-reads}
+use Rattle.blocks.proofs.OnLaws.{data-reads}
+use Rattle.interaction_write.specs.declared.EntryRead.the-variants as entry
 use Rattle.blocks.specs.Path.{exactP}
-use Rattle.blocks.specs.Data.{DataOf, dataAt, dataT, dataTree}
+use Rattle.blocks.specs.Data.{DataOf, dataAt, dataOn, dataT, dataTree}
 use Rattle.blocks.proofs.DataLaws.{data-law}
-use Rattle.interaction.specs.Message.{snoc, firstOf, keepOf}
-use Rattle.interaction.proofs.KeepLaws.{keep-one}
 use Rattle.interaction_write.specs.declared.Entry.{Entry}
-use Rattle.interaction_write.specs.Write.{EntryOf, entryFor, entryIf, entryAt, entryT, entriesFrom, entryStruct, noEntry, entryTree}
+use Rattle.interaction_write.specs.Write.{EntryOf, entryFor, entryIf, entryAt, entryOn, entryRead, entryT, entryStruct, entryTree}
 
 -- ---- the law of an entry
 
@@ -60,60 +59,41 @@ entry-law d s at =
     ∙ ap (λ g. bindG g (λ x n. place (entryIf x) n)) (data-law d s at)
     ∙ bind-bind (treeAt d s at)
 
--- ---- the loop
+-- ---- for the code
 
-module _ (d : ℕ) (s : List ℕ) (l : List (EntryOf ℕ)) (at : ℕ) where
-  pub entry-bad : dataAt d s at ≡ bad → entryAt d s at ≡ bad
-  unfolding entryAt
-  entry-bad e = ap (λ g. bindG g (λ x n. place (entryIf x) n)) e
+pub entry-reads : (d : ℕ) (s : List ℕ) → Reads d s (entryAt d s) (entryOn d s)
+unfolding entryAt entryOn
+entry-reads d s = then-reads d s entryIf (data-reads d s)
 
-  pub entry-inexact : {x : DataOf ℕ} {n : ℕ} → dataAt d s at ≡ got x n → exactP (x .path) ≡ false → entryAt d s at ≡ bad
-  unfolding entryAt
-  entry-inexact {x} {n} e q = ap (λ g. bindG g (λ x n. place (entryIf x) n)) e ∙ rw q refl
+module _ (d : ℕ) (s : List ℕ) (e : Element) where
+  pub entry-bad : dataOn d s e ≡ bad → entryOn d s e ≡ bad
+  unfolding entryOn
+  entry-bad w = ap (λ g. bindG g (λ x n. place (entryIf x) n)) w
 
-  pub entry-got : {x : DataOf ℕ} {n : ℕ} → dataAt d s at ≡ got x n → exactP (x .path) ≡ true → entryAt d s at ≡ got (entryFor x) n
-  unfolding entryAt
-  entry-got {x} {n} e q = ap (λ g. bindG g (λ x n. place (entryIf x) n)) e ∙ rw q refl
+  pub entry-inexact : {x : DataOf ℕ} {n : ℕ} → dataOn d s e ≡ got x n → exactP (x .path) ≡ false → entryOn d s e ≡ bad
+  unfolding entryOn
+  entry-inexact w q = ap (λ g. bindG g (λ x n. place (entryIf x) n)) w ∙ rw q refl
 
-  pub entries-none : headAt s at ≡ Malformed → entriesFrom d s l at ≡ bad
-  unfolding entriesFrom
-  entries-none = each-none (entryTree (d - 1) s) d s (entryAt d s) entryT (entry-law d s) snoc array l at
+  pub entry-got : {x : DataOf ℕ} {n : ℕ} → dataOn d s e ≡ got x n → exactP (x .path) ≡ true → entryOn d s e ≡ got (entryFor x) n
+  unfolding entryOn
+  entry-got w q = ap (λ g. bindG g (λ x n. place (entryIf x) n)) w ∙ rw q refl
 
-  module _ {e : Element} (h : headAt s at ≡ Found e) where
-    pub entries-ends : e .kind ≡ endOfContainer → entriesFrom d s l at ≡ got l (e .next .at)
-    unfolding entriesFrom
-    entries-ends = each-ends (entryTree (d - 1) s) d s (entryAt d s) entryT (entry-law d s) snoc array l at h
+-- what the reader of an entry says
+never : {A : Type 0} → _≡_ {A = ℕ} 0 1 → A
+never e = absurd (omega arith)
 
-    pub entries-barred : (e .kind ≡ endOfContainer → ⊥) → allowedIn array (e .form) ≡ false → entriesFrom d s l at ≡ bad
-    unfolding entriesFrom
-    entries-barred = each-barred (entryTree (d - 1) s) d s (entryAt d s) entryT (entry-law d s) snoc array l at h
+pub entry-none : (g : Got (EntryOf ℕ)) → entryRead g ≡ entry.NoEntry → g ≡ bad
+entry-none bad e = refl
+entry-none (got x n) e = never (cc)
 
-    pub entries-breaks : (e .kind ≡ endOfContainer → ⊥) → allowedIn array (e .form) ≡ true → entryAt d s at ≡ bad → entriesFrom d s l at ≡ bad
-    unfolding entriesFrom
-    entries-breaks = each-breaks (entryTree (d - 1) s) d s (entryAt d s) entryT (entry-law d s) snoc array l at h
+pub record Read (g : Got (EntryOf ℕ)) (t : Entry) (n : ℕ) : Type 0 where
+  pub value : EntryOf ℕ
+  pub is : t ≡ entryStruct value
+  pub found : g ≡ got value n
 
-    pub entries-on : {x : EntryOf ℕ} {n : ℕ} → (e .kind ≡ endOfContainer → ⊥) → allowedIn array (e .form) ≡ true → entryAt d s at ≡ got x n → entriesFrom d s l at ≡ entriesFrom d s (snoc l x) n
-    unfolding entriesFrom
-    entries-on = each-on (entryTree (d - 1) s) d s (entryAt d s) entryT (entry-law d s) snoc array l at h
-
-    pub entries-onward : {x : EntryOf ℕ} {n : ℕ} → entryAt d s at ≡ got x n → (at < n) × (n ≤ length s)
-    entries-onward = each-onward (entryTree (d - 1) s) d s (entryAt d s) entryT (entry-law d s) snoc array l at h
-
--- what the loop knows: some list of entries that it has seen, from which its definition goes on
-pub record Seen (Goes : List (EntryOf ℕ) → ℕ → Type 0) (count : ℕ) (places : List Entry) (at : ℕ) : Type 0 where
-  pub list : List (EntryOf ℕ)
-  pub counted : count ≡ length list
-  pub kept : places ≡ firstOf 16 noEntry (map entryStruct list)
-  pub below : count ≤ at
-  pub goes-on : Goes list at
-
-map-snoc : {A B : Type 0} (f : A → B) (l : List A) (a : A) → map f (snoc l a) ≡ snoc (map f l) (f a)
-map-snoc f [] a = refl
-map-snoc f (x ∷ l) a = ap (λ r. f x ∷ r) (map-snoc f l a)
-
--- one entry more is one more kept, if there is room
-pub keep-entry-one : (l : List (EntryOf ℕ)) (x : EntryOf ℕ) → firstOf 16 noEntry (map entryStruct (snoc l x)) ≡ keepOf 16 (firstOf 16 noEntry (map entryStruct l)) (length l) (entryStruct x)
-keep-entry-one l x =
-    ap (firstOf 16 noEntry) (map-snoc entryStruct l x)
-    ∙ keep-one 16 noEntry (map entryStruct l) (entryStruct x)
-    ∙ ap (λ n. keepOf 16 (firstOf 16 noEntry (map entryStruct l)) n (entryStruct x)) (length-map l entryStruct)
+pub entry-some : (g : Got (EntryOf ℕ)) {t : Entry} {n : Cursor} → entryRead g ≡ entry.Entry t n → Read g t (n .at)
+entry-some bad e = never (cc)
+entry-some (got x m) {t} {n} e =
+    let f : t ≡ entryStruct x = cc in
+    let k : m ≡ n .at = cc in
+    record { value = x; is = f; found = ap (got x) k }

@@ -17,8 +17,11 @@ use Rattle.members.specs.Scalar.{ABSENT, numberIn, flagIn, numberT, flagT}
 use Rattle.members.specs.Array.{eachStep, requiredIn, requiredT}
 use Rattle.blocks.specs.declared.Data.{Data}
 use Rattle.blocks.specs.Path.{exactP}
-use Rattle.blocks.specs.Data.{DataOf, dataAt, dataT}
+use Rattle.blocks.specs.Data.{DataOf, dataOn, dataAt, dataT}
 use Rattle.interaction.specs.Message.{snoc, listT, listAt, firstOf, given, wholeIn, wholeT}
+use Rattle.tlv.specs.declared.Element.{Element}
+use Rattle.interaction_write.specs.declared.EntryRead.{EntryRead}
+use Rattle.interaction_write.specs.declared.EntryRead.the-variants as entry
 use Rattle.interaction_write.specs.declared.Entry.{Entry}
 use Rattle.interaction_write.specs.declared.Entries.{Entries}
 use Rattle.interaction_write.specs.declared.WriteRequest.{WriteRequest}
@@ -50,6 +53,10 @@ entryIf x = pick (exactP (x .path)) (just (entryFor x)) nothing
 unfoldable pub entryAt : ℕ → List ℕ → ℕ → Got (EntryOf ℕ)
 entryAt d s at = bindG (dataAt d s at) (λ x n. place (entryIf x) n)
 
+-- of the element with this head
+unfoldable pub entryOn : ℕ → List ℕ → Element → Got (EntryOf ℕ)
+entryOn d s e = bindG (dataOn d s e) (λ x n. place (entryIf x) n)
+
 unfoldable pub entryT : Tree → Opt (EntryOf Tree)
 entryT t = bindO (dataT t) entryIf
 
@@ -62,6 +69,10 @@ entriesAt d s at = entriesFrom d s [] at
 -- as the code has them
 abbrev pub entryStruct : EntryOf ℕ → Entry
 entryStruct x = record { version = x .version; endpoint = x .endpoint; cluster = x .cluster; attribute = x .attribute; place = x .element }
+
+abbrev pub entryRead : Got (EntryOf ℕ) → EntryRead
+entryRead bad = entry.NoEntry
+entryRead (got x n) = entry.Entry (entryStruct x) (record { at = n })
 
 abbrev pub entryOf : Data → Entry
 entryOf d = record { version = d .version; endpoint = d .path .endpoint; cluster = d .path .cluster; attribute = d .path .attribute; place = d .place }

@@ -5,13 +5,14 @@ ghost use Rattle.tlv.specs.Decode.Opt.{nothing};
 ghost use Rattle.members.specs.Array.{requiredIn};
 ghost use Rattle.blocks.specs.Data.{DataOf};
 ghost use Rattle.interaction.specs.Message.{keepOf, listAt};
-ghost use Rattle.interaction_write.specs.Write.{entryOf, entryAt, entriesAt, entriesRead, entriesOpt, unchunked, writeVerdict, writeIn, writeRead};
+ghost use Rattle.interaction_write.specs.Write.{entryOf, entryAt, entryOn, entryRead, entriesAt, entriesRead, entriesOpt, unchunked, writeVerdict, writeIn, writeRead};
 use blocks::Data;
 use blocks::DataRead;
 use interaction::Opened;
 use members::ABSENT;
+use members::Item;
 use tlv::Cursor;
-use tlv::Head;
+use tlv::Element;
 
 // How many entries of a write are kept.
 pub const MAX_WRITES: usize = 16;
@@ -63,13 +64,32 @@ fn entry_of(d: Data) -> Entry
     }
 }
 
+// An entry of a write that names one attribute.
+pub enum EntryRead {
+    Entry(Entry, Cursor),
+    NoEntry,
+}
+
+fn entry_at(s: &[u8], e: Element, left: usize) -> EntryRead
+    ensures { λ r. ⌜ r ≡ entryRead (entryOn left (now (s .entry)) e) ⌝ }
+{
+    let DataRead::Data(p, next) = blocks::data_of(s, e, left) else {
+        return EntryRead::NoEntry;
+    };
+    let path = p.path;
+    if !blocks::exact(path) {
+        return EntryRead::NoEntry;
+    }
+    EntryRead::Entry(entry_of(p), next)
+}
+
 // The kept entries with one more, if there is room.
-fn keep_entry(kept: [Entry; 16], count: usize, d: Data) -> [Entry; 16]
-    ensures { λ r. ⌜ r ≡ keepOf 16 kept count (entryOf d) ⌝ }
+fn keep_entry(kept: [Entry; 16], count: usize, x: Entry) -> [Entry; 16]
+    ensures { λ r. ⌜ r ≡ keepOf 16 kept count x ⌝ }
 {
     let mut next = kept;
     if count < MAX_WRITES {
-        next[count] = entry_of(d);
+        next[count] = x;
     }
     next
 }
@@ -82,31 +102,28 @@ pub fn entries_from(s: &[u8], c: Cursor, left: usize) -> Entries
     let mut kept = [NO_ENTRY; 16];
     let mut at = c.at;
     loop {
-        let here = Cursor { at };
-        let Head::Found(e) = here.head(s) else {
-            return no_entries();
-        };
-        if e.kind == tlv::END {
-            return Entries {
-                good: true,
-                count,
-                kept,
-            };
+        let item = members::item_at(s, Cursor { at }, tlv::ARRAY);
+        match item {
+            Item::BadItem => {
+                return no_entries();
+            }
+            Item::Ended(_) => {
+                return Entries {
+                    good: true,
+                    count,
+                    kept,
+                };
+            }
+            Item::Member(e) => {
+                let EntryRead::Entry(t, next) = entry_at(s, e, left) else {
+                    return no_entries();
+                };
+                let more = keep_entry(kept, count, t);
+                kept = more;
+                count += 1;
+                at = next.at;
+            }
         }
-        if !tlv::allowed(tlv::ARRAY, e.form) {
-            return no_entries();
-        }
-        let DataRead::Data(p, next) = blocks::data_at(s, here, left) else {
-            return no_entries();
-        };
-        let path = p.path;
-        if !blocks::exact(path) {
-            return no_entries();
-        }
-        let more = keep_entry(kept, count, p);
-        kept = more;
-        count += 1;
-        at = next;
     }
 }
 

@@ -3,3 +3,5 @@ pub mod FieldLaws
 pub mod MeaningLaws
 pub mod ArrayLaws
 pub mod OrderLaws
+pub mod PassLaws
+pub mod ItemLaws

@@ -1,3 +1,5 @@
 pub mod Fields
 pub mod Scalar
 pub mod Array
+pub mod Pass
+pub mod Item

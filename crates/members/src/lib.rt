@@ -1,9 +1,15 @@
 // The listed members of a container: one loop for all schemas, which says where each stands.
 ghost use mathlib.Core.Path.{_≡_};
 ghost use Rattle.tlv.specs.Walk.Got.{bad};
-ghost use Rattle.members.specs.Fields.{slotOf, fieldsAt, insideAt, membersOf};
+ghost use Rattle.members.specs.Fields.{slotOf, fieldsFrom, fieldsAt, insideAt, membersOf};
 ghost use Rattle.members.specs.Scalar.{numberOf, numberIn, flagIn, wideIn};
+ghost use Rattle.members.specs.Pass.{noPass, insideOn, resumed, Stopped, Passed, codeOf, codeIn, numberBy, flagBy, wideBy};
+ghost use Rattle.members.specs.Item.{itemAt};
+ghost use mathlib.Core.List.{map};
+ghost use lib.ListN.{replicate};
+ghost use Prim.Native.Nat.{_-_};
 use tlv::Cursor;
+use tlv::Element;
 use tlv::Head;
 use tlv::Walk;
 
@@ -181,4 +187,226 @@ pub fn wide_at(s: &[u8], p: usize) -> u64
         return WRONG;
     }
     0
+}
+
+// A pass over the members of a container, so far: whether it is well formed; the slot of the member where it stopped, or 10 at the
+// container's end; the head that it read last; where each listed member stands, plus one; and each one's scalar as a code.
+pub struct Pass {
+    pub good: bool,
+    pub slot: usize,
+    pub head: Element,
+    pub at: [usize; 10],
+    pub codes: [u64; 10],
+}
+
+const NO_ELEMENT: Element = Element {
+    form: 0,
+    kind: 0,
+    tag: 0,
+    number: 0,
+    body: 0,
+    next: Cursor { at: 0 },
+};
+
+fn refused() -> Pass
+    ensures { λ r. ⌜ r ≡ noPass ⌝ }
+{
+    Pass {
+        good: false,
+        slot: 10,
+        head: NO_ELEMENT,
+        at: [0usize; 10],
+        codes: [0u64; 10],
+    }
+}
+
+// The code of a scalar.
+fn code_of(kind: u8, n: u64) -> u64
+    ensures { λ r. ⌜ r ≡ codeOf kind n ⌝ }
+{
+    if kind == 20 {
+        return 1;
+    }
+    if kind < 4 {
+        return 2;
+    }
+    if 7 < kind {
+        if kind == 8 {
+            return 4;
+        }
+        if kind == 9 {
+            return 5;
+        }
+        return 2;
+    }
+    if 4294967295 < n {
+        return 3;
+    }
+    n + 6
+}
+
+// The members of a container of a type from a cursor on, after those before: to its end, or to a member where it is to stop.
+pub fn resume(
+    s: &[u8],
+    c: Cursor,
+    left: usize,
+    kind: u8,
+    listed: &[bool; 10],
+    stops: &[bool; 10],
+    before: Pass,
+) -> Pass
+    requires { ⌜ before .codes ≡ map (codeIn (now s)) (before .at) ⌝ }
+    ensures { λ r. ⌜ fieldsFrom left (now (s .entry)) kind (now (listed .entry)) (before .at) (c .at) ≡ resumed left (now (s .entry)) kind (now (listed .entry)) r ⌝ }
+    ensures codes { λ r. ⌜ r .codes ≡ map (codeIn (now (s .entry))) (r .at) ⌝ }
+    ensures stopped { λ r. ⌜ Stopped (now (s .entry)) (now (stops .entry)) r ⌝ }
+    ensures passed { λ r. ⌜ Passed (now (stops .entry)) (before .at) r ⌝ }
+{
+    let mut seen = before.at;
+    let mut codes = before.codes;
+    let mut at = c.at;
+    loop {
+        let here = Cursor { at };
+        let Head::Found(e) = here.head(s) else {
+            return refused();
+        };
+        if e.kind == tlv::END {
+            return Pass {
+                good: true,
+                slot: 10,
+                head: e,
+                at: seen,
+                codes,
+            };
+        }
+        if !tlv::allowed(kind, e.form) {
+            return refused();
+        }
+        let i = slot(listed, e.form, e.tag);
+        if 10 <= i {
+            let Walk::Past(n) = tlv::walk_element(s, e, left) else {
+                return refused();
+            };
+            at = n.at;
+        } else {
+            if seen[i] != 0 {
+                return refused();
+            }
+            seen[i] = at + 1;
+            codes[i] = code_of(e.kind, e.number);
+            if stops[i] {
+                return Pass {
+                    good: true,
+                    slot: i,
+                    head: e,
+                    at: seen,
+                    codes,
+                };
+            }
+            let Walk::Past(n) = tlv::walk_element(s, e, left) else {
+                return refused();
+            };
+            at = n.at;
+        }
+    }
+}
+
+// The same from the first member of the container whose head was read.
+pub fn begin(
+    s: &[u8],
+    e: Element,
+    left: usize,
+    kind: u8,
+    listed: &[bool; 10],
+    stops: &[bool; 10],
+) -> Pass
+    ensures { λ r. ⌜ insideOn kind left (now (s .entry)) (now (listed .entry)) e ≡ resumed (left - 1) (now (s .entry)) kind (now (listed .entry)) r ⌝ }
+    ensures codes { λ r. ⌜ r .codes ≡ map (codeIn (now (s .entry))) (r .at) ⌝ }
+    ensures stopped { λ r. ⌜ Stopped (now (s .entry)) (now (stops .entry)) r ⌝ }
+    ensures passed { λ r. ⌜ Passed (now (stops .entry)) (replicate 10 0) r ⌝ }
+{
+    if e.kind != kind {
+        return refused();
+    }
+    if left == 0 {
+        return refused();
+    }
+    let next = e.next;
+    resume(s, next, left - 1, kind, listed, stops, refused())
+}
+
+// The unsigned number, at most so large, that a code stands for, or null where that is allowed.
+pub fn number_by(c: u64, most: u64, nullable: bool) -> u64
+    ensures { λ r. ⌜ r ≡ numberBy most nullable c ⌝ }
+{
+    if 5 < c {
+        if most < c - 6 {
+            return WRONG;
+        }
+        return c - 6;
+    }
+    if c == 0 {
+        return ABSENT;
+    }
+    if c == 1 {
+        if nullable {
+            return NULL;
+        }
+        return WRONG;
+    }
+    WRONG
+}
+
+// The boolean that a code stands for: 0 or 1.
+pub fn flag_by(c: u64) -> u64
+    ensures { λ r. ⌜ r ≡ flagBy c ⌝ }
+{
+    if c == 0 {
+        return ABSENT;
+    }
+    if c == 4 {
+        return 0;
+    }
+    if c == 5 {
+        return 1;
+    }
+    WRONG
+}
+
+// Whether a code stands for an unsigned number of any size: 0 if it does.
+pub fn wide_by(c: u64) -> u64
+    ensures { λ r. ⌜ r ≡ wideBy c ⌝ }
+{
+    if c == 0 {
+        return ABSENT;
+    }
+    if c == 3 {
+        return 0;
+    }
+    if 5 < c {
+        return 0;
+    }
+    WRONG
+}
+
+// What stands at a cursor in a container.
+pub enum Item {
+    Member(Element),
+    Ended(Cursor),
+    BadItem,
+}
+
+pub fn item_at(s: &[u8], c: Cursor, kind: u8) -> Item
+    ensures { λ r. ⌜ r ≡ itemAt kind (now (s .entry)) (c .at) ⌝ }
+{
+    let Head::Found(e) = c.head(s) else {
+        return Item::BadItem;
+    };
+    if e.kind == tlv::END {
+        let next = e.next;
+        return Item::Ended(next);
+    }
+    if !tlv::allowed(kind, e.form) {
+        return Item::BadItem;
+    }
+    Item::Member(e)
 }

@@ -4,9 +4,6 @@ use borrow.Author.Needs.{needs}
 use Rattle.interaction.proofs.keep_filter.Statement.{statement}
 use Rattle.interaction.proofs.keep_filter.Tie as tie
 
-wanted-of-requires : tie.Need-wanted-of-requires
-wanted-of-requires c κs = search needs
-
 mul-next : tie.Need-mul-next
 mul-next c = search needs
 
@@ -14,11 +11,10 @@ array-set-from-next : tie.Need-array-set-from-next
 array-set-from-next c = search needs
 
 returns : tie.Need-returns
-returns c = rw (lt-ltb _ _ (c .before .if1 .taken), ← (c .wanted-of .ensures)) refl
+returns c = rw (lt-ltb _ _ (c .if1 .taken)) refl
 
 returns-2 : tie.Need-returns-2
 returns-2 c = rw (le-ltb _ _ (c .if1 .left)) refl
 
 pub keep-filter-spec : {M : Type 1} → statement M
-keep-filter-spec =
-    tie.close (tie.spec wanted-of-requires mul-next array-set-from-next returns returns-2)
+keep-filter-spec = tie.close (tie.spec mul-next array-set-from-next returns returns-2)

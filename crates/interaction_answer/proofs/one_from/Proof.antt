@@ -1,6 +1,7 @@
 use mathlib.Core.Path.{sym, ap, _∙_}
 use borrow.Author.Tests.{not-true, not-false}
-use Rattle.blocks.specs.Status.{answerAt}
+use Rattle.blocks.specs.Status.{answerOn}
+use Rattle.blocks.proofs.OnLaws.{answer-reads}
 use Rattle.interaction_answer.specs.Answered.{oneRead}
 use Rattle.interaction_answer.proofs.OneLaws.{answer-lacks, answer-has, one-none, one-ends, one-barred, one-breaks, one-cut, one-there, one-more}
 use borrow.Author.Needs.{needs}
@@ -43,8 +44,8 @@ returns-3 c =
     let q = c .before .before .if1 .left in
     sym (ap oneRead (one-barred (a .left) s p h q (sym (c .before .allowed .ensures) ∙ not-true _ (c .if2 .taken))))
 
-answer-at-requires : tie.Need-answer-at-requires
-answer-at-requires c κs = search needs
+answer-of-requires : tie.Need-answer-of-requires
+answer-of-requires c κs = search needs
 
 enum-known-x : tie.Need-enum-known-x
 enum-known-x c = search needs
@@ -60,7 +61,7 @@ returns-4 c =
     let h = sym (c .before .before .before .before .before .before .before .before .before .before .head .ensures) ∙ c .before .before .before .before .before .before .before .before .e .given .1 in
     let q = c .before .before .before .before .before .if1 .left in
     let b = sym (c .before .before .before .before .allowed .ensures) ∙ not-false _ (c .before .before .before .if2 .left) in
-    sym (ap oneRead (one-breaks (a .left) s p h q b (answer-lacks (answerAt (a .left) s p) (sym (c .before .before .answer-at .ensures) ∙ c .enum-told2 .given .1))))
+    sym (ap oneRead (one-breaks (a .left) s p h q b (answer-reads (a .left) s .here p _ h ∙ answer-lacks (answerOn (a .left) s _) (sym (c .before .before .answer-of .ensures) ∙ c .enum-told2 .given .1))))
 
 head-requires-2 : tie.Need-head-requires-2
 head-requires-2 c κs = search needs
@@ -79,7 +80,7 @@ returns-5 c =
     let h = sym (c .before .before .before .before .before .before .before .before .before .before .before .before .before .before .head .ensures) ∙ c .before .before .before .before .before .before .before .before .before .before .before .before .e .given .1 in
     let q = c .before .before .before .before .before .before .before .before .before .if1 .left in
     let b = sym (c .before .before .before .before .before .before .before .before .allowed .ensures) ∙ not-false _ (c .before .before .before .before .before .before .before .if2 .left) in
-    let w = answer-has (answerAt (a .left) s p) (sym (c .before .before .before .before .before .before .answer-at .ensures) ∙ c .before .before .before .before .x .given .1) in
+    let w = answer-reads (a .left) s .here p _ h ∙ answer-has (answerOn (a .left) s _) (sym (c .before .before .before .before .before .before .answer-of .ensures) ∙ c .before .before .before .before .x .given .1) in
     sym (ap oneRead (one-cut (a .left) s p h q b w (sym (c .before .before .head2 .ensures) ∙ c .enum-told3 .given .1)))
 
 returns-6 : tie.Need-returns-6
@@ -90,7 +91,7 @@ returns-6 c =
     let h = sym (c .before .before .before .before .before .before .before .before .before .before .before .before .before .before .before .before .before .head .ensures) ∙ c .before .before .before .before .before .before .before .before .before .before .before .before .before .before .before .e .given .1 in
     let q = c .before .before .before .before .before .before .before .before .before .before .before .before .if1 .left in
     let b = sym (c .before .before .before .before .before .before .before .before .before .before .before .allowed .ensures) ∙ not-false _ (c .before .before .before .before .before .before .before .before .before .before .if2 .left) in
-    let w = answer-has (answerAt (a .left) s p) (sym (c .before .before .before .before .before .before .before .before .before .answer-at .ensures) ∙ c .before .before .before .before .before .before .before .x .given .1) in
+    let w = answer-reads (a .left) s .here p _ h ∙ answer-has (answerOn (a .left) s _) (sym (c .before .before .before .before .before .before .before .before .before .answer-of .ensures) ∙ c .before .before .before .before .before .before .before .x .given .1) in
     sym (ap oneRead (one-there (a .left) s p h q b w (sym (c .before .before .before .before .before .head2 .ensures) ∙ c .before .before .before .f .given .1) (c .if3 .taken)))
 
 returns-7 : tie.Need-returns-7
@@ -101,7 +102,7 @@ returns-7 c =
     let h = sym (c .before .before .before .before .before .before .before .before .before .before .before .before .before .before .before .before .before .head .ensures) ∙ c .before .before .before .before .before .before .before .before .before .before .before .before .before .before .before .e .given .1 in
     let q = c .before .before .before .before .before .before .before .before .before .before .before .before .if1 .left in
     let b = sym (c .before .before .before .before .before .before .before .before .before .before .before .allowed .ensures) ∙ not-false _ (c .before .before .before .before .before .before .before .before .before .before .if2 .left) in
-    let w = answer-has (answerAt (a .left) s p) (sym (c .before .before .before .before .before .before .before .before .before .answer-at .ensures) ∙ c .before .before .before .before .before .before .before .x .given .1) in
+    let w = answer-reads (a .left) s .here p _ h ∙ answer-has (answerOn (a .left) s _) (sym (c .before .before .before .before .before .before .before .before .before .answer-of .ensures) ∙ c .before .before .before .before .before .before .before .x .given .1) in
     sym (ap oneRead (one-more (a .left) s p h q b w (sym (c .before .before .before .before .before .head2 .ensures) ∙ c .before .before .before .f .given .1) (c .if3 .left)))
 
 pub one-from-spec : {M : Type 1} → statement M
@@ -115,7 +116,7 @@ one-from-spec =
     returns-2
     allowed-requires
     returns-3
-    answer-at-requires
+    answer-of-requires
     enum-known-x
     enum-told-2
     returns-4

@@ -4,9 +4,6 @@ use borrow.Author.Needs.{needs}
 use Rattle.interaction_write.proofs.keep_entry.Statement.{statement}
 use Rattle.interaction_write.proofs.keep_entry.Tie as tie
 
-entry-of-requires : tie.Need-entry-of-requires
-entry-of-requires c κs = search needs
-
 mul-next : tie.Need-mul-next
 mul-next c = search needs
 
@@ -14,11 +11,10 @@ array-set-from-next : tie.Need-array-set-from-next
 array-set-from-next c = search needs
 
 returns : tie.Need-returns
-returns c = rw (lt-ltb _ _ (c .before .if1 .taken), ← (c .entry-of .ensures)) refl
+returns c = rw (lt-ltb _ _ (c .if1 .taken)) refl
 
 returns-2 : tie.Need-returns-2
 returns-2 c = rw (le-ltb _ _ (c .if1 .left)) refl
 
 pub keep-entry-spec : {M : Type 1} → statement M
-keep-entry-spec =
-    tie.close (tie.spec entry-of-requires mul-next array-set-from-next returns returns-2)
+keep-entry-spec = tie.close (tie.spec mul-next array-set-from-next returns returns-2)
