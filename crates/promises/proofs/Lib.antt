@@ -5,7 +5,9 @@ pub mod StepLaws
 pub mod RunLaws
 pub mod AskLaws
 pub mod StageLaws
+pub mod TakenLaws
 pub mod FirstLaws
+pub mod OnceLaws
 pub mod SecondLaws
 pub mod ArriveLaws
 pub mod NeverLaws

@@ -1,36 +1,24 @@
 -- DEMAND 3, proved over both ends as they are: the statements stand in specs/Claims.antt.
 use mathlib.Core.Path.{_≡_, sym, ap, _∙_}
-use mathlib.Core.Bool.{Bool, false}
-use mathlib.Core.List.{List, map}
 use Prim.Native.Nat.{ℕ, _≤_, max}
 use native.Mathlib.Omega.{arith}
-use Rattle.tlv.specs.Value.{Datum}
-use Rattle.tlv.specs.Octet.{pick}
-use Rattle.tlv.specs.Decode.Opt.{just}
-use Rattle.members.specs.Scalar.{ABSENT}
 use Rattle.schema.specs.Rows.{attributeCount}
-use Rattle.interaction_report.specs.Report.{partIn}
 use Rattle.envelope.specs.declared.Envelope.{Envelope}
 use Rattle.envelope.specs.declared.Envelope.the-variants.{Whole, Short}
 use Rattle.envelope.specs.Envelope.{envelopeIn}
-use Rattle.exchange.specs.Rules.{reportOpcode}
-use Rattle.cache_trip.proofs.BeginLaws.{after-envelope}
-use Rattle.cache_trip.proofs.TakenLaws.{report-taken}
 use Rattle.protocol.specs.Model as Model
-use Rattle.protocol.specs.Model.{Part}
 use Rattle.protocol.proofs.Inductive.{reach-inv}
-use Rattle.refinement.proofs.Bytes.{blockAs, partPayload, partBytes, PartRight}
-use Rattle.panel_parts.proofs.PartLaws.{each-sent}
 use Rattle.promises.specs.World.{Plan, Start, granted}
-use Rattle.promises.specs.Claims.{exchangeOf, Last, FirstHalf, SecondHalf, AtTheStep, Possible, FewParts}
+use Rattle.promises.specs.Claims.{FirstHalf, Once, SecondHalf, Possible, FewParts}
 use Rattle.promises.specs.Never.{Never}
 use Rattle.promises.proofs.MessageLaws.{part-envelope, answer-envelope}
 use Rattle.promises.proofs.ReadableLaws.{parts-few}
 use Rattle.promises.proofs.Stands.{ReplyOf, part, answer}
-use Rattle.promises.proofs.StepLaws.{node, rules, opcodeIn}
+use Rattle.promises.proofs.StepLaws.{node, opcodeIn}
 use Rattle.promises.proofs.RunLaws.{Follows}
 use Rattle.promises.proofs.FirstLaws as first
 use Rattle.promises.proofs.FirstLaws.{from-fresh}
+use Rattle.promises.proofs.OnceLaws as single
 use Rattle.promises.proofs.SecondLaws as second
 use Rattle.promises.proofs.ArriveLaws as arrive
 use Rattle.promises.proofs.NeverLaws as fair
@@ -39,50 +27,13 @@ use Rattle.promises.proofs.NeverLaws as fair
 pub first-half : FirstHalf
 first-half = first.first-half
 
--- a part that promises no more is a last part
-last-part : (p : Plan) (b : Start p) (q : Part Datum) → PartRight (p .words) q → q .more ≡ false → Last (partBytes (p .words) q)
-unfolding partBytes
-last-part p b q right e =
-    let w : List ℕ = p .words in
-    let (x, here, more, step) = report-taken (map (blockAs w) (q .entries)) (q .more) (each-sent w (rules p b) (q .entries) (right .entries)) in
-    (x, ap partIn (after-envelope reportOpcode (q .exchange) (q .turn) (partPayload w q)) ∙ here, λ z. omega (arith, sym z ∙ more ∙ ap (λ (m : Bool). pick m 1 ABSENT) e))
-
 -- "a read whose messages all arrive leaves every unchanged cluster whole"
 pub second-half : SecondHalf
-second-half p b u v reach open-read run calm arrived = (
-  second.ended p b reach open-read run calm arrived,
-  (
-    partBytes (p .words) q,
-    ap exchangeOf (part-envelope (p .words) q right) ∙ ap just (second.law p b reach open-read run calm arrived .1 ∙ second.own p b reach open-read run calm arrived),
-    last-part p b q right (second.law p b reach open-read run calm arrived .2),
-    second.taking p b reach open-read run calm arrived,
-    second.making p b reach open-read run calm arrived,
-    λ e c _ _. second.settled p b reach open-read run calm arrived e c,
-  ),
-)
-  where
-    q : Part Datum
-    q = second.law p b reach open-read run calm arrived .0
+second-half = second.second-half
 
-    right : PartRight (p .words) q
-    right = second.right p b reach open-read run calm arrived
-
-pub at-the-step : AtTheStep
-at-the-step p b u v reach open-read run calm arrived = (
-  second.ending p b reach open-read run calm arrived,
-  partBytes (p .words) q,
-  ap exchangeOf (part-envelope (p .words) q right) ∙ ap just (second.law p b reach open-read run calm arrived .1 ∙ second.own p b reach open-read run calm arrived),
-  last-part p b q right (second.law p b reach open-read run calm arrived .2),
-  second.taking p b reach open-read run calm arrived,
-  second.making p b reach open-read run calm arrived,
-  λ e c _ _. second.settled-on p b reach open-read run calm arrived e c,
-)
-  where
-    q : Part Datum
-    q = second.law p b reach open-read run calm arrived .0
-
-    right : PartRight (p .words) q
-    right = second.right p b reach open-read run calm arrived
+-- the steps that it speaks of are the only ones
+pub once : Once
+once = single.once
 
 -- for every read that begins all of it can arrive
 pub possible : Possible

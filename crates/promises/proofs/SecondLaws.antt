@@ -1,39 +1,47 @@
 -- THE SECOND HALF: a read whose messages all arrive ends, and leaves every unchanged cluster whole.
 use mathlib.Core.Path.{_≡_, refl, sym, ap, _∙_, subst}
 use mathlib.Core.Logic.{_⊎_, inl, inr}
-use mathlib.Core.Bool.{true, false, _&&_, true≢false}
-use mathlib.Core.List.{List, List·Memᴰ}
+use mathlib.Core.Bool.{Bool, true, false, true≢false}
+use mathlib.Core.List.{List, map, List·Memᴰ}
 use Prim.Native.Nat.{ℕ, _<_}
 use native.Mathlib.Omega.{arith}
 use borrow.Author.Tests.{eq-eqb}
-use lib.Dec.{eqb, T, eqb→eq}
+use lib.Dec.{eqb, eqb→eq}
 use Rattle.tlv.specs.Value.{Datum}
+use Rattle.tlv.specs.Octet.{pick}
 use Rattle.tlv.specs.Decode.Opt.{just}
+use Rattle.members.specs.Scalar.{ABSENT}
 use Rattle.schema.specs.declared.Found.the-variants as found
-use Rattle.schema.specs.Rows.{clusterRow, attributeRow, clusterCount}
-use Rattle.schema.specs.Rules.{Path, path}
+use Rattle.schema.specs.Rows.{clusterRow, attributeRow, clusterCount, attributeCount}
+use Rattle.schema.specs.Rules.{Path, path, pathAt}
 use Rattle.schema.specs.Find.{findCluster}
 use Rattle.schema.proofs.RulesLaws.{path-word}
 use Rattle.schema.proofs.PathLaws.{cluster-there}
+use Rattle.interaction_report.specs.Report.{partIn}
+use Rattle.exchange.specs.Rules.{reportOpcode}
 use Rattle.envelope.specs.declared.Envelope.{Envelope}
 use Rattle.envelope.specs.declared.Envelope.the-variants.{Whole, Short}
 use Rattle.envelope.specs.Envelope.{envelopeIn}
 use Rattle.cached.specs.Entries.{clusterWord}
 use Rattle.cache.specs.State.{reading, lastPart}
 use Rattle.cache_ask.specs.Ask.{coherentOf}
+use Rattle.cache_receive.specs.Receive.{received}
+use Rattle.cache_trip.proofs.BeginLaws.{after-envelope}
+use Rattle.cache_trip.proofs.TakenLaws.{report-taken}
 use Rattle.protocol.specs.Model as model
 use Rattle.protocol.specs.Model.{Place, Message, Part, Cache, System, CoherentIn}
 use Rattle.protocol.specs.Steps as steps
 use Rattle.protocol.specs.Claims as claims
 use Rattle.protocol.proofs.Main as protocol
-use Rattle.protocol.proofs.SmallLaws.{and-l, and-r, T-true, T-of}
-use Rattle.protocol.proofs.OnceLaws.{part-once, passes-more, passes-reach, calm-rest}
+use Rattle.protocol.proofs.SmallLaws.{T-of, awaited-is, last-taken}
+use Rattle.protocol.proofs.OnceLaws.{part-once, passes-more, passes-reach, cut}
 use Rattle.protocol.proofs.ProgressLaws.{calm-parts, calm-keeps}
-use Rattle.refinement.proofs.Terms.{placeAt}
-use Rattle.refinement.proofs.Bytes.{PartRight, partBytes}
-use Rattle.promises.specs.World.{Plan, World, Start, granted}
-use Rattle.promises.specs.Runs.{Run, Reach, none, then, join, Visits, Passes, Calm, Heard, Got}
-use Rattle.promises.specs.Claims.{In, exchangeOf, Arrived, Ended, Ending, Taking, Making, MayReadSome, CallsWhole, versionOf, changesOf}
+use Rattle.refinement.proofs.Terms.{placeAt, mayRead}
+use Rattle.refinement.proofs.Bytes.{blockAs, partPayload, partBytes, PartRight}
+use Rattle.promises.specs.World.{Plan, World, Start, granted, afterPanel}
+use Rattle.promises.specs.Runs.{Step, Run, Reach, none, then, join, Passes, Quiet, Calm}
+use Rattle.promises.specs.Claims.{In, Last, exchangeOf, Arrived, Taking, Making, Open, Ended, Ending, Stays, SecondHalf, MayReadSome, CallsWhole, versionOf, changesOf}
+use Rattle.panel_parts.proofs.PartLaws.{each-sent}
 use Rattle.panel_steps.proofs.CoherentLaws.{coherent-as}
 use Rattle.promises.proofs.MessageLaws.{InExchange, message-in, part-envelope}
 use Rattle.promises.proofs.ReadableLaws.{readable-has}
@@ -42,8 +50,9 @@ use Rattle.promises.proofs.StepLaws.{node, rules, other-reply}
 use Rattle.promises.proofs.RunLaws.{Took, Follows, follow, passes-first, passes-second, model-passes}
 use Rattle.promises.proofs.AskLaws.{coherent-whole, row-found, version-at, changes-at, Sees, value, sees}
 use Rattle.promises.proofs.AskLaws as asks
-use Rattle.promises.proofs.StageLaws.{Goes, run-goes}
+use Rattle.promises.proofs.StageLaws.{Goes, run-goes, Handed, quiet-step}
 use Rattle.promises.proofs.FirstLaws.{nothing-just, from-fresh}
+use Rattle.promises.proofs.TakenLaws.{ended-by}
 
 -- a message of an exchange, as the claims have it and as the protocol has it
 in-exchange : (x : ℕ) (e : Envelope) → InExchange x e → exchangeOf e ≡ just x
@@ -80,22 +89,18 @@ same-part w q r a c e =
     let z = ap fields-in (sym (part-envelope w q a) ∙ ap envelopeIn e ∙ part-envelope w r c) in
     (ap (λ (y : ℕ × ℕ). y .0) z, ap (λ (y : ℕ × ℕ). y .1) z)
 
--- the panel after a last part, in the protocol
-after-last : (a : System Datum) (q : Part Datum) → T (model.awaited (a .cache) q) → q .more ≡ false → ((model.receive a q) .cache .reading ≡ false) × ((model.receive a q) .cache .exchange ≡ q .exchange)
-unfolding model.receive model.accept
-after-last a q wanted e =
-    rw (T-true (model.awaited (a .cache) q) wanted) (e, sym (eqb→eq (q .exchange) (a .cache .exchange) (and-l (eqb (q .exchange) (a .cache .exchange)) (eqb (q .turn) (a .cache .next)) (and-l (eqb (q .exchange) (a .cache .exchange) && eqb (q .turn) (a .cache .next)) (a .cache .reading) wanted))))
-
--- the run up to one of its steps
-up-to : {p : Plan} {u v : World} (run : Run p u v) → Calm run → (x y : World) → Passes run x y → (r : Run p u y) × Calm r
+-- the run up to one of its steps, and the step
+up-to : {p : Plan} {u v : World} (run : Run p u v) → Calm run → (x y : World) → Passes run x y → (r : Run p u x) × (step : Step p x y) × Calm r × Quiet step
 up-to none c x y i = absurd i
 up-to {p} {u} {v} (then {v = v′} run step) c x y i = go (up-to run (c .0) x y) i
   where
-    go : (Passes run x y → (r : Run p u y) × Calm r) → Passes run x y ⊎ ((x ≡ v′) × (y ≡ v)) → (r : Run p u y) × Calm r
+    go : (Passes run x y → (r : Run p u x) × (s : Step p x y) × Calm r × Quiet s) → Passes run x y ⊎ ((x ≡ v′) × (y ≡ v)) → (r : Run p u x) × (s : Step p x y) × Calm r × Quiet s
     go known (inl k) = known k
-    go known (inr k) = subst (λ (z : World). (r : Run p u z) × Calm r) (sym (k .1)) (then run step, c)
+    go known (inr k) =
+        subst (λ (z : World). (r : Run p u z) × (s : Step p z y) × Calm r × Quiet s) (sym (k .0))
+        (subst (λ (z : World). (r : Run p u v′) × (s : Step p v′ z) × Calm r × Quiet s) (sym (k .1)) (run, step, c .0, c .1))
 
-module _ (p : Plan) (b : Start p) {u v : World} (reach : Reach p b u) (open-read : u .panel .asked .stage ≡ reading) (run : Run p u v) (calm : Calm run) (arrived : Arrived run) where
+module _ (p : Plan) (b : Start p) {u v : World} (reach : Reach p b u) (exchange : ℕ) (open-read : Open u exchange) (run : Run p u v) (calm : Calm run) (arrived : Arrived run) where
   abbrev w : List ℕ
   w = p .words
 
@@ -112,9 +117,9 @@ module _ (p : Plan) (b : Start p) {u v : World} (reach : Reach p b u) (open-read
   t = g .end
 
   reads : s .cache .reading ≡ true
-  reads = f .stands .panel .reading-is ∙ eq-eqb (u .panel .asked .stage) reading open-read
+  reads = f .stands .panel .reading-is ∙ eq-eqb (u .panel .asked .stage) reading (open-read .0)
 
-  pub own : s .cache .exchange ≡ u .panel .asked .exchange
+  own : s .cache .exchange ≡ u .panel .asked .exchange
   own = f .stands .panel .exchange
 
   calm-model : steps.Calm (g .follows)
@@ -143,47 +148,20 @@ module _ (p : Plan) (b : Start p) {u v : World} (reach : Reach p b u) (open-read
   arrives = record { messages = heard; parts = got }
 
   -- the read has ended on its last part, and that settles what it says
-  pub rests : (k : claims.Ended (g .follows)) × claims.Settles (node p b) all-reach (k .part) (k .next)
+  rests : (k : claims.Ending (g .follows)) × claims.Settles (node p b) all-reach (k .part) (k .next)
   rests = protocol.second-half Datum (node p b) s t (f .follows) reads (g .follows) calm-model arrives
 
-  abbrev pub over : claims.Ended (g .follows)
+  abbrev over : claims.Ending (g .follows)
   over = rests .0
 
-  pub rest-calm : steps.Calm (over .rest)
-  rest-calm = calm-rest (node p b) (steps.then (over .before) (over .step)) (over .rest) (subst (λ (r : steps.Run (node p b) s t). steps.Calm r) (over .whole) calm-model)
+  abbrev took : claims.Taking all-reach (over .part .exchange)
+  took = rests .1 .0
 
-  shut-next : over .next .cache .reading ≡ false
-  shut-next = ap (λ (x : System Datum). x .cache .reading) (over .taken) ∙ after-last (over .at) (over .part) (over .wanted) (over .last) .0
+  abbrev made : claims.Making all-reach (over .part)
+  made = rests .1 .1
 
-  stays : t .cache ≡ (model.receive (over .at) (over .part)) .cache
-  stays = calm-keeps (node p b) (over .rest) rest-calm shut-next ∙ ap (λ (x : System Datum). x .cache) (over .taken)
-
-  pub ended : Ended u v
-  ended = record { same = same; last = stage (run-goes p b s (f .stands) (f .follows) run calm (inl open-read)) }
-    where
-      -- the protocol's panel is as the last part left it
-      shut : t .cache .reading ≡ false
-      shut = ap (λ (c : Cache Datum). c .reading) stays ∙ after-last (over .at) (over .part) (over .wanted) (over .last) .0
-
-      same : v .panel .asked .exchange ≡ u .panel .asked .exchange
-      same =
-          sym (g .stands .panel .exchange) ∙ ap (λ (c : Cache Datum). c .exchange) stays ∙ after-last (over .at) (over .part) (over .wanted) (over .last) .1
-          ∙ over .own ∙ own
-
-      stage : Goes (v .panel) → v .panel .asked .stage ≡ lastPart
-      stage (inl e) = absurd (true≢false (sym (g .stands .panel .reading-is ∙ eq-eqb (v .panel .asked .stage) reading e) ∙ shut))
-      stage (inr e) = e
-
-  -- WHAT IS THEN WHOLE
-  abbrev pub Second : Type 0
-  Second = (part : Part Datum) × (part .exchange ≡ s .cache .exchange) × (part .more ≡ false)
-      × (taking : claims.Taking all-reach (part .exchange)) × (making : claims.Making all-reach part)
-      × ((q : Place) → List·Memᴰ q (node p b .readable)
-      → taking .at .clusters (q .cluster) .changes ≡ making .at .clusters (q .cluster) .changes
-      → CoherentIn (t .cache) (q .cluster) (making .at .clusters (q .cluster) .version))
-
-  abbrev pub law : Second
-  law = (over .part, over .own, over .last, rests .1 .0, rests .1 .1, λ q i e. rests .1 .2 q i e t (over .rest) rest-calm)
+  in-exchange-of : over .part .exchange ≡ exchange
+  in-exchange-of = over .own ∙ own ∙ open-read .1
 
   -- a step of the protocol's run is one of the ends'
   passed : (a c : System Datum) → steps.Passes all-reach a c → (x : World) × (x′ : World) × Passes (join reach run) x x′ × Stands p x a × Stands p x′ c
@@ -193,118 +171,140 @@ module _ (p : Plan) (b : Start p) {u v : World} (reach : Reach p b u) (open-read
       go (inl k) = let r = f .passed a c k in (r .0, r .1, passes-first p b reach run (r .0) (r .1) (r .2), r .3, r .4)
       go (inr k) = let r = g .passed a c k in (r .0, r .1, passes-second p b reach run (r .0) (r .1) (r .2), r .3, r .4)
 
-  -- the part, in bytes, and where it was made
-  abbrev pub q : Part Datum
-  q = law .0
+  -- THE PART, in bytes, and where its request was taken and it was made
+  abbrev q : Part Datum
+  q = over .part
 
-  pub right : PartRight w q
-  right = let k = law .4 in passed (k .at) (k .next) (k .passes) .4 .parts q (k .after) .1
+  abbrev taken-at : (x : World) × (x′ : World) × Passes (join reach run) x x′ × Stands p x (took .at) × Stands p x′ (took .next)
+  taken-at = passed (took .at) (took .next) (took .passes)
 
-  pub taking : Taking (join reach run) (u .panel .asked .exchange)
+  abbrev made-at : (x : World) × (x′ : World) × Passes (join reach run) x x′ × Stands p x (made .at) × Stands p x′ (made .next)
+  made-at = passed (made .at) (made .next) (made .passes)
+
+  right : PartRight w q
+  right = made-at .4 .parts q (made .after) .1
+
+  -- it promises no more
+  last-one : Last (partBytes w q)
+  unfolding partBytes
+  last-one =
+      let (x, here, more, step) = report-taken (map (blockAs w) (q .entries)) (q .more) (each-sent w (rules p b) (q .entries) (right .entries)) in
+      (x, ap partIn (after-envelope reportOpcode (q .exchange) (q .turn) (partPayload w q)) ∙ here, λ z. omega (arith, sym z ∙ more ∙ ap (λ (m : Bool). pick m 1 ABSENT) (over .last)))
+
+  taking : Taking (join reach run) exchange
   taking =
-      let k = law .3 in
-      let r = passed (k .at) (k .next) (k .passes) in
       record {
-        at = r .0;
-        next = r .1;
-        passes = r .2;
-        before = omega (arith, k .before, r .3 .sign .row .exchange, law .1, own);
-        after = sym (r .4 .sign .row .exchange) ∙ k .after ∙ law .1 ∙ own;
+        at = taken-at .0;
+        next = taken-at .1;
+        passes = taken-at .2;
+        before = omega (arith, took .before, taken-at .3 .sign .row .exchange, in-exchange-of);
+        after = sym (taken-at .4 .sign .row .exchange) ∙ took .after ∙ in-exchange-of;
       }
 
   -- a reply with its bytes is this part
-  made-once : (a c : System Datum) → steps.Passes all-reach a c → (x : World) → Stands p x a → List·Memᴰ q (c .parts) → PartRight w q → List·Memᴰ (partBytes w q) (x .replies) → List·Memᴰ q (a .parts)
-  made-once a c i x h there right j = go (h .replies (partBytes w q) j)
+  made-once : List·Memᴰ (partBytes w q) (made-at .0 .replies) → List·Memᴰ q (made .at .parts)
+  made-once j = go (made-at .3 .replies (partBytes w q) j)
     where
-      go : ReplyOf w (x .requests) (a .parts) (partBytes w q) → List·Memᴰ q (a .parts)
+      go : ReplyOf w (made-at .0 .requests) (made .at .parts) (partBytes w q) → List·Memᴰ q (made .at .parts)
       go (part r k e) =
-          let same = same-part w q r right (h .parts r k .1) e in
-          subst (λ (z : Part Datum). List·Memᴰ z (a .parts)) (part-once (node p b) (passes-reach (node p b) all-reach a c i) r q (passes-more (node p b) all-reach a c i r k) there (sym (same .0)) (sym (same .1))) k
+          let same = same-part w q r right (made-at .3 .parts r k .1) e in
+          subst (λ (z : Part Datum). List·Memᴰ z (made .at .parts)) (part-once (node p b) (passes-reach (node p b) all-reach (made .at) (made .next) (made .passes)) r q (passes-more (node p b) all-reach (made .at) (made .next) (made .passes) r k) (made .after) (sym (same .0)) (sym (same .1))) k
       go (answer n o e fn fo z) = absurd (other-reply q right n o fn e)
 
-  pub making : Making (join reach run) (partBytes w q)
-  making =
-      let k = law .4 in
-      let r = passed (k .at) (k .next) (k .passes) in
-      record {
-        at = r .0;
-        next = r .1;
-        passes = r .2;
-        before = λ i. k .before (made-once (k .at) (k .next) (k .passes) (r .0) (r .3) (k .after) (r .4 .parts q (k .after) .1) i);
-        after = r .4 .parts q (k .after) .0;
-      }
+  making : Making (join reach run) (partBytes w q)
+  making = record { at = made-at .0; next = made-at .1; passes = made-at .2; before = λ i. made .before (made-once i); after = made-at .4 .parts q (made .after) .0 }
 
-  -- THE CLUSTERS
-  pub settled : (e c : ℕ) → MayReadSome p v e c → changesOf p (taking .at) e c ≡ changesOf p (making .at) e c → (version : ℕ) × (versionOf p (making .at) e c ≡ just version) × CallsWhole v e c version
-  unfolding taking making
-  settled e c some still = go (sees p (rules p b) v e c (some .0))
+  -- THE STEP that takes it
+  abbrev ended-at : (x : World) × (x′ : World) × Passes run x x′ × Stands p x (over .at) × Stands p x′ (over .next)
+  ended-at = g .passed (over .at) (over .next) (over .passes)
+
+  at-reach : steps.Reach (node p b) (over .at)
+  at-reach = steps.join (f .follows) (cut (node p b) (g .follows) (over .at) (over .next) (over .passes) .before)
+
+  next-reach : steps.Reach (node p b) (over .next)
+  next-reach = let c = cut (node p b) (g .follows) (over .at) (over .next) (over .passes) in steps.then (steps.join (f .follows) (c .before)) (c .step)
+
+  -- before it the panel reads, after it no more
+  wanted : (q .exchange ≡ over .at .cache .exchange) × (q .turn ≡ over .at .cache .next) × (over .at .cache .reading ≡ true)
+  wanted = awaited-is (over .at .cache) q (over .wanted)
+
+  shut : (over .next .cache .reading ≡ false) × (over .next .cache .exchange ≡ q .exchange)
+  shut = subst (λ (z : System Datum). (z .cache .reading ≡ false) × (z .cache .exchange ≡ q .exchange)) (sym (over .taken)) (last-taken (over .at) q (over .wanted) (over .last))
+
+  -- so the protocol's panel does not stay as it was
+  not-still : (z : System Datum) → Stands p (ended-at .1) z → z .cache .reading ≡ true → ⊥
+  not-still z h e = true≢false (sym e ∙ h .panel .reading-is ∙ sym (ended-at .4 .panel .reading-is) ∙ shut .0)
+
+  handed : Handed (ended-at .0) (ended-at .1)
+  handed = let r = up-to run calm (ended-at .0) (ended-at .1) (ended-at .2) in go (quiet-step (r .1) (r .3))
     where
-      go : Sees p (rules p b) v e c (some .0) → (version : ℕ) × (versionOf p (making .at) e c ≡ just version) × CallsWhole v e c version
-      go (asks.none is never) = absurd (nothing-just (some .1) (sym is ∙ some .3))
-      go (value i l path-is may is) = (version, version-at p (rules p b) k e c row (making .at) ∙ ap just (sym (made .3 .sign .held .versions k low)), whole)
-        where
-          k : ℕ
-          k = attributeRow w i .clusterIndex
+      go : (ended-at .1 .panel ≡ ended-at .0 .panel) ⊎ Handed (ended-at .0) (ended-at .1) → Handed (ended-at .0) (ended-at .1)
+      go (inl e) = absurd (true≢false (sym (wanted .2) ∙ ended-at .3 .panel .reading-is ∙ ap (λ c. eqb (c .asked .stage) reading) (sym e) ∙ sym (ended-at .4 .panel .reading-is) ∙ shut .0))
+      go (inr k) = k
 
-          low : k < clusterCount w
-          low = cluster-there w (rules p b) i l
+  -- the reply that is handed over is this part
+  handed-part : handed .message ≡ partBytes w q
+  handed-part =
+      let (r, j, is, t) = ended-by p b (ended-at .0) (over .at) (ended-at .3) at-reach (handed .message) (handed .room) (handed .made) (wanted .2) (λ z h. not-still z (subst (λ (x : World). Stands p x z) (sym (handed .is)) h)) in
+      let a = awaited-is (over .at .cache) r t in
+      is ∙ ap (partBytes w) (part-once (node p b) at-reach r q j (over .sent) (a .0 ∙ sym (wanted .0)) (a .1 ∙ sym (wanted .1)))
 
-          word : path (clusterRow w k .endpoint) (clusterRow w k .cluster) (attributeRow w i .id) ≡ path e c (some .0)
-          word = sym (path-word w i low) ∙ path-is
+  -- FROM THEN ON, while the panel begins nothing
+  module _ (z : World) (on : Run p (ended-at .1) z) (quiet : Calm on) where
+    abbrev h : Follows p b on (over .next)
+    h = follow p b on (over .next) (ended-at .4) next-reach
 
-          row : findCluster w e c ≡ found.At k
-          row = row-found p (rules p b) k low e c (ap (λ (x : Path). x .endpoint) word) (ap (λ (x : Path). x .cluster) word)
+    same-cache : h .end .cache ≡ over .next .cache
+    same-cache = calm-keeps (node p b) (h .follows) (h .calm quiet) (shut .0)
 
-          made : (x : World) × (x′ : World) × Passes (join reach run) x x′ × Stands p x (law .4 .at) × Stands p x′ (law .4 .next)
-          made = passed (law .4 .at) (law .4 .next) (law .4 .passes)
+    -- the read has ended on its last part, if no status ended it
+    ended-if : Goes (z .panel) → Ended z exchange
+    ended-if (inl e) = absurd (true≢false (sym (h .stands .panel .reading-is ∙ eq-eqb (z .panel .asked .stage) reading e) ∙ ap (λ (c : Cache Datum). c .reading) same-cache ∙ shut .0))
+    ended-if (inr e) = (e, sym (h .stands .panel .exchange) ∙ ap (λ (c : Cache Datum). c .exchange) same-cache ∙ shut .1 ∙ in-exchange-of)
 
-          took : (x : World) × (x′ : World) × Passes (join reach run) x x′ × Stands p x (law .3 .at) × Stands p x′ (law .3 .next)
-          took = passed (law .3 .at) (law .3 .next) (law .3 .passes)
+    -- and a cluster with something readable that did not change is whole
+    whole-then : (e c a i : ℕ) → i < attributeCount w → pathAt w i ≡ path e c a → mayRead w (granted p) i ≡ true → let k = attributeRow w i .clusterIndex in
+        took .at .clusters k .changes ≡ made .at .clusters k .changes → CallsWhole z e c (made .at .clusters k .version)
+    whole-then e c a i l path-is may unchanged =
+        let k = attributeRow w i .clusterIndex in
+        let low : k < clusterCount w = cluster-there w (rules p b) i l in
+        let word : path (clusterRow w k .endpoint) (clusterRow w k .cluster) (attributeRow w i .id) ≡ path e c a = sym (path-word w i low) ∙ path-is in
+        coherent-whole (z .page) (z .panel) (h .stands .panel .valid) e c (made .at .clusters k .version)
+        ((λ j. coherentOf (z .panel .held) (clusterWord (ap (λ (x : Path). x .endpoint) (sym word) j) (ap (λ (x : Path). x .cluster) (sym word) j)))
+        ∙ coherent-as w (rules p b) (z .requests) (z .page) (z .panel) (h .end .cache) (h .stands .panel) k low (made .at .clusters k .version) .1 (rests .1 .2 (placeAt w i) (readable-has w (granted p) i l may) unchanged (h .end) (h .follows) (h .calm quiet)))
 
-          version : ℕ
-          version = law .4 .at .clusters k .version
+  goes-next : Goes (ended-at .1 .panel)
+  goes-next =
+      let r = up-to run calm (ended-at .0) (ended-at .1) (ended-at .2) in
+      run-goes p b s (f .stands) (f .follows) (then (r .0) (r .1)) (r .2, r .3) (inl (open-read .0))
 
-          unchanged : law .3 .at .clusters k .changes ≡ law .4 .at .clusters k .changes
-          unchanged = sym (took .3 .counted k low) ∙ sym (changes-at p (rules p b) k e c row (took .0)) ∙ still ∙ changes-at p (rules p b) k e c row (made .0) ∙ made .3 .counted k low
-
-          coherent : CoherentIn (t .cache) k version
-          coherent = law .5 (placeAt w i) (readable-has w (granted p) i l may) unchanged
-
-          whole : CallsWhole v e c version
-          whole =
-              coherent-whole (v .page) (v .panel) (g .stands .panel .valid) e c version
-              ((λ j. coherentOf (v .panel .held) (clusterWord (ap (λ (x : Path). x .endpoint) (sym word) j) (ap (λ (x : Path). x .cluster) (sym word) j))) ∙ coherent-as w (rules p b) (v .requests) (v .page) (v .panel) (t .cache) (g .stands .panel) k low version .1 coherent)
-
-  -- AT THE STEP that takes the last part, and from then on
-  abbrev stepped : (x : World) × (x′ : World) × Passes run x x′ × Stands p x (over .at) × Stands p x′ (over .next)
-  stepped = g .passed (over .at) (over .next) (over .passes)
-
-  pub ending : Ending run
+  ending : Ending run exchange (partBytes w q)
   ending =
       record {
-        at = stepped .0;
-        next = stepped .1;
-        passes = stepped .2;
-        opened = eqb→eq (stepped .0 .panel .asked .stage) reading (T-of (eqb (stepped .0 .panel .asked .stage) reading) (sym (stepped .3 .panel .reading-is) ∙ T-true (over .at .cache .reading) (and-r (eqb (over .part .exchange) (over .at .cache .exchange) && eqb (over .part .turn) (over .at .cache .next)) (over .at .cache .reading) (over .wanted))));
-        last = stage (run-goes p b s (f .stands) (f .follows) (before .0) (before .1) (inl open-read));
-        same = sym (stepped .4 .panel .exchange) ∙ ap (λ (x : System Datum). x .cache .exchange) (over .taken) ∙ after-last (over .at) (over .part) (over .wanted) (over .last) .1 ∙ over .own ∙ own;
+        at = ended-at .0;
+        next = ended-at .1;
+        passes = ended-at .2;
+        before = (
+          eqb→eq (ended-at .0 .panel .asked .stage) reading (T-of (eqb (ended-at .0 .panel .asked .stage) reading) (sym (ended-at .3 .panel .reading-is) ∙ wanted .2)),
+          sym (ended-at .3 .panel .exchange) ∙ sym (wanted .0) ∙ in-exchange-of,
+        );
+        after = ended-if (ended-at .1) none tt goes-next;
+        made = subst (λ (m : List ℕ). List·Memᴰ m (ended-at .0 .replies)) handed-part (handed .made);
+        room = handed .room;
+        taken = handed .is ∙ ap (λ (m : List ℕ). afterPanel (ended-at .0) (received (ended-at .0 .page) (ended-at .0 .panel) m (handed .room))) handed-part;
       }
-    where
-      before : (r : Run p u (stepped .1)) × Calm r
-      before = up-to run calm (stepped .0) (stepped .1) (stepped .2)
 
-      stage : Goes (stepped .1 .panel) → stepped .1 .panel .asked .stage ≡ lastPart
-      stage (inl e) = absurd (true≢false (sym (stepped .4 .panel .reading-is ∙ eq-eqb (stepped .1 .panel .asked .stage) reading e) ∙ shut-next))
-      stage (inr e) = e
+  ended : Stays p (ended-at .1) (λ z. Ended z exchange)
+  ended z on quiet = ended-if z on quiet (run-goes p b (over .next) (ended-at .4) next-reach on quiet goes-next)
 
-  pub settled-on : (e c : ℕ) → MayReadSome p v e c → changesOf p (taking .at) e c ≡ changesOf p (making .at) e c
-      → (version : ℕ) × (versionOf p (making .at) e c ≡ just version) × ((z : World) (on : Run p (ending .next) z) → Calm on → CallsWhole z e c version)
-  unfolding taking making ending
-  settled-on e c some still = go (sees p (rules p b) v e c (some .0))
+  -- THE CLUSTERS
+  settled : (e c : ℕ) → MayReadSome p (made-at .0) e c → changesOf p (taken-at .0) e c ≡ changesOf p (made-at .0) e c
+      → (version : ℕ) × (versionOf p (made-at .0) e c ≡ just version) × Stays p (ended-at .1) (λ z. CallsWhole z e c version)
+  settled e c some still = go (sees p (rules p b) (made-at .0) e c (some .0))
     where
-      go : Sees p (rules p b) v e c (some .0) → (version : ℕ) × (versionOf p (making .at) e c ≡ just version) × ((z : World) (on : Run p (ending .next) z) → Calm on → CallsWhole z e c version)
+      go : Sees p (rules p b) (made-at .0) e c (some .0) → (version : ℕ) × (versionOf p (made-at .0) e c ≡ just version) × Stays p (ended-at .1) (λ z. CallsWhole z e c version)
       go (asks.none is never) = absurd (nothing-just (some .1) (sym is ∙ some .3))
-      go (value i l path-is may is) = (version, version-at p (rules p b) k e c row (making .at) ∙ ap just (sym (made .3 .sign .held .versions k low)), λ z on quiet. whole z (follow p b on (over .next) (stepped .4) next-reach) quiet)
+      go (value i l path-is may is) = (made .at .clusters k .version, version-at p (rules p b) k e c row (made-at .0) ∙ ap just (sym (made-at .3 .sign .held .versions k low)), λ z on quiet. whole-then z on quiet e c (some .0) i l path-is may unchanged)
         where
           k : ℕ
           k = attributeRow w i .clusterIndex
@@ -318,22 +318,20 @@ module _ (p : Plan) (b : Start p) {u v : World} (reach : Reach p b u) (open-read
           row : findCluster w e c ≡ found.At k
           row = row-found p (rules p b) k low e c (ap (λ (x : Path). x .endpoint) word) (ap (λ (x : Path). x .cluster) word)
 
-          made : (x : World) × (x′ : World) × Passes (join reach run) x x′ × Stands p x (law .4 .at) × Stands p x′ (law .4 .next)
-          made = passed (law .4 .at) (law .4 .next) (law .4 .passes)
+          unchanged : took .at .clusters k .changes ≡ made .at .clusters k .changes
+          unchanged =
+              sym (taken-at .3 .counted k low) ∙ sym (changes-at p (rules p b) k e c row (taken-at .0)) ∙ still ∙ changes-at p (rules p b) k e c row (made-at .0)
+              ∙ made-at .3 .counted k low
 
-          took : (x : World) × (x′ : World) × Passes (join reach run) x x′ × Stands p x (law .3 .at) × Stands p x′ (law .3 .next)
-          took = passed (law .3 .at) (law .3 .next) (law .3 .passes)
-
-          version : ℕ
-          version = law .4 .at .clusters k .version
-
-          unchanged : law .3 .at .clusters k .changes ≡ law .4 .at .clusters k .changes
-          unchanged = sym (took .3 .counted k low) ∙ sym (changes-at p (rules p b) k e c row (took .0)) ∙ still ∙ changes-at p (rules p b) k e c row (made .0) ∙ made .3 .counted k low
-
-          next-reach : steps.Reach (node p b) (over .next)
-          next-reach = steps.then (steps.join (f .follows) (over .before)) (over .step)
-
-          whole : (z : World) {on : Run p (stepped .1) z} (h : Follows p b on (over .next)) → Calm on → CallsWhole z e c version
-          whole z h quiet =
-              coherent-whole (z .page) (z .panel) (h .stands .panel .valid) e c version
-              ((λ j. coherentOf (z .panel .held) (clusterWord (ap (λ (x : Path). x .endpoint) (sym word) j) (ap (λ (x : Path). x .cluster) (sym word) j))) ∙ coherent-as w (rules p b) (z .requests) (z .page) (z .panel) (h .end .cache) (h .stands .panel) k low version .1 (rests .1 .2 (placeAt w i) (readable-has w (granted p) i l may) unchanged (h .end) (h .follows) (h .calm quiet)))
+pub second-half : SecondHalf
+unfolding taking making ending
+second-half p b u v reach exchange open-read run calm arrived = (
+  partBytes (p .words) (q p b reach exchange open-read run calm arrived),
+  ap exchangeOf (part-envelope (p .words) (q p b reach exchange open-read run calm arrived) (right p b reach exchange open-read run calm arrived)) ∙ ap just (in-exchange-of p b reach exchange open-read run calm arrived),
+  last-one p b reach exchange open-read run calm arrived,
+  taking p b reach exchange open-read run calm arrived,
+  making p b reach exchange open-read run calm arrived,
+  ending p b reach exchange open-read run calm arrived,
+  ended p b reach exchange open-read run calm arrived,
+  λ e c _ _. settled p b reach exchange open-read run calm arrived e c,
+)

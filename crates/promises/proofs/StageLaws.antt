@@ -2,7 +2,7 @@
 use mathlib.Core.Path.{_≡_, refl, sym, ap, _∙_, subst}
 use mathlib.Core.Logic.{_⊎_, inl, inr}
 use mathlib.Core.Bool.{Bool, true, false, _&&_}
-use mathlib.Core.List.{List}
+use mathlib.Core.List.{List, List·Memᴰ}
 use Prim.Native.Nat.{ℕ, _-_, _^_}
 use native.Mathlib.Omega.{arith}
 use borrow.Author.Tests.{eqb-true, ne-eqb}
@@ -87,28 +87,46 @@ module _ (page : List ℕ) (s : State) (g : Goes s) where
           pick-elim Keeps (leb (length m) maxMessage && (eqb (f .edition) 0 && forCache (f .opcode))) _ _
           (λ _. by-test (awaited (s .asked) f) (λ t. rw t (takes-goes f h t (drop envelopeLength m))) (λ z. rw z g)) (λ _. g)
 
-  -- a call that begins nothing is refused
+-- a call that begins nothing is refused, and leaves the panel as it was
+module _ (page : List ℕ) (s : State) where
   abbrev Unbegun : Reaction → Type 0
-  Unbegun x = (x .number ≡ 0 → ⊥) → Keeps x
+  Unbegun x = (x .number ≡ 0 → ⊥) → x .state ≡ s
 
-  beginning-goes : (room : ℕ) (next : Reaction) → Unbegun next → Unbegun (begin.beginning page s room next)
-  beginning-goes room next f =
+  beginning-same : (room : ℕ) (next : Reaction) → Unbegun next → Unbegun (begin.beginning page s room next)
+  beginning-same room next f =
       pick-elim Unbegun (panelRight page s) _ _
-      (λ _. pick-elim Unbegun (ltb room maxMessage) _ _ (λ _ _. g) (λ _. pick-elim Unbegun (ltb (s .asked .used) (2 ^ 40 - 1)) _ _ (λ _. f) (λ _ _. g))) (λ _ _. g)
+      (λ _. pick-elim Unbegun (ltb room maxMessage) _ _ (λ _ _. refl) (λ _. pick-elim Unbegun (ltb (s .asked .used) (2 ^ 40 - 1)) _ _ (λ _. f) (λ _ _. refl))) (λ _ _. refl)
 
-  read-goes : (room : ℕ) → Unbegun (begin.beginsRead page s room)
+  read-same : (room : ℕ) → Unbegun (begin.beginsRead page s room)
   unfolding begin.beginsRead
-  read-goes room = beginning-goes room _ (λ n. absurd (n refl))
+  read-same room = beginning-same room _ (λ n. absurd (n refl))
 
-  write-goes : (e c a : ℕ) (given : Bool) (version : ℕ) (src : List ℕ) (new : Value) (room : ℕ) → Unbegun (begin.beginsWrite page s e c a given version src new room)
+  write-same : (e c a : ℕ) (given : Bool) (version : ℕ) (src : List ℕ) (new : Value) (room : ℕ) → Unbegun (begin.beginsWrite page s e c a given version src new room)
   unfolding begin.beginsWrite
-  write-goes e c a given version src new room = beginning-goes room _ (pick-elim Unbegun (begin.sendable src new) _ _ (λ _ n. absurd (n refl)) (λ _ _. g))
+  write-same e c a given version src new room = beginning-same room _ (pick-elim Unbegun (begin.sendable src new) _ _ (λ _ n. absurd (n refl)) (λ _ _. refl))
 
-  resent-goes : (room : ℕ) → Keeps (begin.resends page s room)
+  resent-same : (room : ℕ) → begin.resends page s room .state ≡ s
   unfolding begin.resends
-  resent-goes room =
-      pick-elim Keeps (panelRight page s) _ _
-      (λ _. pick-elim Keeps (ltb room maxMessage) _ _ (λ _. g) (λ _. pick-elim Keeps (isOpen (s .asked .stage)) _ _ (λ _. g) (λ _. g))) (λ _. g)
+  resent-same room =
+      pick-elim (λ (x : Reaction). x .state ≡ s) (panelRight page s) _ _
+      (λ _. pick-elim (λ (x : Reaction). x .state ≡ s) (ltb room maxMessage) _ _ (λ _. refl) (λ _. pick-elim (λ (x : Reaction). x .state ≡ s) (isOpen (s .asked .stage)) _ _ (λ _. refl) (λ _. refl))) (λ _. refl)
+
+-- A STEP IN WHICH THE PANEL BEGINS NOTHING leaves it as it is, or hands it a reply
+pub record Handed (u v : World) : Type 0 where
+  pub message : List ℕ
+  pub room : ℕ
+  pub made : List·Memᴰ message (u .replies)
+  pub is : v ≡ afterPanel u (received (u .page) (u .panel) message room)
+
+pub quiet-step : {p : Plan} {u v : World} (step : Step p u v) → Quiet step → (v .panel ≡ u .panel) ⊎ Handed u v
+unfolding afterSign afterPanel
+quiet-step (alters e c a src new t) q = inl refl
+quiet-step {p} {u} (beginsRead room) q = inl (read-same (u .page) (u .panel) room q)
+quiet-step {p} {u} (beginsWrite e c a given version src new room f l t) q = inl (write-same (u .page) (u .panel) e c a given version src new room q)
+quiet-step {p} {u} (resends room) q = inl (resent-same (u .page) (u .panel) room)
+quiet-step (hears m room i) q = inl refl
+quiet-step (overhears subject m room n) q = inl refl
+quiet-step (gets m room i) q = inr (record { message = m; room = room; made = i; is = refl })
 
 -- what the sign sends is no status
 reply-no-status : (p : Plan) (u : World) (s : System Datum) → Stands p u s → (m : List ℕ) → ReplyOf (p .words) (u .requests) (s .parts) m → NoStatus (envelopeIn m)
@@ -116,14 +134,12 @@ reply-no-status p u s h m (part q i e) = subst NoStatus (sym (ap envelopeIn e �
 reply-no-status p u s h m (answer x o e fx fo k) = subst NoStatus (sym (ap envelopeIn e ∙ answer-envelope x o fx)) (λ z. omega (arith, z))
 
 step-goes : (p : Plan) {u v : World} (s : System Datum) → Stands p u s → (step : Step p u v) → Quiet step → Goes (u .panel) → Goes (v .panel)
-unfolding afterSign afterPanel
-step-goes p s h (alters e c a src new t) q g = g
-step-goes p {u} s h (beginsRead room) q g = read-goes (u .page) (u .panel) g room q
-step-goes p {u} s h (beginsWrite e c a given version src new room f l t) q g = write-goes (u .page) (u .panel) g e c a given version src new room q
-step-goes p {u} s h (resends room) q g = resent-goes (u .page) (u .panel) g room
-step-goes p s h (hears m room i) q g = g
-step-goes p s h (overhears subject m room n) q g = g
-step-goes p {u} s h (gets m room i) q g = reply-goes (u .page) (u .panel) g m room (reply-no-status p u s h m (h .replies m i))
+unfolding afterPanel
+step-goes p {u} {v} s h step q g = go (quiet-step step q)
+  where
+    go : (v .panel ≡ u .panel) ⊎ Handed u v → Goes (v .panel)
+    go (inl e) = subst Goes (sym e) g
+    go (inr k) = subst (λ (z : World). Goes (z .panel)) (sym (k .is)) (reply-goes (u .page) (u .panel) g (k .message) (k .room) (reply-no-status p u s h (k .message) (h .replies (k .message) (k .made))))
 
 pub run-goes : (p : Plan) (b : Start p) {u v : World} (s : System Datum) → Stands p u s → model.Reach (node p b) s → (run : Run p u v) → Calm run → Goes (u .panel) → Goes (v .panel)
 run-goes p b s h reach none c g = g

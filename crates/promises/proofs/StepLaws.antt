@@ -39,11 +39,12 @@ use Rattle.cache_receive.specs.Receive as panel
 use Rattle.protocol.specs.Model as Model
 use Rattle.protocol.specs.Model.{Filter, Node, Message, read, write, Part, Row, Cluster, System, Store, FiltersFor, exchangeOf, storeAll, beginRead, beginWrite, serve, accept, awaited, receive}
 use Rattle.protocol.specs.Steps as model
+use Rattle.protocol.specs.Claims.{moved}
 use Rattle.protocol.proofs.SmallLaws.{by-cond}
 use Rattle.protocol.proofs.Inductive.{reach-inv}
 use Rattle.refinement.proofs.Terms.{nodeOf, filtersAs}
 use Rattle.refinement.proofs.Bytes.{MessageAs, PartRight, partBytes, answerBytes, silent}
-use Rattle.refinement.proofs.Sign.{SignAs, Serves, moved}
+use Rattle.refinement.proofs.Sign.{SignAs, Serves}
 use Rattle.refinement.proofs.Panel.{PanelAs}
 use Rattle.sign_steps.proofs.Main.{fresh-as, message-served, change-served, other-silent, too-small, more-sent}
 use Rattle.panel_steps.proofs.Reactions.{Still, Begins, Takes}
@@ -260,7 +261,7 @@ module _ (p : Plan) (b : Start p) where
         moved-panel : u .panel ≡ x .state → u .page ≡ x .page → PanelAs (p .words) (u .requests) (x .page) (x .state) (s .cache)
         moved-panel a c = subst (λ z. PanelAs (p .words) (u .requests) (x .page) z (s .cache)) a (subst (λ (z : List ℕ). PanelAs (p .words) (u .requests) z (u .panel) (s .cache)) c (h .panel))
 
-    unbegun : (x : Reaction) → Still (u .page) (u .panel) x → Stands p (afterPanel u x) s
+    pub unbegun : (x : Reaction) → Still (u .page) (u .panel) x → Stands p (afterPanel u x) s
     unbegun x k = unchanged x (k .state) (k .page-is) (k .reply)
 
     -- what a message begins with is not nothing

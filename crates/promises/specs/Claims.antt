@@ -24,9 +24,10 @@ use Rattle.exchange.specs.Rules.{reportOpcode}
 use Rattle.cached.specs.Entries.{Entry}
 use Rattle.cache.specs.State.{reading, lastPart}
 use Rattle.cache.specs.Begin as begin
+use Rattle.cache_receive.specs.Receive.{received}
 use Rattle.cache_ask.specs.Ask.{said, saysWhole, entrySaid, saysEntry}
 use Rattle.promises.specs.World.{Plan, World, Start, granted, afterPanel}
-use Rattle.promises.specs.Runs.{Run, Reach, join, Visits, Passes, Calm, Heard, Got}
+use Rattle.promises.specs.Runs.{Run, Reach, join, Visits, Passes, indexOf, Same, Calm, Heard, Got}
 
 -- THE WORDS OF THE CLAIMS
 
@@ -92,11 +93,6 @@ pub record Arrived {p : Plan} {u v : World} (run : Run p u v) : Type 0 where
   pub requests : (m : List ℕ) → List·Memᴰ m (v .requests) → In (u .panel .asked .exchange) m → Heard m run
   pub replies : (m : List ℕ) → List·Memᴰ m (v .replies) → In (u .panel .asked .exchange) m → Got m run
 
--- the read that was open has ended on its last part
-pub record Ended (u v : World) : Type 0 where
-  pub same : v .panel .asked .exchange ≡ u .panel .asked .exchange
-  pub last : v .panel .asked .stage ≡ lastPart
-
 -- the step in which the sign takes the request of this exchange
 pub record Taking {p : Plan} {u v : World} (run : Run p u v) (exchange : ℕ) : Type 0 where
   pub at : World
@@ -113,38 +109,53 @@ pub record Making {p : Plan} {u v : World} (run : Run p u v) (m : List ℕ) : Ty
   pub before : List·Memᴰ m (at .replies) → ⊥
   pub after : List·Memᴰ m (next .replies)
 
--- A read is open. If each of its messages and each reply has arrived before the panel begins anything else, whatever else happens, then it has ended on its last part, and the
--- panel calls whole every cluster with something that it may read and that did not change between the taking of the request and the making of that part, at the version it had
-abbrev pub SecondHalf : Type 0
-SecondHalf =
-    (p : Plan) (b : Start p) (u v : World) (reach : Reach p b u) → u .panel .asked .stage ≡ reading
-    → (run : Run p u v) → Calm run → Arrived run
-    → Ended u v
-    × ((m : List ℕ) × In (u .panel .asked .exchange) m × Last m
-    × (taking : Taking (join reach run) (u .panel .asked .exchange)) × (making : Making (join reach run) m)
-    × ((endpoint cluster : ℕ) → endpoint < 2 ^ 16 → cluster < 2 ^ 32 → MayReadSome p v endpoint cluster
-    → changesOf p (taking .at) endpoint cluster ≡ changesOf p (making .at) endpoint cluster
-    → (version : ℕ) × (versionOf p (making .at) endpoint cluster ≡ just version) × CallsWhole v endpoint cluster version))
+-- the panel's read of this exchange is open; it has ended on its last part
+abbrev pub Open : World → ℕ → Type 0
+Open u exchange = (u .panel .asked .stage ≡ reading) × (u .panel .asked .exchange ≡ exchange)
 
--- the step in which the panel takes the last part of the read that was open
-pub record Ending {p : Plan} {u v : World} (run : Run p u v) : Type 0 where
+abbrev pub Ended : World → ℕ → Type 0
+Ended u exchange = (u .panel .asked .stage ≡ lastPart) × (u .panel .asked .exchange ≡ exchange)
+
+-- the step in which the panel takes this reply, the last part of this exchange
+pub record Ending {p : Plan} {u v : World} (run : Run p u v) (exchange : ℕ) (m : List ℕ) : Type 0 where
   pub at : World
   pub next : World
   pub passes : Passes run at next
-  pub opened : at .panel .asked .stage ≡ reading
-  pub last : next .panel .asked .stage ≡ lastPart
-  pub same : next .panel .asked .exchange ≡ u .panel .asked .exchange
+  pub before : Open at exchange
+  pub after : Ended next exchange
+  pub made : List·Memᴰ m (at .replies)
+  pub room : ℕ
+  pub taken : next ≡ afterPanel at (received (at .page) (at .panel) m room)
 
--- The same, said of that step: after it, and for as long as the panel begins nothing, it calls those clusters whole
-abbrev pub AtTheStep : Type 0
-AtTheStep =
-    (p : Plan) (b : Start p) (u v : World) (reach : Reach p b u) → u .panel .asked .stage ≡ reading
+-- EACH OF THESE THREE STEPS is the only one of its kind in a run, and the last part is one reply. And a report is not made before its request is taken, so that there is a time between
+-- the two
+pub record Once : Type 0 where
+  pub taking : (p : Plan) (b : Start p) (u : World) (run : Reach p b u) (exchange : ℕ) (k l : Taking run exchange)
+      → Same run (k .at) (k .next) (l .at) (l .next) (k .passes) (l .passes)
+  pub making : (p : Plan) (b : Start p) (u : World) (run : Reach p b u) (m : List ℕ) (k l : Making run m)
+      → Same run (k .at) (k .next) (l .at) (l .next) (k .passes) (l .passes)
+  pub ending : (p : Plan) (b : Start p) (u v : World) → Reach p b u → (run : Run p u v) (exchange : ℕ) (m m′ : List ℕ) (k : Ending run exchange m) (l : Ending run exchange m′)
+      → (m ≡ m′) × Same run (k .at) (k .next) (l .at) (l .next) (k .passes) (l .passes)
+  pub order : (p : Plan) (b : Start p) (u : World) (run : Reach p b u) (m : List ℕ) (f : Fields) → envelopeIn m ≡ Whole f → f .opcode ≡ reportOpcode
+      → (k : Taking run (f .exchange)) (l : Making run m) → indexOf run (k .at) (k .next) (k .passes) ≤ indexOf run (l .at) (l .next) (l .passes)
+
+-- it is so in this state, and for as long as the panel begins nothing
+abbrev pub Stays : Plan → World → (World → Type 0) → Type 0
+Stays p u P = (z : World) (on : Run p u z) → Calm on → P z
+
+-- A read is open. If each of its messages and each reply has arrived before the panel begins anything else, whatever else happens, then the panel has taken its last part. From
+-- that step on, until the panel begins something, the read has ended on its last part, and the panel calls whole every cluster with something that it may read and that did not change
+-- between the taking of the request and the making of that part, at the version it had. The rest of the run is one in which it begins nothing, so that is so at its end too
+abbrev pub SecondHalf : Type 0
+SecondHalf =
+    (p : Plan) (b : Start p) (u v : World) (reach : Reach p b u) (exchange : ℕ) → Open u exchange
     → (run : Run p u v) → Calm run → Arrived run
-    → (k : Ending run) × (m : List ℕ) × In (u .panel .asked .exchange) m × Last m
-    × (taking : Taking (join reach run) (u .panel .asked .exchange)) × (making : Making (join reach run) m)
-    × ((endpoint cluster : ℕ) → endpoint < 2 ^ 16 → cluster < 2 ^ 32 → MayReadSome p v endpoint cluster
+    → (m : List ℕ) × In exchange m × Last m
+    × (taking : Taking (join reach run) exchange) × (making : Making (join reach run) m) × (ending : Ending run exchange m)
+    × Stays p (ending .next) (λ z. Ended z exchange)
+    × ((endpoint cluster : ℕ) → endpoint < 2 ^ 16 → cluster < 2 ^ 32 → MayReadSome p (making .at) endpoint cluster
     → changesOf p (taking .at) endpoint cluster ≡ changesOf p (making .at) endpoint cluster
-    → (version : ℕ) × (versionOf p (making .at) endpoint cluster ≡ just version) × ((z : World) (on : Run p (k .next) z) → Calm on → CallsWhole z endpoint cluster version))
+    → (version : ℕ) × (versionOf p (making .at) endpoint cluster ≡ just version) × Stays p (ending .next) (λ z. CallsWhole z endpoint cluster version))
 
 -- a run from u in which all of that has arrived
 pub record Complete (p : Plan) (u : World) : Type 0 where

@@ -1,9 +1,9 @@
 -- Runs: what may happen, one step after the other (document 01, demand 3: "over a wire that loses, repeats and reorders but doesn't forge").
 use mathlib.Core.Path.{_≡_}
-use mathlib.Core.Logic.{_⊎_}
+use mathlib.Core.Logic.{_⊎_, inl, inr}
 use mathlib.Core.Bool.{Bool}
 use mathlib.Core.List.{List, [], List·Memᴰ}
-use Prim.Native.Nat.{ℕ, _^_, _≤_, _<_}
+use Prim.Native.Nat.{ℕ, suc, _^_, _≤_, _<_}
 use Rattle.tlv.specs.declared.Value.{Value}
 use Rattle.envelope.specs.Envelope.{maxMessage}
 use Rattle.interaction_writer.specs.Meaning.{PathFits}
@@ -50,6 +50,22 @@ module _ {p : Plan} where
   abbrev pub Passes : {u v : World} → Run p u v → World → World → Type 0
   Passes none x y = ⊥
   Passes {u} {v} (then {v = v′} run step) x y = Passes run x y ⊎ ((x ≡ v′) × (y ≡ v))
+
+  abbrev pub stepCount : {u v : World} → Run p u v → ℕ
+  stepCount none = 0
+  stepCount (then run step) = suc (stepCount run)
+
+  -- how many steps of the run come before that one
+  abbrev pub indexOf : {u v : World} (run : Run p u v) (x y : World) → Passes run x y → ℕ
+  indexOf none x y i = absurd i
+  indexOf (then run step) x y (inl i) = indexOf run x y i
+  indexOf (then run step) x y (inr i) = stepCount run
+
+  -- two steps of a run are one step
+  pub record Same {u v : World} (run : Run p u v) (x y x′ y′ : World) (i : Passes run x y) (i′ : Passes run x′ y′) : Type 0 where
+    pub index : indexOf run x y i ≡ indexOf run x′ y′ i′
+    pub from : x ≡ x′
+    pub to : y ≡ y′
 
   -- the panel begins nothing: such a call is refused
   abbrev pub Quiet : {u v : World} → Step p u v → Type 0

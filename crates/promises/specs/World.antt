@@ -36,8 +36,8 @@ subjectOf p = getD (p .words) subjectWord 0
 abbrev pub granted : Plan → Grants
 granted p = grantsOf (p .table) (subjectOf p) (p .words)
 
--- the sign and its edited page, the panel and its page of texts; every message that the panel has made, and every reply of the sign, the newest first. How often the version
--- of each of the schema's clusters has moved is for the statements alone
+-- the sign and its edited page, the panel and its page of texts; every message that the panel has made, and every reply of the sign, the newest first. How often each of
+-- the schema's clusters has changed is for the statements alone
 pub record World : Type 0 where
   pub sign : server.State
   pub edits : List ℕ
@@ -75,7 +75,7 @@ abbrev pub with : List ℕ → List (List ℕ) → List (List ℕ)
 with [] l = l
 with (b ∷ m) l = (b ∷ m) ∷ l
 
--- how far a version has moved, which is how often it changed: one call changes a cluster fewer than 2^32 times
+-- how many changes lead from one version to another: each adds one, and 2^32 - 1 goes to 0. It is exact, as one call makes fewer than 2^32 of them
 abbrev pub moved : ℕ → ℕ → ℕ
 moved old new = (new + 2 ^ 32 - old) % 2 ^ 32
 

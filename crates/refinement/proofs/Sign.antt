@@ -2,7 +2,7 @@
 use mathlib.Core.Path.{_≡_}
 use mathlib.Core.Bool.{true}
 use mathlib.Core.List.{List, [], _∷_, _++_}
-use Prim.Native.Nat.{ℕ, _+_, _-_, _%_, _^_, _<_}
+use Prim.Native.Nat.{ℕ, _+_, _-_, _^_, _<_}
 use lib.ListN.{length, getD}
 use Rattle.tlv.specs.Value.{Datum}
 use Rattle.schema.specs.Rows.{clusterCount, attributeCount}
@@ -15,6 +15,7 @@ use Rattle.replies.specs.Row.{keptReply, pathsOf, filtersOf}
 use Rattle.server.specs.declared.State.{State}
 use Rattle.server.proofs.KeptLaws.{ValidSign}
 use Rattle.protocol.specs.Model.{Part, Row, Cluster, System}
+use Rattle.protocol.specs.Claims.{moved}
 use Rattle.refinement.proofs.Terms.{readableFrom, filtersAs, ClustersAs}
 use Rattle.refinement.proofs.Bytes.{ReplyAs}
 
@@ -39,10 +40,6 @@ pub record SignAs (w defaults : List ℕ) (g : Grants) (sent : List (List ℕ)) 
   pub versions-fit : (k : ℕ) → getD (s .values .versions) k 0 < 2 ^ 32
   pub held : ClustersAs w defaults edits (s .values) clusters
   pub row : RowAs w g sent (s .row) r
-
--- how far a version has moved, which is how often it changed: one call changes a cluster fewer than 2^32 times
-abbrev pub moved : ℕ → ℕ → ℕ
-moved old new = (new + 2 ^ 32 - old) % 2 ^ 32
 
 -- WHAT A CALL OF THE SIGN LEAVES: the state and page after it, the reply, and the step that the protocol takes
 pub record Serves (w defaults : List ℕ) (g : Grants) (sent : List (List ℕ)) (old new : State) (edits reply : List ℕ) (s t : System Datum) : Type 0 where

@@ -26,7 +26,7 @@ use Rattle.protocol.specs.Model.{System, storeAll}
 use Rattle.refinement.proofs.Bytes.{silent}
 use Rattle.refinement.proofs.Sign.{Serves}
 use Rattle.sign_steps.proofs.Standing.{Standing, right-of}
-use Rattle.sign_steps.proofs.StoreLaws.{Once, Holds, unmoved, stored-as}
+use Rattle.sign_steps.proofs.StoreLaws.{Stored, Holds, unmoved, stored-as}
 
 -- the protocol has moved nothing but the clusters
 pub record Beside (s t : System Datum) : Type 0 where
@@ -35,9 +35,9 @@ pub record Beside (s t : System Datum) : Type 0 where
   pub messages : t .messages ≡ s .messages
   pub parts : t .parts ≡ s .parts
 
-pub once-beside : (s t : System Datum) → Once s t → Beside s t
+pub stored-beside : (s t : System Datum) → Stored s t → Beside s t
 unfolding storeAll
-once-beside s t (stores, e) = subst (Beside s) (sym e) (record { row = refl; cache = refl; messages = refl; parts = refl })
+stored-beside s t (stores, e) = subst (Beside s) (sym e) (record { row = refl; cache = refl; messages = refl; parts = refl })
 
 module _ {w defaults : List ℕ} {g : Grants} {sent : List (List ℕ)} (here : Standing w defaults g sent) where
   open Standing here using (edits, state as s, system as sys, stands)
@@ -69,7 +69,7 @@ module _ {w defaults : List ℕ} {g : Grants} {sent : List (List ℕ)} (here : S
   -- A LOCAL CHANGE
   module _ (e c a : ℕ) (src : List ℕ) (new : Value) (sized : Sized new) where
     abbrev Steps : Altered → Type 0
-    Steps x = (t : System Datum) × Once sys t × Serves w defaults g sent s (x .state) (x .edits) [] sys t
+    Steps x = (t : System Datum) × Stored sys t × Serves w defaults g sent s (x .state) (x .edits) [] sys t
 
     abbrev made : Held
     made = changed w defaults heldBy e c a src new .held
@@ -85,9 +85,9 @@ module _ {w defaults : List ℕ} {g : Grants} {sent : List (List ℕ)} (here : S
     changed-as =
         let (t, h) = reached in
         let valid = change-kept w defaults edits s (stands .valid) e c a src new sized in
-        let b = once-beside sys t (h .once) in (
+        let b = stored-beside sys t (h .stored) in (
           t,
-          h .once,
+          h .stored,
           rw altered-as (record {
             sign = record { valid = rw altered-as at valid; versions-fit = h .versions-fit; held = h .held; row = rw (b .row) (stands .row) };
             made = [];

@@ -16,8 +16,9 @@ use Rattle.replies.specs.Row.{keptReply}
 use Rattle.server.specs.Receive.{Reaction, answering, silence, withRow, replied, reacted, received}
 use Rattle.server.proofs.KeptLaws.{ValidSign, received-kept}
 use Rattle.protocol.specs.Model.{Message, Node, Part, Store, System, rowAfter, send, sendAgain, serve}
+use Rattle.protocol.specs.Claims.{moved}
 use Rattle.refinement.proofs.Bytes.{silent}
-use Rattle.refinement.proofs.Sign.{RowAs, moved, Serves}
+use Rattle.refinement.proofs.Sign.{RowAs, Serves}
 use Rattle.sign_steps.proofs.Standing.{Standing}
 use Rattle.sign_steps.proofs.StoreLaws.{unmoved}
 

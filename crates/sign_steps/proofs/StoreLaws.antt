@@ -21,16 +21,16 @@ use Rattle.values.proofs.StoreLaws.{Storing}
 use Rattle.values.proofs.MoveLaws.{version-stays, version-raised, stored-datum, other-datum}
 use Rattle.protocol.specs.Model as Model
 use Rattle.protocol.specs.Model.{System, Store, storedIn, storeAll, change}
+use Rattle.protocol.specs.Claims.{moved}
 use Rattle.refinement.proofs.Terms.{ClustersAs}
-use Rattle.refinement.proofs.Sign.{moved}
 
--- the protocol has made some stores
-abbrev pub Once : System Datum → System Datum → Type 0
-Once s t = (stores : List (Store Datum)) × (t ≡ storeAll s stores)
+-- the protocol has made these changes, in one step
+abbrev pub Stored : System Datum → System Datum → Type 0
+Stored s t = (stores : List (Store Datum)) × (t ≡ storeAll s stores)
 
--- what is held afterwards stands for what the protocol then has, and a cluster's version moved exactly where it counts a change
+-- what is held afterwards stands for what the protocol then has, and a cluster's version moved by as many as it counts changes
 pub record Holds (w defaults : List ℕ) (old : Values) (s t : System Datum) (new : Values) (edits : List ℕ) : Type 0 where
-  pub once : Once s t
+  pub stored : Stored s t
   pub versions-fit : (k : ℕ) → getD (new .versions) k 0 < 2 ^ 32
   pub held : ClustersAs w defaults edits new (t .clusters)
   pub counted : (k : ℕ) → k < clusterCount w → t .clusters k .changes ≡ s .clusters k .changes + moved (getD (old .versions) k 0) (getD (new .versions) k 0)
@@ -46,7 +46,7 @@ module _ (w defaults edits : List ℕ) (v : Values) (s : System Datum) (fit : (k
   -- nothing was stored
   pub unmoved : Holds w defaults v s s v edits
   unfolding storeAll storedIn
-  unmoved = record { once = ([], refl); versions-fit = fit; held = held; counted = λ k l. moved-not (getD (v .versions) k 0) (getD (v .versions) k 0) refl (s .clusters k .changes) }
+  unmoved = record { stored = ([], refl); versions-fit = fit; held = held; counted = λ k l. moved-not (getD (v .versions) k 0) (getD (v .versions) k 0) refl (s .clusters k .changes) }
 
   module _ (i : ℕ) (d : Datum) (st : Storing w defaults edits v i d) where
     abbrev new : Values
@@ -102,7 +102,7 @@ module _ (w defaults edits : List ℕ) (v : Values) (s : System Datum) (fit : (k
       changed-once : Holds w defaults v s next new page
       changed-once =
           record {
-            once = (record { cluster = place; attribute = i; value = d } ∷ [], refl);
+            stored = (record { cluster = place; attribute = i; value = d } ∷ [], refl);
             versions-fit = raised-fits;
             held = record { versions = raised-version; values = raised-value };
             counted = raised-counted;

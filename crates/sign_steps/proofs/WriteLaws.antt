@@ -34,8 +34,7 @@ use Rattle.protocol.specs.Model.{System, Store, storeAll, written}
 use Rattle.refinement.proofs.Bytes.{WriteFits, answerBytes, answers}
 use Rattle.refinement.proofs.Sign.{RowAs}
 use Rattle.sign_steps.proofs.Standing.{Standing}
-use Rattle.sign_steps.proofs.StoreLaws.{Once}
-use Rattle.sign_steps.proofs.ChangeLaws.{heldBy, Reached, placed-as, once-beside}
+use Rattle.sign_steps.proofs.ChangeLaws.{heldBy, Reached, placed-as, stored-beside}
 use Rattle.sign_steps.proofs.ServeLaws.{Serving, Valid}
 
 module _ {w defaults : List ℕ} {g : Grants} {sent : List (List ℕ)} (here : Standing w defaults g sent) (x : ℕ) (fx : x < 2 ^ 40) (given : Bool) (version e c a : ℕ) (d : Datum) (fits : WriteFits version e c a d) where
@@ -100,8 +99,8 @@ module _ {w defaults : List ℕ} {g : Grants} {sent : List (List ℕ)} (here : S
     unfolding written
     write-served valid =
         let (t, h) = rw (← begun-held) at reached in
-        let (stores, is) = h .once in
-        let b = once-beside sys t (h .once) in (
+        let (stores, is) = h .stored in
+        let b = stored-beside sys t (h .stored) in (
           stores,
           rw (← is) (record {
             sign = record { valid = valid; versions-fit = h .versions-fit; held = h .held; row = row-as t };
