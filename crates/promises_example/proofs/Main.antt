@@ -1,27 +1,30 @@
--- THE THEOREMS SAY SOMETHING: the computed run is a run of the ends, calm, and each of its messages arrives. So the read has ended, and the cluster that is called whole is as the sign
--- held it; the one that changed between the parts is not called whole.
-use mathlib.Core.Path.{_≡_, refl, ap, _∙_}
+-- THE THEOREMS SAY SOMETHING: the computed run is a run of the ends, calm, and each of its messages arrives. The cluster that did not change is called whole, and stays so until the panel
+-- begins something; it is as the sign held it. The one that changed between the parts is not called whole.
+use mathlib.Core.Path.{_≡_, refl, sym, ap, _∙_, subst}
 use mathlib.Core.Logic.{inl, inr}
 use mathlib.Core.List.{List, [], _∷_, List·Memᴰ, List·Memᴰ·head, List·Memᴰ·not-nil}
 use Prim.Native.Nat.{ℕ, _^_, _≤_, _<_}
 use native.Mathlib.Omega.{arith}
+use lib.ListN.{getD}
 use Rattle.tlv.specs.declared.Value.the-variants.{Text}
 use Rattle.tlv.specs.Decode.Opt.{just}
 use Rattle.envelope.specs.Envelope.{maxMessage}
-use Rattle.cache.specs.State.{reading}
+use Rattle.server.specs.Start.{freshRow}
 use Rattle.cache_ask.specs.Ask.{said, saysWhole, entrySaid, saysEntry}
 use Rattle.promises.specs.World.{World}
 use Rattle.promises.specs.Runs.{Run, none, then, Reach, join, Visits, Calm, Heard, Got, alters, beginsRead, resends, hears, gets}
-use Rattle.promises.specs.Claims.{CallsWhole, versionOf, changesOf, shown, entryFor, Arrived, Ended}
-use Rattle.promises.proofs.Main.{first-half, second-half}
+use Rattle.promises.specs.Claims.{CallsWhole, versionOf, changesOf, shown, entryFor, MayReadSome, Arrived, Taking, Making, Open, Ending, Stays}
+use Rattle.promises.proofs.Main.{first-half, second-half, once}
+use Rattle.promises.proofs.FirstLaws.{just-same}
 use Rattle.protocol.proofs.SmallLaws.{all-cons}
 use Rattle.promises_example.specs.Plan.{plan}
 use Rattle.promises_example.specs.Messages.{request, success, part1, part2, new}
-use Rattle.promises_example.specs.Panel.{panel1}
+use Rattle.promises_example.specs.Panel.{panel1, panel2, panel3}
+use Rattle.promises_example.specs.Sign.{sign0, sign1, row1}
 use Rattle.promises_example.proofs.SignCalls.{sign-calls}
 use Rattle.promises_example.proofs.PanelCalls.{panel-calls}
 use Rattle.promises_example.proofs.Start.{start}
-use Rattle.promises_example.proofs.Run.{begun, lost, resent, repeated, taken, refused, changed, sent, ended, begun-holds, resent-holds, repeated-holds, taken-holds, changed-holds, sent-holds, ended-holds}
+use Rattle.promises_example.proofs.Run.{begun, lost, resent, repeated, taken, refused, changed, sent, ended, begun-holds, lost-holds, resent-holds, repeated-holds, taken-holds, changed-holds, sent-holds, ended-holds}
 
 -- one cluster ends whole, and one not
 pub whole : CallsWhole ended 1 6 5
@@ -79,12 +82,76 @@ arrived =
     first : Got part1 run
     first = inl (inl (inl (inr (refl, full))))
 
--- so the read has ended on its last part, by the second half of the promise
-pub ends : Ended begun ended
-ends = second-half plan start begun ended reach (ap (λ c. c .asked .stage) (begun-holds .panel-is) ∙ stage) run calm arrived .0
+-- THE THREE STEPS that the second half speaks of, in this run: the request is taken when it arrives first, the last part is made after the change, and taken at the end
+abbrev whole-run : Reach plan start ended
+whole-run = join reach run
+
+pub taking : Taking whole-run 1
+unfolding lost resent repeated taken refused changed sent ended freshRow sign0 sign1 row1
+taking =
+    record {
+      at = begun;
+      next = lost;
+      passes = inl (inl (inl (inl (inl (inl (inl (inr (refl, refl))))))));
+      before = rw (begun-holds .sign-is) (omega arith);
+      after = ap (λ s. s .row .progress .last) (lost-holds .sign-is);
+    }
+
+pub making : Making whole-run part2
+unfolding lost resent repeated taken refused changed sent ended
+making =
+    record {
+      at = changed;
+      next = sent;
+      passes = inl (inr (refl, refl));
+      before = λ i. all-cons (λ (m : List ℕ). m ≡ part2 → ⊥) other (all-cons (λ (m : List ℕ). m ≡ part2 → ⊥) other (λ m i. absurd (List·Memᴰ·not-nil i))) part2 (rw (changed-holds .replies-are) at i) refl;
+      after = newest (sent-holds .replies-are);
+    }
   where
-    stage : panel1 .asked .stage ≡ reading
-    stage = unfold panel1 in refl
+    other : part1 ≡ part2 → ⊥
+    other e = absurd (omega (arith, sign-calls .turns .0, sign-calls .turns .1, ap (λ (m : List ℕ). getD m 7 0) e))
+
+pub ending : Ending run 1 part2
+unfolding lost resent repeated taken refused changed sent ended panel2 panel3
+ending =
+    record {
+      at = sent;
+      next = ended;
+      passes = inr (refl, refl);
+      before = (ap (λ c. c .asked .stage) (sent-holds .panel-is), ap (λ c. c .asked .exchange) (sent-holds .panel-is));
+      after = (ap (λ c. c .asked .stage) (ended-holds .panel-is), ap (λ c. c .asked .exchange) (ended-holds .panel-is));
+      made = newest (sent-holds .replies-are);
+      room = maxMessage;
+      taken = refl;
+    }
+
+-- there are no others; so by the second half cluster 6, which did not change, stays whole until the panel begins something
+pub stays-whole : Stays plan ended (λ z. CallsWhole z 1 6 5)
+unfolding taking making ending
+stays-whole =
+    let (m, own, last, k, l, o, over, settled) = second-half plan start begun ended reach 1 opened run calm arrived in
+    let (is, end) = once .ending plan start begun ended reach run 1 m part2 o ending in
+    let begins : k .at ≡ begun = once .taking plan start ended whole-run 1 k taking .from in
+    let makes : l .at ≡ changed = made m is l in
+    let (version, held, stays) = settled 1 6 (omega arith) (omega arith) (subst (λ (x : World). MayReadSome plan x 1 6) (sym makes) some)
+    (ap (λ (x : World). changesOf plan x 1 6) begins ∙ uncounted begun (begun-holds .unchanged) ∙ sym (uncounted changed (changed-holds .unchanged)) ∙ ap (λ (x : World). changesOf plan x 1 6) (sym makes)) in
+    let five : version ≡ 5 = just-same version 5 (sym held ∙ ap (λ (x : World). versionOf plan x 1 6) makes ∙ version5) in
+    subst (λ (x : World). Stays plan x (λ z. CallsWhole z 1 6 5)) (end .to) (subst (λ (n : ℕ). Stays plan (o .next) (λ z. CallsWhole z 1 6 n)) five stays)
+  where
+    opened : Open begun 1
+    opened = unfold panel1 in (ap (λ c. c .asked .stage) (begun-holds .panel-is), ap (λ c. c .asked .exchange) (begun-holds .panel-is))
+
+    made : (m : List ℕ) → m ≡ part2 → (l : Making whole-run m) → l .at ≡ changed
+    made m e = subst (λ (m : List ℕ). (l : Making whole-run m) → l .at ≡ changed) (sym e) (λ l. once .making plan start ended whole-run part2 l making .from)
+
+    uncounted : (x : World) → x .changes 0 ≡ 0 → changesOf plan x 1 6 ≡ 0
+    uncounted x e = rw (sign-calls .row6) e
+
+    some : MayReadSome plan changed 1 6
+    some = (0, sign-calls .may-read6 .0, omega arith, rw (changed-holds .sign-is, changed-holds .edits-are) (sign-calls .may-read6 .1))
+
+    version5 : versionOf plan changed 1 6 ≡ just 5
+    version5 = rw (sign-calls .row6, changed-holds .sign-is) (ap just (sign-calls .stands .2))
 
 -- and by the first half the sign has held version 5 of cluster 6, and the panel's entries are what it may read there, as held then
 pub held : ((x : World) × Visits (join reach run) x × (versionOf plan x 1 6 ≡ just 5))

@@ -6,6 +6,7 @@ use Prim.Native.Nat.{ℕ, _*_, _^_}
 use lib.ListN.{length, getD}
 use Rattle.utf8.specs.Bytewise.{allBelow}
 use Rattle.tlv.specs.declared.Value.the-variants.{Text}
+use Rattle.tlv.specs.Decode.Opt.{just}
 use Rattle.envelope.specs.Envelope.{maxMessage}
 use Rattle.schema.specs.declared.Found.the-variants.{At}
 use Rattle.schema.specs.Layout.{textSize}
@@ -13,10 +14,13 @@ use Rattle.schema.specs.Check.{textCount}
 use Rattle.schema.specs.Find.{findCluster}
 use Rattle.node.specs.Check.{accepted}
 use Rattle.acl.specs.Access.{tableOk}
+use Rattle.selection.specs.Items.{concreteItem}
+use Rattle.report.specs.Blocks.{blockOf}
 use Rattle.server.specs.declared.State as server
 use Rattle.server.specs.Receive as sign
 use Rattle.server.specs.Start.{Altered, started, alteredBy}
 use Rattle.cached.specs.Limits.{pageSize}
+use Rattle.cached.specs.Entries.{Entry}
 use Rattle.cache.specs.declared.State as cache
 use Rattle.cache.specs.Reaction as panel
 use Rattle.cache.specs.Begin as begin
@@ -24,6 +28,7 @@ use Rattle.cache.specs.Begin.{fresh}
 use Rattle.cache_receive.specs.Receive as receive
 use Rattle.cache_ask.specs.Ask.{said, saysWhole}
 use Rattle.promises.specs.World.{subjectOf, granted, with}
+use Rattle.promises.specs.Claims.{asked, entryFor}
 use Rattle.promises_example.specs.Plan.{edits, page, plan}
 use Rattle.promises_example.specs.Messages.{request, success, part1, part2, new}
 use Rattle.promises_example.specs.Sign.{sign0, sign1, sign2, sign3, changedEdits}
@@ -61,10 +66,12 @@ pub record SignCalls : Type 0 where
   pub alters : renewed edits sign1 ≡ record { number = 0; state = sign2; edits = changedEdits }
   -- the success gets the second part
   pub goes-on : given changedEdits sign2 success ≡ answers sign3 changedEdits part2
+  pub turns : (getD part1 7 0 ≡ 1) × (getD part2 7 0 ≡ 2)
   pub part1-sent : Sent part1
   pub part2-sent : Sent part2
-  -- cluster 6 is at version 5 throughout
+  -- cluster 6 has something to read, and is at version 5 throughout
   pub row6 : findCluster (plan .words) 1 6 ≡ At 0
+  pub may-read6 : (e : Entry) × (entryFor (blockOf (plan .words) (sign2 .values) (plan .defaults) changedEdits (asked 1 6 0) (concreteItem (plan .words) (granted plan) [] (asked 1 6 0))) ≡ just e)
   pub stands : (version6 sign0 ≡ 5) × (version6 sign1 ≡ 5) × (version6 sign2 ≡ 5) × (version6 sign3 ≡ 5)
 
 -- a panel reacts so
