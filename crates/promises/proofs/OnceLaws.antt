@@ -16,7 +16,7 @@ use Rattle.exchange.specs.Rules.{reportOpcode}
 use Rattle.cache.specs.State.{reading, lastPart}
 use Rattle.protocol.specs.Model.{System, start}
 use Rattle.protocol.specs.Steps as model
-use Rattle.protocol.proofs.SmallLaws.{awaited-is}
+use Rattle.protocol.proofs.CacheLaws.{awaited-is}
 use Rattle.protocol.proofs.Inductive.{reach-inv}
 use Rattle.protocol.proofs.OnceLaws as protocol
 use Rattle.refinement.proofs.Bytes.{partBytes}

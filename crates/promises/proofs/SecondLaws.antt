@@ -33,7 +33,8 @@ use Rattle.protocol.specs.Model.{Place, Message, Part, Cache, System, CoherentI
 use Rattle.protocol.specs.Steps as steps
 use Rattle.protocol.specs.Claims as claims
 use Rattle.protocol.proofs.Main as protocol
-use Rattle.protocol.proofs.SmallLaws.{T-of, awaited-is, last-taken}
+use Rattle.protocol.proofs.SmallLaws.{T-of}
+use Rattle.protocol.proofs.CacheLaws.{awaited-is, last-taken}
 use Rattle.protocol.proofs.OnceLaws.{part-once, passes-more, passes-reach, cut}
 use Rattle.protocol.proofs.ProgressLaws.{calm-parts, calm-keeps}
 use Rattle.refinement.proofs.Terms.{placeAt, mayRead}
@@ -333,5 +334,5 @@ second-half p b u v reach exchange open-read run calm arrived = (
   making p b reach exchange open-read run calm arrived,
   ending p b reach exchange open-read run calm arrived,
   ended p b reach exchange open-read run calm arrived,
-  λ e c _ _. settled p b reach exchange open-read run calm arrived e c,
+  λ e c _ _ some still. settled p b reach exchange open-read run calm arrived e c some still,
 )
