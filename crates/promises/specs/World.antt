@@ -75,7 +75,8 @@ abbrev pub with : List ℕ → List (List ℕ) → List (List ℕ)
 with [] l = l
 with (b ∷ m) l = (b ∷ m) ∷ l
 
--- how many changes lead from one version to another: each adds one, and 2^32 - 1 goes to 0. It is exact, as one call makes fewer than 2^32 of them
+-- how many changes lead from one version to another: each adds one, and 2^32 - 1 goes to 0. It is exact, as one call makes fewer than 2^32: at most one for
+-- each entry of a write
 abbrev pub moved : ℕ → ℕ → ℕ
 moved old new = (new + 2 ^ 32 - old) % 2 ^ 32
 
