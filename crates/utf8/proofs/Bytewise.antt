@@ -102,7 +102,7 @@ Step a b c d s = completes (pending a b c) (d ∷ s) ≡ (allowed a b c d && com
 nowhere : (d : ℕ) → within (1, 0) d ≡ false
 nowhere d = split d 1 (λ h. under (1, 0) d h) (λ h. over (1, 0) d (omega arith))
 
-dead : (s : List ℕ) → completes ((1, 0) ∷ []) s ≡ false
+pub dead : (s : List ℕ) → completes ((1, 0) ∷ []) s ≡ false
 unfolding completes
 dead [] = refl
 dead (d ∷ s) = rw (nowhere d)

@@ -6,4 +6,5 @@ pub mod Bytewise
 pub mod Shorter
 pub mod Scalars
 pub mod Joins
+pub mod Cuts
 pub mod Examples

@@ -3,6 +3,7 @@ ghost use mathlib.Core.Path.{_≡_};
 ghost use mathlib.Core.Bool.{true};
 ghost use Rattle.utf8.specs.WellFormed.{wellFormed};
 ghost use Rattle.utf8.specs.Bytewise.{Greatest, allBelow, due, allowed, allowed3, allowed2};
+ghost use Rattle.utf8.specs.Boundary.{boundary, cutWell};
 
 // The greatest byte. No way out of the loop, so that it becomes a vector maximum.
 fn greatest(s: &[u8]) -> u8
@@ -147,4 +148,28 @@ pub fn valid(s: &[u8]) -> bool
         return up_to_three(s);
     }
     up_to_four(s)
+}
+
+// Whether a sequence may begin or the bytes end at this place of a page: the byte there is no trailing one, or there is none.
+pub fn is_boundary(page: &[u8], at: usize) -> bool
+    ensures { λ r. ⌜ r ≡ boundary (now (page .entry)) at ⌝ }
+{
+    if page.len() <= at {
+        return true;
+    }
+    let d = page[at];
+    !((0x80 <= d) & (d <= 0xBF))
+}
+
+// Whether a part of a page is cut at boundaries: then it is well-formed where the page is. The part may reach past the end of the page, which ends it.
+pub fn is_cut_well(page: &[u8], start: usize, len: usize) -> bool
+    ensures { λ r. ⌜ r ≡ cutWell (now (page .entry)) start len ⌝ }
+{
+    if page.len() <= start {
+        return true;
+    }
+    if page.len() - start < len {
+        return is_boundary(page, start);
+    }
+    (len == 0) | (is_boundary(page, start) & is_boundary(page, start + len))
 }
