@@ -1,8 +1,10 @@
 // Whether bytes are well-formed UTF-8.
 ghost use mathlib.Core.Path.{_≡_};
 ghost use mathlib.Core.Bool.{true};
+ghost use Prim.Native.Nat.{_≤_, _<_};
+ghost use lib.ListN.{length, getD};
 ghost use Rattle.utf8.specs.WellFormed.{wellFormed};
-ghost use Rattle.utf8.specs.Bytewise.{Greatest, allBelow, due, allowed, allowed3, allowed2};
+ghost use Rattle.utf8.specs.Bytewise.{Greatest, allBelow, back, due, allowed, allowed3, allowed2};
 ghost use Rattle.utf8.specs.Boundary.{boundary, cutWell};
 
 // The greatest byte. No way out of the loop, so that it becomes a vector maximum.
@@ -61,43 +63,8 @@ fn is_allowed(a: u8, b: u8, c: u8, d: u8) -> bool
     ((due | !trails) & (!due | trails)) & (begins & (three & four))
 }
 
-// Whether bytes of which none begins a sequence of three bytes or four are well-formed.
-fn up_to_two(s: &[u8]) -> bool
-    requires { ⌜ allBelow 0xE0 (now s) ≡ true ⌝ }
-    ensures { λ r. ⌜ r ≡ wellFormed (now (s .entry)) ⌝ }
-{
-    let mut c: u8 = 0;
-    let mut good = true;
-    let mut i: usize = 0;
-    while i < s.len() {
-        let d = s[i];
-        good = good & is_allowed_two(c, d);
-        c = d;
-        i += 1;
-    }
-    good & (c < 0xC0)
-}
-
-// Whether bytes of which none begins a sequence of four are well-formed.
-fn up_to_three(s: &[u8]) -> bool
-    requires { ⌜ allBelow 0xF0 (now s) ≡ true ⌝ }
-    ensures { λ r. ⌜ r ≡ wellFormed (now (s .entry)) ⌝ }
-{
-    let mut b: u8 = 0;
-    let mut c: u8 = 0;
-    let mut good = true;
-    let mut i: usize = 0;
-    while i < s.len() {
-        let d = s[i];
-        good = good & is_allowed_three(b, c, d);
-        b = c;
-        c = d;
-        i += 1;
-    }
-    good & ((c < 0xC0) & (b < 0xE0))
-}
-
-fn up_to_four(s: &[u8]) -> bool
+// Whether bytes are well-formed, the last three carried along: for a few bytes.
+fn few(s: &[u8]) -> bool
     ensures { λ r. ⌜ r ≡ wellFormed (now (s .entry)) ⌝ }
 {
     let mut a: u8 = 0;
@@ -114,6 +81,75 @@ fn up_to_four(s: &[u8]) -> bool
         i += 1;
     }
     good & !is_due(a, b, c)
+}
+
+// Whether bytes of which none begins a sequence of three bytes or four are well-formed. The byte before each is read again and not carried along: one load
+// of vector code in place of three steps. The same holds of the two functions for longer sequences.
+fn up_to_two(s: &[u8]) -> bool
+    requires { ⌜ (1 ≤ length (now s)) × (allBelow 0xE0 (now s) ≡ true) ⌝ }
+    ensures { λ r. ⌜ r ≡ wellFormed (now (s .entry)) ⌝ }
+{
+    let mut good = is_allowed_two(0, s[0]);
+    let mut i: usize = 1;
+    while i < s.len() {
+        good = good & is_allowed_two(s[i - 1], s[i]);
+        i += 1;
+    }
+    good & (s[i - 1] < 0xC0)
+}
+
+// Whether byte i may come where it stands, where sequences have at most three bytes.
+fn is_allowed_three_at(s: &[u8], i: usize) -> bool
+    requires { ⌜ (2 ≤ i) × (i < length (now s)) ⌝ }
+    ensures { λ r. ⌜ r ≡ allowed3 (back (now (s .entry)) i 2) (back (now (s .entry)) i 1) (getD (now (s .entry)) i 0) ⌝ }
+{
+    is_allowed_three(s[i - 2], s[i - 1], s[i])
+}
+
+// Whether bytes of which none begins a sequence of four are well-formed.
+fn up_to_three(s: &[u8]) -> bool
+    requires { ⌜ (2 ≤ length (now s)) × (allBelow 0xF0 (now s) ≡ true) ⌝ }
+    ensures { λ r. ⌜ r ≡ wellFormed (now (s .entry)) ⌝ }
+{
+    let b = s[0];
+    let mut good = is_allowed_three(0, 0, b) & is_allowed_three(0, b, s[1]);
+    let mut i: usize = 2;
+    while i < s.len() {
+        good = good & is_allowed_three_at(s, i);
+        i += 1;
+    }
+    good & ((s[i - 1] < 0xC0) & (s[i - 2] < 0xE0))
+}
+
+// Whether a trailing byte must come at i.
+fn is_due_at(s: &[u8], i: usize) -> bool
+    requires { ⌜ (3 ≤ i) × (i ≤ length (now s)) ⌝ }
+    ensures { λ r. ⌜ r ≡ due (back (now (s .entry)) i 3) (back (now (s .entry)) i 2) (back (now (s .entry)) i 1) ⌝ }
+{
+    is_due(s[i - 3], s[i - 2], s[i - 1])
+}
+
+// Whether byte i may come where it stands.
+fn is_allowed_at(s: &[u8], i: usize) -> bool
+    requires { ⌜ (3 ≤ i) × (i < length (now s)) ⌝ }
+    ensures { λ r. ⌜ r ≡ allowed (back (now (s .entry)) i 3) (back (now (s .entry)) i 2) (back (now (s .entry)) i 1) (getD (now (s .entry)) i 0) ⌝ }
+{
+    is_allowed(s[i - 3], s[i - 2], s[i - 1], s[i])
+}
+
+fn up_to_four(s: &[u8]) -> bool
+    requires { ⌜ 3 ≤ length (now s) ⌝ }
+    ensures { λ r. ⌜ r ≡ wellFormed (now (s .entry)) ⌝ }
+{
+    let a = s[0];
+    let b = s[1];
+    let mut good = (is_allowed(0, 0, 0, a) & is_allowed(0, 0, a, b)) & is_allowed(0, a, b, s[2]);
+    let mut i: usize = 3;
+    while i < s.len() {
+        good = good & is_allowed_at(s, i);
+        i += 1;
+    }
+    good & !is_due_at(s, i)
 }
 
 // Whether every byte is below 128: bytes like that are well-formed, and so is each part of them. It is for whole pages: the quarters are read side by side,
@@ -140,6 +176,9 @@ pub fn valid(s: &[u8]) -> bool
     let m = greatest(s);
     if m < 0x80 {
         return true;
+    }
+    if s.len() < 3 {
+        return few(s);
     }
     if m < 0xE0 {
         return up_to_two(s);
