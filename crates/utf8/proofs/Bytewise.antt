@@ -2,7 +2,7 @@
 use mathlib.Core.Path.{_≡_, refl, sym, ap, _∙_}
 use mathlib.Core.Bool.{Bool, true, false, cond, not, _&&_, _||_}
 use mathlib.Core.List.{List, [], _∷_}
-use Prim.Native.Nat.{ℕ, suc, _+_, _≤_, _<_}
+use Prim.Native.Nat.{ℕ, suc, _+_, _-_, _≤_, _<_}
 use native.Mathlib.Numerals.{add-one}
 use native.Mathlib.Omega.{arith}
 use borrow.Author.Tests.{leb-true, leb-false, ltb-true, ltb-false, eqb-true, le-leb, lt-leb, lt-ltb, le-ltb, ne-eqb}
@@ -10,7 +10,7 @@ use lib.Dec.{leb, ltb, eqb}
 use lib.ListN.{length, getD, drop, drop-of-length-le}
 use lib.Seq.{drop-cons}
 use Rattle.utf8.specs.WellFormed.{Range, within, table, trailing, completes, wellFormed}
-use Rattle.utf8.specs.Bytewise.{due, trails, begins, second, allowed, judged}
+use Rattle.utf8.specs.Bytewise.{back, due, trails, begins, second, allowed, judged}
 use Rattle.utf8.proofs.Lines.{and-false, and-true, split, high, under, over, line, no-line, by-line}
 
 pub and-assoc : (x y z : Bool) → (x && (y && z)) ≡ ((x && y) && z)
@@ -102,7 +102,7 @@ Step a b c d s = completes (pending a b c) (d ∷ s) ≡ (allowed a b c d && com
 nowhere : (d : ℕ) → within (1, 0) d ≡ false
 nowhere d = split d 1 (λ h. under (1, 0) d h) (λ h. over (1, 0) d (omega arith))
 
-dead : (s : List ℕ) → completes ((1, 0) ∷ []) s ≡ false
+pub dead : (s : List ℕ) → completes ((1, 0) ∷ []) s ≡ false
 unfolding completes
 dead [] = refl
 dead (d ∷ s) = rw (nowhere d)
@@ -241,3 +241,22 @@ module _ (s : List ℕ) (a b c i : ℕ) (good : Bool) (inv : wellFormed s ≡ (g
   pub ended : length s ≤ i → (good && not (due a b c)) ≡ wellFormed s
   unfolding judged
   ended h = sym (inv ∙ rw (drop-of-length-le s h))
+
+-- ---- the same where the last three bytes are read again: from i on, at least 3
+abbrev pub FourFrom : List ℕ → ℕ → Bool → Type 0
+FourFrom s i good = wellFormed s ≡ (good && judged (back s i 3) (back s i 2) (back s i 1) (drop i s))
+
+pub four-begin : (s : List ℕ) → 3 ≤ length s → FourFrom s 3 ((allowed 0 0 0 (getD s 0 0) && allowed 0 0 (getD s 0 0) (getD s 1 0)) && allowed 0 (getD s 0 0) (getD s 1 0) (getD s 2 0))
+four-begin s h =
+    let a = getD s 0 0 in
+    let b = getD s 1 0 in
+    let p = one-further s 0 0 0 0 true (as-walked s) (omega arith) in
+    let q = one-further s 0 0 a 1 (allowed 0 0 0 a) p (omega arith) in
+    one-further s 0 a b 2 (allowed 0 0 0 a && allowed 0 0 a b) q (omega arith)
+
+pub four-turn : (s : List ℕ) (i : ℕ) (good : Bool) → FourFrom s i good → 3 ≤ i → i < length s → FourFrom s (i + 1) (good && allowed (back s i 3) (back s i 2) (back s i 1) (getD s i 0))
+four-turn s i good inv l h =
+    let e₃ : i + 1 - 3 ≡ i - 2 = omega arith in
+    let e₂ : i + 1 - 2 ≡ i - 1 = omega arith in
+    let e₁ : i + 1 - 1 ≡ i = omega arith in
+    rw (e₃, e₂, e₁) (one-further s (back s i 3) (back s i 2) (back s i 1) i good inv h)

@@ -3,6 +3,8 @@ use mathlib.Core.Path.{_≡_, refl}
 use mathlib.Core.Bool.{true, false}
 use mathlib.Core.List.{[], _∷_}
 use Rattle.utf8.specs.WellFormed.{within, table, after, trailing, completes, wellFormed}
+use Rattle.utf8.specs.Bytewise.{trails}
+use Rattle.utf8.specs.Boundary.{boundary, cutWell}
 use Rattle.utf8.specs.Scalar.{encode, joined}
 
 -- nothing, U+00FC, U+20AC, U+1F600, and all of them after an ASCII byte
@@ -19,3 +21,8 @@ refused = (refl, refl, refl, refl, refl, refl, refl)
 encoded : joined (0x41 ∷ 0xFC ∷ 0x20AC ∷ 0x1F600 ∷ []) ≡ 0x41 ∷ 0xC3 ∷ 0xBC ∷ 0xE2 ∷ 0x82 ∷ 0xAC ∷ 0xF0 ∷ 0x9F ∷ 0x98 ∷ 0x80 ∷ []
 unfolding joined encode
 encoded = refl
+
+-- of A, U+00FC, B: the middle one, half of it, from its half on, and nothing in its middle
+cut : (cutWell (0x41 ∷ 0xC3 ∷ 0xBC ∷ 0x42 ∷ []) 1 2 ≡ true) × (cutWell (0x41 ∷ 0xC3 ∷ 0xBC ∷ 0x42 ∷ []) 1 1 ≡ false) × (cutWell (0x41 ∷ 0xC3 ∷ 0xBC ∷ 0x42 ∷ []) 2 2 ≡ false) × (cutWell (0x41 ∷ 0xC3 ∷ 0xBC ∷ 0x42 ∷ []) 2 0 ≡ true)
+unfolding cutWell boundary trails
+cut = (refl, refl, refl, refl)

@@ -4,6 +4,8 @@ pub mod Below
 pub mod Quarters
 pub mod Bytewise
 pub mod Shorter
+pub mod Seconds
 pub mod Scalars
 pub mod Joins
+pub mod Cuts
 pub mod Examples

@@ -2,7 +2,7 @@
 use mathlib.Core.Path.{_≡_, refl, sym, _∙_}
 use mathlib.Core.Bool.{Bool, true, false, not, _&&_, _||_}
 use mathlib.Core.List.{List, [], _∷_}
-use Prim.Native.Nat.{ℕ, suc, _+_, _≤_, _<_}
+use Prim.Native.Nat.{ℕ, suc, _+_, _-_, _≤_, _<_}
 use native.Mathlib.Numerals.{add-one}
 use native.Mathlib.Omega.{arith}
 use borrow.Author.Tests.{ltb-true, le-leb, lt-leb, lt-ltb, le-ltb, ne-eqb}
@@ -10,7 +10,7 @@ use lib.Dec.{ltb}
 use lib.ListN.{length, getD, drop, drop-of-length-le}
 use lib.Seq.{drop-cons}
 use Rattle.utf8.specs.WellFormed.{wellFormed}
-use Rattle.utf8.specs.Bytewise.{allBelow, due, begins, second, allowed, judged, allowed3, judged3, allowed2, judged2}
+use Rattle.utf8.specs.Bytewise.{allBelow, back, due, begins, second, allowed, judged, allowed3, judged3, allowed2, judged2}
 use Rattle.utf8.proofs.Lines.{and-l, and-r, and-true, split}
 use Rattle.utf8.proofs.Below.{raised}
 use Rattle.utf8.proofs.Bytewise.{and-assoc, as-walked}
@@ -80,3 +80,29 @@ module _ (s : List ℕ) (i : ℕ) (good : Bool) where
     pub ended-two : length s ≤ i → (good && ltb c 0xC0) ≡ wellFormed s
     unfolding judged2
     ended-two h = sym (inv ∙ rw (drop-of-length-le s h))
+
+-- ---- the same where the last bytes are read again: from i on, at least 2 or 1
+abbrev pub ThreeFrom : List ℕ → ℕ → Bool → Type 0
+ThreeFrom s i good = wellFormed s ≡ (good && judged3 (back s i 2) (back s i 1) (drop i s))
+
+pub three-begin : (s : List ℕ) → allBelow 0xF0 s ≡ true → 2 ≤ length s → ThreeFrom s 2 (allowed3 0 0 (getD s 0 0) && allowed3 0 (getD s 0 0) (getD s 1 0))
+three-begin s k h =
+    let p = further-three s 0 true 0 0 (as-three s k) (omega arith) in
+    further-three s 1 (allowed3 0 0 (getD s 0 0)) 0 (getD s 0 0) p (omega arith)
+
+pub three-turn : (s : List ℕ) (i : ℕ) (good : Bool) → ThreeFrom s i good → 2 ≤ i → i < length s → ThreeFrom s (i + 1) (good && allowed3 (back s i 2) (back s i 1) (getD s i 0))
+three-turn s i good inv l h =
+    let e₂ : i + 1 - 2 ≡ i - 1 = omega arith in
+    let e₁ : i + 1 - 1 ≡ i = omega arith in
+    rw (e₂, e₁) (further-three s i good (back s i 2) (back s i 1) inv h)
+
+abbrev pub TwoFrom : List ℕ → ℕ → Bool → Type 0
+TwoFrom s i good = wellFormed s ≡ (good && judged2 (back s i 1) (drop i s))
+
+pub two-begin : (s : List ℕ) → allBelow 0xE0 s ≡ true → 1 ≤ length s → TwoFrom s 1 (allowed2 0 (getD s 0 0))
+two-begin s k h = further-two s 0 true 0 (as-two s k) (omega arith)
+
+pub two-turn : (s : List ℕ) (i : ℕ) (good : Bool) → TwoFrom s i good → i < length s → TwoFrom s (i + 1) (good && allowed2 (back s i 1) (getD s i 0))
+two-turn s i good inv h =
+    let e₁ : i + 1 - 1 ≡ i = omega arith in
+    rw e₁ (further-two s i good (back s i 1) inv h)

@@ -2,8 +2,9 @@
 use mathlib.Core.Path.{_≡_}
 use mathlib.Core.Bool.{Bool, true, not, _&&_, _||_}
 use mathlib.Core.List.{List, [], _∷_}
-use Prim.Native.Nat.{ℕ, _<_}
+use Prim.Native.Nat.{ℕ, _-_, _<_}
 use lib.Dec.{leb, ltb, eqb}
+use lib.ListN.{getD}
 
 -- every byte is below k
 unfoldable pub allBelow : ℕ → List ℕ → Bool
@@ -39,6 +40,10 @@ allowed a b c d = ((due a b c || not (trails d)) && (not (due a b c) || trails d
 unfoldable pub judged : ℕ → ℕ → ℕ → List ℕ → Bool
 judged a b c [] = not (due a b c)
 judged a b c (d ∷ s) = allowed a b c d && judged b c d s
+
+-- the byte k places before i
+abbrev pub back : List ℕ → ℕ → ℕ → ℕ
+back s i k = getD s (i - k) 0
 
 -- THE SAME where no byte begins a sequence of four bytes: the last two decide
 unfoldable pub allowed3 : ℕ → ℕ → ℕ → Bool

@@ -1,3 +1,4 @@
 pub mod WellFormed
 pub mod Bytewise
+pub mod Boundary
 pub mod Scalar

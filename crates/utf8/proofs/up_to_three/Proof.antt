@@ -1,30 +1,38 @@
 -- `utf8::up_to_three` meets its contract. The invariant: what was good so far, and the bytes from here on, after the last two, give the answer.
-use mathlib.Core.Path.{_≡_}
-use mathlib.Core.Bool.{_&&_}
 use Prim.Native.Nat.{_≤_, _-_}
 use native.Mathlib.Omega.{arith}
 use borrow.Author.Needs.{needs}
-use lib.ListN.{length, drop}
-use Rattle.utf8.specs.WellFormed.{wellFormed}
-use Rattle.utf8.specs.Bytewise.{judged3}
-use Rattle.utf8.proofs.Shorter.{as-three, further-three, ended-three}
+use lib.ListN.{length}
+use Rattle.utf8.specs.Bytewise.{back}
+use Rattle.utf8.proofs.Shorter.{ThreeFrom, three-begin, three-turn, ended-three}
 use Rattle.utf8.proofs.up_to_three.Statement.{statement}
 use Rattle.utf8.proofs.up_to_three.Tie as tie
 
 abbrev Inv-loop : tie.InvT-loop
-Inv-loop s b₀ c₀ good₀ i₀ b c good i = (i ≤ length s) × (wellFormed s ≡ (good && judged3 b c (drop i s)))
+Inv-loop s b good₀ i₀ good i = (2 ≤ i) × ((i ≤ length s) × ThreeFrom s i good)
 
 abbrev μ-loop : tie.MeasureT-loop
-μ-loop s b₀ c₀ good₀ i₀ b c good i = length s - i
+μ-loop s b good₀ i₀ good i = length s - i
 
-loop-holds : tie.Need-loop-holds Inv-loop μ-loop
-loop-holds c = (omega arith, as-three _ (c .before .pre))
-
-shared-slice-read-d : tie.Need-shared-slice-read-d Inv-loop μ-loop
-shared-slice-read-d c = omega arith
+shared-slice-read-b : tie.Need-shared-slice-read-b Inv-loop μ-loop
+shared-slice-read-b c = omega arith
 
 is-allowed-three-requires : tie.Need-is-allowed-three-requires Inv-loop μ-loop
 is-allowed-three-requires c κs = search needs
+
+shared-slice-read-is-allowed-three : tie.Need-shared-slice-read-is-allowed-three Inv-loop μ-loop
+shared-slice-read-is-allowed-three c = omega arith
+
+is-allowed-three-requires-2 : tie.Need-is-allowed-three-requires-2 Inv-loop μ-loop
+is-allowed-three-requires-2 c κs = search needs
+
+loop-holds : tie.Need-loop-holds Inv-loop μ-loop
+loop-holds c =
+    let start = c .before .before .before .before .before in
+    (omega arith, (omega arith, rw (c .before .before .is-allowed-three .ensures, c .is-allowed-three2 .ensures) (three-begin (start .args .s .now) (start .pre .1) (omega arith))))
+
+is-allowed-three-at-requires : tie.Need-is-allowed-three-at-requires Inv-loop μ-loop
+is-allowed-three-at-requires c κs = search needs
 
 add-i : tie.Need-add-i Inv-loop μ-loop
 add-i c = omega arith
@@ -34,11 +42,44 @@ loop-less c = omega arith
 
 loop-again : tie.Need-loop-again Inv-loop μ-loop
 loop-again c =
-    let l = c .before .before .before .loop in
-    (omega arith, rw (c .is-allowed-three .ensures) (further-three (c .before .before .before .before .before .args .s .now) (l .i) (l .good) (l .b) (l .c) (l .inv .1) (omega arith)))
+    let l = c .before .before .loop in
+    (omega arith, (omega arith, rw (c .is-allowed-three-at .ensures) (three-turn (c .before .before .before .before .before .before .before .before .args .s .now) (l .i) (l .good) (l .inv .1 .1) (omega arith) (omega arith))))
+
+sub-result : tie.Need-sub-result Inv-loop μ-loop
+sub-result c = omega arith
+
+shared-slice-read-result : tie.Need-shared-slice-read-result Inv-loop μ-loop
+shared-slice-read-result c = omega arith
+
+sub-result-2 : tie.Need-sub-result-2 Inv-loop μ-loop
+sub-result-2 c = omega arith
+
+shared-slice-read-result-2 : tie.Need-shared-slice-read-result-2 Inv-loop μ-loop
+shared-slice-read-result-2 c = omega arith
 
 returns : tie.Need-returns Inv-loop μ-loop
-returns c = let l = c .before .loop in ended-three (c .before .before .before .args .s .now) (l .i) (l .good) (l .b) (l .c) (l .inv .1) (c .loop-test .left)
+returns c =
+    let l = c .before .before .before .loop in
+    let s = c .before .before .before .before .before .before .before .before .before .args .s .now in
+    ended-three s (l .i) (l .good) (back s (l .i) 2) (back s (l .i) 1) (l .inv .1 .1) (c .before .before .loop-test .left)
 
 pub up-to-three-spec : {M : Type 1} → statement M
-up-to-three-spec = tie.close (tie.spec Inv-loop μ-loop loop-holds shared-slice-read-d is-allowed-three-requires add-i loop-less loop-again returns)
+up-to-three-spec =
+    tie.close
+    (tie.spec
+    Inv-loop
+    μ-loop
+    shared-slice-read-b
+    is-allowed-three-requires
+    shared-slice-read-is-allowed-three
+    is-allowed-three-requires-2
+    loop-holds
+    is-allowed-three-at-requires
+    add-i
+    loop-less
+    loop-again
+    sub-result
+    shared-slice-read-result
+    sub-result-2
+    shared-slice-read-result-2
+    returns)

@@ -13,23 +13,31 @@ greatest-requires c κs = search needs
 returns : tie.Need-returns
 returns c = sym (ascii-formed _ (sym (c .before .greatest .ensures 0x80 (omega arith)) ∙ lt-ltb _ _ (c .if1 .taken)))
 
-up-to-two-requires : tie.Need-up-to-two-requires
-up-to-two-requires c κs = sym (c .before .before .greatest .ensures 0xE0 (omega arith)) ∙ lt-ltb _ _ (c .if2 .taken)
+few-requires : tie.Need-few-requires
+few-requires c κs = search needs
 
 returns-2 : tie.Need-returns-2
 returns-2 c = search needs
 
-up-to-three-requires : tie.Need-up-to-three-requires
-up-to-three-requires c κs = sym (c .before .before .before .greatest .ensures 0xF0 (omega arith)) ∙ lt-ltb _ _ (c .if3 .taken)
+up-to-two-requires : tie.Need-up-to-two-requires
+up-to-two-requires c κs =
+    (omega arith, sym (c .before .before .before .greatest .ensures 0xE0 (omega arith)) ∙ lt-ltb _ _ (c .if3 .taken))
 
 returns-3 : tie.Need-returns-3
 returns-3 c = search needs
 
-up-to-four-requires : tie.Need-up-to-four-requires
-up-to-four-requires c κs = search needs
+up-to-three-requires : tie.Need-up-to-three-requires
+up-to-three-requires c κs =
+    (omega arith, sym (c .before .before .before .before .greatest .ensures 0xF0 (omega arith)) ∙ lt-ltb _ _ (c .if4 .taken))
 
 returns-4 : tie.Need-returns-4
 returns-4 c = search needs
+
+up-to-four-requires : tie.Need-up-to-four-requires
+up-to-four-requires c κs = search needs
+
+returns-5 : tie.Need-returns-5
+returns-5 c = search needs
 
 pub valid-spec : {M : Type 1} → statement M
 valid-spec =
@@ -37,9 +45,11 @@ valid-spec =
     (tie.spec
     greatest-requires
     returns
-    up-to-two-requires
+    few-requires
     returns-2
-    up-to-three-requires
+    up-to-two-requires
     returns-3
+    up-to-three-requires
+    returns-4
     up-to-four-requires
-    returns-4)
+    returns-5)
