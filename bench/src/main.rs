@@ -1,6 +1,7 @@
 //! Holds the proved sign to one in ordinary Rust, and times the proved libraries, called from Rust: the test of refusal 2 beside what it guards, the sign's
 //! calls beside ordinary Rust, the panel's beside the second program. What is answered is asserted, how long it takes is not.
 
+mod against;
 mod clock;
 mod library;
 mod messages;
@@ -15,18 +16,23 @@ mod setup;
 mod sign_times;
 mod signs;
 
+/// How many generated scripts are held before anything is timed.
+const SEEDS: u64 = 300;
+
 fn main() {
     let words: Vec<String> = std::env::args().skip(1).collect();
     let words: Vec<&str> = words.iter().map(String::as_str).collect();
     let number = |word: &str| word.parse::<u64>().expect("a number");
     match words[..] {
         [] => {
+            against::hold(SEEDS, 1);
             refusal::print();
             sign_times::reads();
             sign_times::singles();
             sign_times::growth();
             panel_times::reports();
         }
+        ["against", seeds, first] => against::hold(number(seeds), number(first)),
         [name, attributes, times] => {
             repeat::repeat(name, number(attributes) as usize, number(times) as usize)
         }
