@@ -15,6 +15,7 @@ mod second;
 mod setup;
 mod sign_times;
 mod signs;
+mod stack;
 
 /// How many generated scripts are held before anything is timed.
 const SEEDS: u64 = 300;
@@ -31,7 +32,9 @@ fn main() {
             sign_times::singles();
             sign_times::growth();
             panel_times::reports();
+            stack::print();
         }
+        ["stack"] => stack::print(),
         ["against", seeds, first] => against::hold(number(seeds), number(first)),
         [name, attributes, times] => {
             repeat::repeat(name, number(attributes) as usize, number(times) as usize)
