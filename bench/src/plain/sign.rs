@@ -17,6 +17,23 @@ const REPORT: u8 = 5;
 const WRITE_REQUEST: u8 = 6;
 const WRITE_RESPONSE: u8 = 7;
 
+struct Envelope {
+    opcode: u8,
+    exchange: u64,
+    turn: u16,
+}
+
+/// The envelope of a message that a sign takes, and the payload; none where refusal 4 is due.
+fn open(message: &[u8]) -> Option<(Envelope, &[u8])> {
+    let (head, payload) = message.split_first_chunk()?;
+    let word = u64::from_be_bytes(*head);
+    let (edition, opcode) = (word >> 60, (word >> 56) as u8 & 15);
+    let known = matches!(opcode, STATUS_RESPONSE | READ_REQUEST | WRITE_REQUEST);
+    let (exchange, turn) = (word >> 16 & (EXCHANGES - 1), word as u16);
+    (message.len() <= MESSAGE && edition == 0 && known)
+        .then_some((Envelope { opcode, exchange, turn }, payload))
+}
+
 #[derive(Clone, Copy, PartialEq, Debug)]
 pub enum Answer {
     /// A reply of this length.
@@ -105,23 +122,16 @@ impl<const CHECKED: bool> Sign<CHECKED> {
         if out.len() < MESSAGE {
             return Answer::Refused(3);
         }
-        let Some((head, payload)) = message.split_first_chunk() else {
+        let Some((envelope, payload)) = open(message) else {
             return Answer::Refused(4);
         };
-        let word = u64::from_be_bytes(*head);
-        let (edition, opcode) = (word >> 60, (word >> 56) as u8 & 15);
-        let known = matches!(opcode, STATUS_RESPONSE | READ_REQUEST | WRITE_REQUEST);
-        if message.len() > MESSAGE || edition != 0 || !known {
-            return Answer::Refused(4);
-        }
         if subject != schema.subject {
             return Answer::Nothing;
         }
-        let (exchange, turn) = (word >> 16 & (EXCHANGES - 1), word as u16);
         let lent = Lent { schema, table, subject };
-        let answered = match opcode {
-            STATUS_RESPONSE => self.take_status(lent, edits, exchange, turn, payload),
-            _ => self.take_request(lent, edits, opcode, exchange, turn, payload),
+        let answered = match envelope.opcode {
+            STATUS_RESPONSE => self.take_status(lent, edits, &envelope, payload),
+            _ => self.take_request(lent, edits, &envelope, payload),
         };
         if answered {
             self.row.send(out)
@@ -135,11 +145,10 @@ impl<const CHECKED: bool> Sign<CHECKED> {
         &mut self,
         lent: Lent,
         edits: &mut [u8],
-        opcode: u8,
-        exchange: u64,
-        turn: u16,
+        envelope: &Envelope,
         payload: &[u8],
     ) -> bool {
+        let &Envelope { opcode, exchange, turn } = envelope;
         let row = &mut self.row;
         if turn != 0 || exchange < row.last {
             return false;
@@ -169,10 +178,10 @@ impl<const CHECKED: bool> Sign<CHECKED> {
         &mut self,
         lent: Lent,
         edits: &[u8],
-        exchange: u64,
-        turn: u16,
+        envelope: &Envelope,
         payload: &[u8],
     ) -> bool {
+        let &Envelope { exchange, turn, .. } = envelope;
         let Ok(status) = status_response(payload) else { return false };
         let row = &mut self.row;
         if exchange != row.last || row.closed {

@@ -25,46 +25,39 @@ impl Schema<'_> {
 
     /// Whether a sign can be started with it.
     pub fn sound(&self) -> bool {
-        let (mut last, mut texts) = (None, 0);
+        let (mut least, mut texts) = (0, 0);
         self.clusters_sound()
             && self.attributes.iter().all(|attribute| {
-                attribute.ranked(&mut texts)
-                    && attribute.follows(&mut last, self.clusters.len())
-                    && attribute.kind.first_sound(self.defaults)
+                attribute.follows(&mut least, self.clusters.len())
+                    && attribute.kind.first_sound(self.defaults, &mut texts)
             })
     }
 }
 
 impl Attribute {
-    /// Past the one before, in a cluster that is there, with privileges that there are.
+    /// Not below the least key that may follow the one before, in a cluster that is there, with privileges that there are.
     #[inline]
-    fn follows(&self, last: &mut Option<(u8, u32)>, clusters: usize) -> bool {
-        let key = (self.cluster, self.id);
-        let rises = last.is_none_or(|before| before < key);
-        *last = Some(key);
+    fn follows(&self, least: &mut u64, clusters: usize) -> bool {
+        let key = u64::from(self.cluster) << 32 | u64::from(self.id);
+        let rises = *least <= key;
+        *least = key + 1;
         rises && usize::from(self.cluster) < clusters && self.read <= 4 && self.write <= 4
-    }
-
-    /// A text's rank is how many texts stand before it.
-    #[inline]
-    fn ranked(&self, texts: &mut u16) -> bool {
-        let Kind::Text { rank, .. } = self.kind else { return true };
-        *texts += 1;
-        rank + 1 == *texts
     }
 }
 
 impl Kind {
-    /// Limits, and a first value within them.
-    fn first_sound(&self, defaults: &[u8]) -> bool {
+    /// Limits, and a first value within them; a text's rank is how many texts stand before it.
+    fn first_sound(&self, defaults: &[u8], texts: &mut u16) -> bool {
         match *self {
             Kind::Bool { .. } => true,
             Kind::Unsigned { low, high, first } => low <= first && first <= high,
             Kind::Signed { low, high, first } => low <= first && first <= high,
             Kind::Float { low, high, first } => finite(low, high) && low <= first && first <= high,
-            Kind::Text { start, len, .. } => {
+            Kind::Text { start, len, rank } => {
+                let ranked = rank == *texts;
+                *texts += 1;
                 let text = defaults.get(start as usize..).and_then(|rest| rest.get(..len.into()));
-                usize::from(len) <= TEXT_SIZE && text.is_some_and(right)
+                ranked && usize::from(len) <= TEXT_SIZE && text.is_some_and(right)
             }
         }
     }
@@ -89,11 +82,10 @@ impl Values {
         let shows = |mark| self.edited[..schema.attributes.len()].contains(&mark);
         let ascii =
             (!shows(false) || schema.defaults.is_ascii()) && (!shows(true) || edits.is_ascii());
-        let (mut last, mut texts) = (None, 0);
+        let (mut least, mut texts) = (0, 0);
         for (i, attribute) in schema.attributes.iter().enumerate() {
-            if !attribute.ranked(&mut texts)
-                || !attribute.follows(&mut last, schema.clusters.len())
-                || !self.attribute_sound(schema, edits, i, ascii)
+            if !attribute.follows(&mut least, schema.clusters.len())
+                || !self.attribute_sound(schema, edits, i, ascii, &mut texts)
             {
                 return false;
             }
@@ -101,9 +93,16 @@ impl Values {
         edits.len() == TEXT_SIZE * usize::from(texts)
     }
 
-    /// Limits with the first value, and what is held; null is held as 0.
+    /// Limits with the first value, a text's rank, and what is held; null is held as 0.
     #[inline]
-    fn attribute_sound(&self, schema: &Schema, edits: &[u8], i: usize, ascii: bool) -> bool {
+    fn attribute_sound(
+        &self,
+        schema: &Schema,
+        edits: &[u8],
+        i: usize,
+        ascii: bool,
+        texts: &mut u16,
+    ) -> bool {
         let attribute = &schema.attributes[i];
         let (word, null) = (self.words[i], self.nulls[i]);
         let held = match attribute.kind {
@@ -121,9 +120,11 @@ impl Values {
                 finite(low, high) && low <= first && first <= high && (null || within)
             }
             Kind::Text { start, rank, .. } => {
+                let ranked = rank == *texts;
+                *texts += 1;
                 let shown = || self.shown(schema, edits, i, start, rank);
                 let text = || shown().is_some_and(|text| ascii || right(text));
-                null || word <= TEXT_SIZE as u64 && text()
+                ranked && (null || word <= TEXT_SIZE as u64 && text())
             }
         };
         held && (!null || attribute.nullable && word == 0)

@@ -35,7 +35,8 @@ impl<'a> Writer<'a> {
         self.at += N;
     }
 
-    #[inline]
+    /// Always inlined: the width is known at most calls, and by itself the compiler leaves a call, which makes a read half as long again.
+    #[inline(always)]
     fn numbered(&mut self, kind: u8, tag: u8, number: u64, width: u8) {
         let control = 0x20 + kind + width;
         let [a, b, c, d, e, f, g, h] = number.to_le_bytes();
