@@ -16,9 +16,9 @@ pub struct Judged {
     pub broken: u64,
 }
 
-pub fn hold(count: u64) -> Judged {
+pub fn hold(first: u64, count: u64) -> Judged {
     let mut judged = Judged { kept: 0, broken: 0 };
-    for seed in 0..count {
+    for seed in first..first + count {
         let mut rng = Rng::new(seed);
         let size = *rng.pick(&[Size::Small, Size::Wordy, Size::Wordy, Size::Full]);
         let schema = plan::sound(&mut rng, size);

@@ -38,7 +38,7 @@ pub fn hold(seeds: u64, first: u64) {
     player.print(true);
     println!("The linked library, with no local changes and all granted, and the Rust signs answer alike:");
     linked.print(false);
-    let judged = broken::hold(20 * seeds);
+    let judged = broken::hold(20 * first, 20 * seeds);
     println!(
         "Refusal 2: {} signs keep the rules, {} break one; the library and the checked Rust agree",
         judged.kept, judged.broken

@@ -39,7 +39,7 @@ impl Values {
         values
     }
 
-    /// The text of an attribute as it is shown, if it lies in its page.
+    /// The text of an attribute as it is shown, if it lies in its page; an empty one lies anywhere.
     #[inline]
     pub fn shown<'a>(
         &self,
@@ -54,7 +54,7 @@ impl Values {
         } else {
             (schema.defaults, start as usize)
         };
-        page.get(start..)?.get(..self.words[i] as usize)
+        page.get(start..).unwrap_or(&[]).get(..self.words[i] as usize)
     }
 
     #[inline]
