@@ -128,6 +128,8 @@ pub fn singles() {
         Case::single("read of a text", single_reads(SINGLE, &text)),
         Case::single("write of a text", single_writes(SINGLE, &text, &words)),
         Case::single("read of all, 32 filters, no change", filtered_reads(SINGLE, ATTRIBUTES)),
+        // What a run adds to its calls.
+        Case::new("a run with no message".into(), &mixed(ATTRIBUTES), Messages::default(), 1),
     ];
     print("One call, 256 of mixed kinds", SAMPLES, cases);
 }

@@ -13,6 +13,8 @@ use crate::signs::{accented, number_of, path, text_of, SUBJECT};
 
 const SIZE: usize = 1 << 20;
 const PAINT: u8 = 0xC5;
+/// A word is touched if any of its bytes has changed.
+const WORD: usize = 8;
 
 extern "C" fn enter(call: &mut &mut dyn FnMut()) {
     call();
@@ -34,9 +36,9 @@ fn touched(mut call: &mut dyn FnMut()) -> usize {
             clobber_abi("C"),
         );
     }
-    let untouched = stack.iter().take_while(|byte| **byte == PAINT).count();
+    let untouched = stack.chunks(WORD).take_while(|word| **word == [PAINT; WORD]).count();
     assert!(untouched > 0, "the stack is large enough");
-    SIZE - untouched
+    SIZE - WORD * untouched
 }
 
 /// The bytes of stack that a call takes, without what calling nothing takes.
