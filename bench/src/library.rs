@@ -3,10 +3,16 @@
 
 use std::cell::RefCell;
 
+use reference::paths::Path;
 use reference::value::{Kind, Value};
 
+use crate::called::{Called, Last};
 use crate::messages::Messages;
 use crate::setup::{rows, word, Row, Setup, ATTRIBUTES, CLUSTERS, MESSAGE};
+
+/// Whether the library exports a start, a local change, and a call for one message that is lent state and access table. Not yet: messages are given in runs,
+/// each from a fresh exchange row on and with `OPEN` for a table.
+pub const CALLS: bool = false;
 
 pub const PAYLOAD: usize = 1024;
 const WORDS: usize = 1348;
@@ -28,14 +34,6 @@ pub struct Part {
     pub path: usize,
     pub index: usize,
     pub more: bool,
-}
-
-/// What `sign_run` answers: number and length of the last reply.
-#[repr(C)]
-#[derive(Clone, Copy, Debug, PartialEq)]
-pub struct Last {
-    pub number: u8,
-    pub len: usize,
 }
 
 // A slice is its address and its length.
@@ -121,8 +119,7 @@ fn words_of(setup: &Setup) -> Box<[u64; WORDS]> {
     w
 }
 
-/// A sign with the messages that it was given. The exported functions know one access table, `OPEN`, and no local change; and a run of messages begins
-/// with a sign that has served none.
+/// A sign with the messages that it was given.
 pub struct Sign {
     schema: Box<[u64; WORDS]>,
     setup: Setup,
@@ -132,21 +129,6 @@ pub struct Sign {
 }
 
 impl Sign {
-    pub fn new(setup: &Setup) -> Sign {
-        Sign {
-            schema: words_of(setup),
-            setup: setup.clone(),
-            edits: RefCell::new(setup.edits.clone()),
-            given: Messages::default(),
-        }
-    }
-
-    /// The sign, if its schema keeps the rules. `server::start::start` is not exported; of first values the test of refusal 2 asks the same.
-    pub fn start(setup: &Setup) -> Option<Sign> {
-        let sign = Sign::new(setup);
-        sign.valid().then_some(sign)
-    }
-
     /// The schema is broken where it is looked at first: every call is refused at once.
     pub fn break_first(&mut self) {
         self.schema[3] = 1;
@@ -246,14 +228,37 @@ impl Sign {
         }
     }
 
-    /// One more message: all that the sign was given are run again. A buffer that is too small and a subject that is not served leave nothing behind,
-    /// and a run has one of each, so such a message is run alone.
-    pub fn receive(&mut self, subject: u64, message: &[u8], out: &mut [u8]) -> Last {
+    fn fresh_page(&self) {
+        self.edits.borrow_mut().copy_from_slice(&self.setup.edits);
+    }
+}
+
+impl Called for Sign {
+    fn new(setup: &Setup) -> Sign {
+        Sign {
+            schema: words_of(setup),
+            setup: setup.clone(),
+            edits: RefCell::new(setup.edits.clone()),
+            given: Messages::default(),
+        }
+    }
+
+    /// Of first values the test of refusal 2 asks what a start does.
+    fn start(setup: &Setup) -> Option<Sign> {
+        let sign = Sign::new(setup);
+        sign.valid().then_some(sign)
+    }
+
+    fn restart(&mut self) {
+        unimplemented!("not exported: see CALLS")
+    }
+
+    /// All messages that the sign was given are run again. A buffer that is too small and a subject that is not served leave nothing behind, and a run
+    /// has one of each, so such a message is run alone.
+    fn receive(&mut self, subject: u64, message: &[u8], out: &mut [u8]) -> Last {
         self.fresh_page();
         if subject != self.schema[2] || out.len() < MESSAGE {
-            let mut alone = Messages::default();
-            alone.push(0, message);
-            return self.run_as(subject, &alone, out);
+            return self.run_as(subject, &Messages::of(&[message.to_vec()]), out);
         }
         let (mut before, mut after) = ([0; MESSAGE], [0; MESSAGE]);
         self.run(&self.given, &mut before);
@@ -265,7 +270,7 @@ impl Sign {
         last
     }
 
-    fn fresh_page(&self) {
-        self.edits.borrow_mut().copy_from_slice(&self.setup.edits);
+    fn change(&mut self, _: &Path, _: &Value) -> u8 {
+        unimplemented!("not exported: see CALLS")
     }
 }

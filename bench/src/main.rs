@@ -2,6 +2,7 @@
 //! calls beside ordinary Rust, the panel's beside the second program. What is answered is asserted, how long it takes is not.
 
 mod against;
+mod called;
 mod clock;
 mod library;
 mod messages;

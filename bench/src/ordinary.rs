@@ -3,7 +3,7 @@
 use reference::paths::Path;
 use reference::value::{self, Value};
 
-use crate::library::Last;
+use crate::called::{Called, Last};
 use crate::messages::Messages;
 use crate::plain::{self, Answer, Attribute, Cluster, Entry, Kind, Schema, Values};
 use crate::setup::{rows, Row, Setup, MESSAGE};
@@ -74,7 +74,37 @@ fn last(answer: Answer) -> Last {
 }
 
 impl<const CHECKED: bool> Ordinary<CHECKED> {
-    pub fn new(setup: &Setup) -> Self {
+    fn schema(&self) -> Schema<'_> {
+        Schema {
+            subject: self.subject,
+            clusters: &self.clusters,
+            attributes: &self.attributes,
+            defaults: &self.defaults,
+        }
+    }
+
+    /// The test of refusal 2 alone.
+    pub fn valid(&self) -> bool {
+        self.sign.sound(&self.schema(), &self.edits)
+    }
+
+    /// The messages given to the sign as it was set up, one after the other, each by a whole call: the last reply. One function of its own in the
+    /// program, so that a profiler can tell it.
+    #[inline(never)]
+    pub fn run(&mut self, messages: &Messages, out: &mut [u8; MESSAGE]) -> Last {
+        let Ordinary { clusters, attributes, defaults, edits, table, sign, .. } = self;
+        let schema = Schema { subject: self.subject, clusters, attributes, defaults };
+        let mut sign = sign.clone();
+        let mut answer = Answer::Nothing;
+        for message in messages.iter() {
+            answer = sign.receive(&schema, edits, table, self.subject, message, out);
+        }
+        last(answer)
+    }
+}
+
+impl<const CHECKED: bool> Called for Ordinary<CHECKED> {
+    fn new(setup: &Setup) -> Self {
         let schema = &setup.schema;
         let clusters = schema.clusters.iter().map(|one| Cluster {
             endpoint: one.place.0,
@@ -104,56 +134,26 @@ impl<const CHECKED: bool> Ordinary<CHECKED> {
         }
     }
 
-    /// The sign as its own call starts it, if its schema keeps the rules.
-    pub fn start(setup: &Setup) -> Option<Self> {
+    fn start(setup: &Setup) -> Option<Self> {
         let mut made = Ordinary::new(setup);
         made.sign = plain::Sign::start(&made.schema())?;
         Some(made)
     }
 
-    /// Started anew: that call alone.
-    pub fn restart(&mut self) {
+    fn restart(&mut self) {
         self.sign = plain::Sign::start(&self.schema()).expect("it was started before");
     }
 
-    fn schema(&self) -> Schema<'_> {
-        Schema {
-            subject: self.subject,
-            clusters: &self.clusters,
-            attributes: &self.attributes,
-            defaults: &self.defaults,
-        }
-    }
-
-    /// The test of refusal 2 alone.
-    pub fn valid(&self) -> bool {
-        self.sign.sound(&self.schema(), &self.edits)
-    }
-
-    pub fn receive(&mut self, subject: u64, message: &[u8], out: &mut [u8]) -> Last {
+    fn receive(&mut self, subject: u64, message: &[u8], out: &mut [u8]) -> Last {
         let Ordinary { clusters, attributes, defaults, edits, table, sign, .. } = self;
         let schema = Schema { subject: self.subject, clusters, attributes, defaults };
         last(sign.receive(&schema, edits, table, subject, message, out))
     }
 
-    pub fn change(&mut self, path: &Path, value: &Value) -> u8 {
+    fn change(&mut self, path: &Path, value: &Value) -> u8 {
         let Ordinary { clusters, attributes, defaults, edits, sign, .. } = self;
         let schema = Schema { subject: self.subject, clusters, attributes, defaults };
         let path = (path.endpoint, path.cluster, path.attribute);
         sign.change(&schema, edits, path, &value_of(value))
-    }
-
-    /// The messages given to the sign as it was set up, one after the other, each by a whole call: the last reply. One function of its own in the
-    /// program, so that a profiler can tell it.
-    #[inline(never)]
-    pub fn run(&mut self, messages: &Messages, out: &mut [u8; MESSAGE]) -> Last {
-        let Ordinary { clusters, attributes, defaults, edits, table, sign, .. } = self;
-        let schema = Schema { subject: self.subject, clusters, attributes, defaults };
-        let mut sign = sign.clone();
-        let mut answer = Answer::Nothing;
-        for message in messages.iter() {
-            answer = sign.receive(&schema, edits, table, self.subject, message, out);
-        }
-        last(answer)
     }
 }

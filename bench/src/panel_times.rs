@@ -5,6 +5,7 @@ use std::hint::black_box;
 use reference::answer::Answer;
 use reference::cache::Cache;
 
+use crate::called::Called;
 use crate::clock::{medians, Run};
 use crate::library::{Sign, PAYLOAD};
 use crate::messages::{filtered_reads, whole_read, Messages};

@@ -2,6 +2,7 @@
 
 use std::hint::black_box;
 
+use crate::called::Called;
 use crate::clock::{medians, Run};
 use crate::library::{Sign, PAYLOAD};
 use crate::messages::{whole_read, Messages};

@@ -4,6 +4,7 @@ use std::hint::black_box;
 
 use reference::value::Value;
 
+use crate::called::Called;
 use crate::clock::{medians, Run};
 use crate::library::{Sign, PAYLOAD};
 use crate::messages::{filtered_reads, single_reads, single_writes, whole_read, Messages};

@@ -5,9 +5,10 @@ use std::arch::asm;
 use reference::status::{INVALID_ACTION, SUCCESS};
 use reference::value::Value;
 
-use crate::library::Sign;
+use crate::called::Called;
+use crate::library::{Sign, CALLS};
 use crate::messages::{deep_read, filtered_reads, read_all, status, write_all, Messages};
-use crate::ordinary::{Checked, Ordinary};
+use crate::ordinary::{Checked, Unchecked};
 use crate::setup::{Setup, ATTRIBUTES, MESSAGE};
 use crate::signs::{accented, number_of, path, text_of, SUBJECT};
 
@@ -88,13 +89,9 @@ fn calls() -> Vec<Call> {
     ]
 }
 
-fn of_ours(call: &Call) -> usize {
-    let (sign, mut out) = (Sign::new(&call.setup), vec![0; call.room]);
-    bytes(&mut || assert_eq!(sign.run(&call.messages, &mut out).number, call.number))
-}
-
-fn of_rust<const CHECKED: bool>(call: &Call) -> usize {
-    let (mut sign, mut out) = (Ordinary::<CHECKED>::new(&call.setup), vec![0; call.room]);
+/// The call alone, after the messages before it.
+fn of_call<S: Called>(call: &Call) -> usize {
+    let (mut sign, mut out) = (S::new(&call.setup), vec![0; call.room]);
     let messages: Vec<&[u8]> = call.messages.iter().collect();
     let (last, before) = messages.split_last().expect("a call has a message");
     for message in before {
@@ -103,9 +100,18 @@ fn of_rust<const CHECKED: bool>(call: &Call) -> usize {
     bytes(&mut || assert_eq!(sign.receive(SUBJECT, last, &mut out).number, call.number))
 }
 
-/// What only the Rust signs have a function for today: a start, and local changes.
-fn others<const CHECKED: bool>() -> [usize; 3] {
-    let mut sign = Ordinary::<CHECKED>::new(&accented(ATTRIBUTES));
+/// Of ours a run with the messages before it, where the library exports no call.
+fn of_ours(call: &Call) -> usize {
+    if CALLS {
+        return of_call::<Sign>(call);
+    }
+    let (sign, mut out) = (Sign::new(&call.setup), vec![0; call.room]);
+    bytes(&mut || assert_eq!(sign.run(&call.messages, &mut out).number, call.number))
+}
+
+/// A start, and local changes of a number and a text.
+fn of_others<S: Called>() -> [usize; 3] {
+    let mut sign = S::new(&accented(ATTRIBUTES));
     let (number, text) = (path(number_of(ATTRIBUTES)), path(text_of(ATTRIBUTES)));
     let word = Value::Text("PRÊT".as_bytes().to_vec());
     [
@@ -123,13 +129,14 @@ fn line(name: &str, ours: Option<usize>, plain: Option<usize>, checked: usize) {
 pub fn print() {
     println!("\n{:38} {:>9} {:>9} {:>9}", "Stack, bytes", "ours", "plain", "checked");
     for call in calls() {
-        let plain = (call.number != 2).then(|| of_rust::<false>(&call));
-        line(call.name, Some(of_ours(&call)), plain, of_rust::<true>(&call));
+        let plain = (call.number != 2).then(|| of_call::<Unchecked>(&call));
+        line(call.name, Some(of_ours(&call)), plain, of_call::<Checked>(&call));
     }
     let names = ["a start", "a local change of a number", "a local change of a text"];
-    let (plain, checked) = (others::<false>(), others::<true>());
+    let ours = CALLS.then(of_others::<Sign>);
+    let (plain, checked) = (of_others::<Unchecked>(), of_others::<Checked>());
     for (k, name) in names.iter().enumerate() {
-        line(name, None, Some(plain[k]), checked[k]);
+        line(name, ours.map(|bytes| bytes[k]), Some(plain[k]), checked[k]);
     }
     let setup = accented(ATTRIBUTES);
     let (ours, checked) = (Sign::new(&setup), Checked::new(&setup));

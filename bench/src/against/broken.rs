@@ -5,6 +5,7 @@ use reference::rng::Rng;
 use reference::schema::Attribute;
 use reference::value::{Kind, Value};
 
+use crate::called::Called;
 use crate::library::Sign;
 use crate::messages::whole_read;
 use crate::ordinary::Checked;

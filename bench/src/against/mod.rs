@@ -28,7 +28,7 @@ pub fn hold(seeds: u64, first: u64) {
             let answers = proved(&steps);
             hold_rust(&format!("{name}, the player"), &steps, &answers);
             player.add(&steps, &answers);
-            let steps = steps::for_library(&steps);
+            let steps = if library::CALLS { steps } else { steps::for_runs(&steps) };
             let answers = play::<library::Sign>(&steps);
             hold_rust(&format!("{name}, the library"), &steps, &answers);
             linked.add(&steps, &answers);
@@ -36,8 +36,8 @@ pub fn hold(seeds: u64, first: u64) {
     }
     println!("The proved player and the Rust signs answer alike, {seeds} seeds from {first}:");
     player.print(true);
-    println!("The linked library, with no local changes and all granted, and the Rust signs answer alike:");
-    linked.print(false);
+    println!("The linked library and the Rust signs answer alike:");
+    linked.print(library::CALLS);
     let judged = broken::hold(20 * first, 20 * seeds);
     println!(
         "Refusal 2: {} signs keep the rules, {} break one; the library and the checked Rust agree",

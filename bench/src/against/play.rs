@@ -5,54 +5,16 @@ use std::process::{Command, Stdio};
 
 use reference::acl::Entry;
 use reference::answer::BAD_SCHEMA;
-use reference::paths::Path;
 use reference::player::Printed;
 use reference::schema::Schema;
 use reference::script::Line;
-use reference::value::Value;
 
 use super::steps::Step;
-use crate::library::{self, Last};
-use crate::ordinary::Ordinary;
+use crate::called::{Called, Last};
 use crate::setup::{Setup, MESSAGE};
 
-/// A sign that steps can be played on.
-pub trait Sign: Sized {
-    fn start(setup: &Setup) -> Option<Self>;
-    fn receive(&mut self, subject: u64, message: &[u8], out: &mut [u8]) -> Last;
-    fn change(&mut self, path: &Path, value: &Value) -> u8;
-}
-
-impl<const CHECKED: bool> Sign for Ordinary<CHECKED> {
-    fn start(setup: &Setup) -> Option<Self> {
-        Ordinary::start(setup)
-    }
-
-    fn receive(&mut self, subject: u64, message: &[u8], out: &mut [u8]) -> Last {
-        Ordinary::receive(self, subject, message, out)
-    }
-
-    fn change(&mut self, path: &Path, value: &Value) -> u8 {
-        Ordinary::change(self, path, value)
-    }
-}
-
-impl Sign for library::Sign {
-    fn start(setup: &Setup) -> Option<Self> {
-        library::Sign::start(setup)
-    }
-
-    fn receive(&mut self, subject: u64, message: &[u8], out: &mut [u8]) -> Last {
-        library::Sign::receive(self, subject, message, out)
-    }
-
-    fn change(&mut self, _: &Path, _: &Value) -> u8 {
-        unreachable!("the library exports no local change: steps::for_library leaves them out")
-    }
-}
-
-/// The answers of such a sign, in the order of the steps that have one.
-pub fn play<S: Sign>(steps: &[Step]) -> Vec<Printed> {
+/// The answers of a sign, in the order of the steps that have one.
+pub fn play<S: Called>(steps: &[Step]) -> Vec<Printed> {
     let (mut schema, mut table) = (Schema::default(), Vec::<Entry>::new());
     let (mut room, mut sign, mut answers) = (MESSAGE, None, Vec::new());
     for step in steps {
@@ -83,7 +45,7 @@ pub fn play<S: Sign>(steps: &[Step]) -> Vec<Printed> {
 }
 
 /// A reply, and that nothing else was written.
-fn received<S: Sign>(sign: &mut S, subject: u64, message: &[u8], room: usize) -> Printed {
+fn received<S: Called>(sign: &mut S, subject: u64, message: &[u8], room: usize) -> Printed {
     const UNWRITTEN: u8 = 0xA5;
     let mut out = vec![UNWRITTEN; room];
     let Last { number, len } = sign.receive(subject, message, &mut out);
