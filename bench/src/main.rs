@@ -19,7 +19,7 @@ mod signs;
 mod stack;
 
 /// How many generated scripts are held before anything is timed.
-const SEEDS: u64 = 300;
+const SEEDS: u64 = 1000;
 
 fn main() {
     let words: Vec<String> = std::env::args().skip(1).collect();
