@@ -1,25 +1,45 @@
-//! Times the proved libraries, called from Rust: the test of refusal 2 beside what it guards, and whole calls beside the second program. What is
-//! answered is asserted, how long it takes is not.
+//! Holds the proved sign to one in ordinary Rust, and times the proved libraries, called from Rust: the test of refusal 2 beside what it guards, the sign's
+//! calls beside ordinary Rust, the panel's beside the second program. What is answered is asserted, how long it takes is not.
 
-mod beside;
+mod against;
+mod called;
 mod clock;
-mod kinds;
 mod library;
 mod messages;
+mod ordinary;
 mod panel;
+mod panel_times;
+mod plain;
 mod refusal;
 mod repeat;
 mod second;
-mod sign;
+mod setup;
+mod sign_times;
+mod signs;
+mod stack;
+
+/// How many generated scripts are held before anything is timed.
+const SEEDS: u64 = 1000;
 
 fn main() {
     let words: Vec<String> = std::env::args().skip(1).collect();
-    if let [name, attributes, times] = words.as_slice() {
-        let number = |word: &str| word.parse().expect("a number");
-        return repeat::repeat(name, number(attributes), number(times));
+    let words: Vec<&str> = words.iter().map(String::as_str).collect();
+    let number = |word: &str| word.parse::<u64>().expect("a number");
+    match words[..] {
+        [] => {
+            against::hold(SEEDS, 1);
+            refusal::print();
+            sign_times::reads();
+            sign_times::singles();
+            sign_times::growth();
+            panel_times::reports();
+            stack::print();
+        }
+        ["stack"] => stack::print(),
+        ["against", seeds, first] => against::hold(number(seeds), number(first)),
+        [name, attributes, times] => {
+            repeat::repeat(name, number(attributes) as usize, number(times) as usize)
+        }
+        _ => panic!("bench/README.md says what there is"),
     }
-    refusal::print();
-    beside::reads();
-    beside::singles();
-    beside::reports();
 }

@@ -1,13 +1,14 @@
 //! Messages one after the other, as both programs are given them.
 
 use reference::envelope::{seal, Envelope, READ_REQUEST, STATUS_RESPONSE, WRITE_REQUEST};
+use reference::limits::DEPTH;
 use reference::paths::Path;
 use reference::spelling;
 use reference::status::SUCCESS;
-use reference::tlv::{write, Element};
+use reference::tlv::{write, Body, Element};
 use reference::value::Value;
 
-use crate::sign::{path, ATTRIBUTES_EACH, FIRST_VERSION};
+use crate::signs::{path, ATTRIBUTES_EACH, FIRST_VERSION};
 
 #[derive(Clone, Default)]
 pub struct Messages {
@@ -22,6 +23,15 @@ impl Messages {
         self.bytes.extend_from_slice(message);
         self.ends.push(self.bytes.len());
         self.exchanges.push(exchange);
+    }
+
+    /// These messages of exchange 1.
+    pub fn of(messages: &[Vec<u8>]) -> Messages {
+        let mut all = Messages::default();
+        for message in messages {
+            all.push(1, message);
+        }
+        all
     }
 
     pub fn first(&self, count: usize) -> Messages {
@@ -43,10 +53,6 @@ impl Messages {
             self.bytes[start + 1..start + 6].copy_from_slice(&number[3..]);
             start = *end;
         }
-    }
-
-    pub fn last_exchange(&self) -> u64 {
-        self.exchanges.last().copied().unwrap_or(0)
     }
 }
 
@@ -73,10 +79,10 @@ pub fn filtered_reads(count: u64, attributes: usize) -> Messages {
     messages
 }
 
-/// The success that asks for the part after this one.
-pub fn success(turn: u16) -> Vec<u8> {
+/// A status for the part of this turn: success asks for the one after it, any other closes the exchange.
+pub fn status(turn: u16, status: u8) -> Vec<u8> {
     let envelope = Envelope { opcode: STATUS_RESPONSE, exchange: 1, turn };
-    seal(envelope, &write(&spelling::status_response(SUCCESS)))
+    seal(envelope, &write(&spelling::status_response(status)))
 }
 
 /// A whole read of so many parts.
@@ -84,7 +90,7 @@ pub fn whole_read(parts: usize) -> Messages {
     let mut messages = Messages::default();
     messages.push(1, &read_all());
     for turn in 1..parts {
-        messages.push(1, &success(turn as u16));
+        messages.push(1, &status(turn as u16, SUCCESS));
     }
     messages
 }
@@ -98,6 +104,26 @@ pub fn single_reads(count: u64, path: &Path) -> Messages {
         messages.push(exchange, &request(READ_REQUEST, exchange, &payload));
     }
     messages
+}
+
+/// A read of everything with an ignored member in which containers stand as deep as they may.
+pub fn deep_read() -> Vec<u8> {
+    let mut deep = Body::Null;
+    for _ in 1..DEPTH {
+        deep = Body::Structure(vec![Element::context(9, deep)]);
+    }
+    let paths = vec![spelling::open_path(None, None, None)];
+    let mut payload = spelling::read_request(paths, Vec::new());
+    if let Body::Structure(fields) = &mut payload.body {
+        fields.push(Element::context(0xC8, deep));
+    }
+    request(READ_REQUEST, 1, &payload)
+}
+
+/// One write of these values.
+pub fn write_all(entries: &[(Path, Value)]) -> Vec<u8> {
+    let entries = entries.iter().map(|(path, value)| spelling::write_entry(None, path, value));
+    request(WRITE_REQUEST, 1, &spelling::write_request(false, entries.collect()))
 }
 
 /// So many writes of one attribute, each an exchange; the two values take turns, so that each is a change.

@@ -1,12 +1,62 @@
-//! A panel as the library has it, and safe calls of its functions.
+//! The proved panel: the functions of its static library as C sees them, and safe calls of them.
 
 use std::collections::BTreeMap;
 
 use reference::paths::Path;
 use reference::value::Value;
 
-use crate::library::{panel_run, panel_valid, Held, ATTRIBUTES, CLUSTERS, MESSAGE, TEXT_SIZE};
 use crate::messages::Messages;
+use crate::setup::{ATTRIBUTES, CLUSTERS, MESSAGE, TEXT_SIZE};
+
+/// What `panel_run` answers: number and length of the last message, and what the panel holds.
+#[repr(C)]
+#[derive(Clone, Copy)]
+pub struct Held {
+    pub number: u8,
+    pub len: usize,
+    pub primed: bool,
+    pub cluster_count: usize,
+    pub count: usize,
+    pub clusters: [u64; CLUSTERS],
+    pub keys: [u64; ATTRIBUTES],
+    pub versions: [u32; ATTRIBUTES],
+    pub kinds: [u8; ATTRIBUTES],
+    pub words: [u64; ATTRIBUTES],
+}
+
+// A slice is its address and its length.
+extern "C" {
+    fn panel_valid(
+        page: *const u8,
+        page_len: usize,
+        clusters: *const u64,
+        cluster_count: usize,
+        keys: *const u64,
+        versions: *const u32,
+        kinds: *const u8,
+        words: *const u64,
+        count: usize,
+        primed: bool,
+    ) -> bool;
+    fn panel_run(
+        page: *mut u8,
+        page_len: usize,
+        clusters: *const u64,
+        cluster_count: usize,
+        keys: *const u64,
+        versions: *const u32,
+        kinds: *const u8,
+        words: *const u64,
+        count: usize,
+        primed: bool,
+        messages: *const u8,
+        messages_len: usize,
+        ends: *const usize,
+        ends_len: usize,
+        out: *mut u8,
+        out_len: usize,
+    ) -> Held;
+}
 
 /// The page of texts that a panel is lent.
 pub fn page() -> Vec<u8> {

@@ -2,18 +2,18 @@
 
 use std::hint::black_box;
 
+use crate::called::Called;
 use crate::clock::{medians, Run};
-use crate::kinds::{mixed, scripts, texts};
-use crate::library::{ATTRIBUTES, MESSAGE, PAYLOAD};
+use crate::library::{Sign, PAYLOAD};
 use crate::messages::{whole_read, Messages};
-use crate::sign::{Kind, Sign};
+use crate::setup::{Setup, ATTRIBUTES, MESSAGE};
+use crate::signs::{mixed, scripts, texts};
 
 const SAMPLES: usize = 2001;
 
-fn edited(kinds: &[Kind]) -> Sign {
-    let mut sign = Sign::new(kinds);
-    sign.edit_all();
-    sign
+fn edited(mut setup: Setup) -> Sign {
+    setup.edit_all();
+    Sign::new(&setup)
 }
 
 /// The answers are held to what they must be; the times are not.
@@ -36,9 +36,9 @@ fn answers_are_right(sign: &Sign, one: &Messages, two: &Messages) -> usize {
 
 /// What is broken is refused.
 fn refusals_are_right(one: &Messages) -> Sign {
-    let mut broken = Sign::new(&mixed(ATTRIBUTES));
-    broken.break_last();
-    assert!(!broken.valid(), "a value past its limits breaks the rules");
+    let mut broken = mixed(ATTRIBUTES);
+    broken.words[ATTRIBUTES - 1] = u64::MAX;
+    assert!(!Sign::new(&broken).valid(), "a value past its limits breaks the rules");
     let mut refused = Sign::new(&mixed(ATTRIBUTES));
     refused.break_first();
     let last = refused.run(one, &mut [0; MESSAGE]);
@@ -85,7 +85,7 @@ pub fn print() {
     let signs = [
         ("256 of mixed kinds", Sign::new(&mixed(ATTRIBUTES))),
         ("256 texts, ASCII", Sign::new(&texts("BORROW"))),
-        ("256 texts, ASCII, edited", edited(&texts("BORROW"))),
+        ("256 texts, ASCII, edited", edited(texts("BORROW"))),
         ("256 texts, one é each", Sign::new(&texts("PRÉT"))),
         ("256 texts, to 3 bytes", Sign::new(&scripts(["a", "é", "借", "り"]))),
         ("256 texts, to 4 bytes", Sign::new(&scripts(["a", "é", "借", "𝄞"]))),

@@ -1,0 +1,116 @@
+//! What the answers reached: how many there were of each number and of each status.
+
+use std::collections::BTreeMap;
+
+use reference::envelope::{REPORT, STATUS_RESPONSE, WRITE_RESPONSE};
+use reference::player::Printed;
+use reference::script::Line;
+use reference::tlv::{read_payload, Body, Element, Tag};
+
+use super::steps::Step;
+
+/// A kind of answer, how often each of its numbers came, and those that must come.
+struct Group {
+    name: &'static str,
+    hex: bool,
+    wanted: &'static [u8],
+    counts: BTreeMap<u8, u64>,
+}
+
+pub struct Reached([Group; 6]);
+
+const START: usize = 0;
+const SIGN: usize = 1;
+const CHANGE: usize = 2;
+const STATUS: usize = 3;
+const WRITE: usize = 4;
+const BLOCK: usize = 5;
+
+impl Reached {
+    pub fn new() -> Reached {
+        let group = |name, hex, wanted| Group { name, hex, wanted, counts: BTreeMap::new() };
+        Reached([
+            group("starts", false, &[0, 11]),
+            group("messages", false, &[0, 1, 2, 3, 4]),
+            group("local changes", true, &[0, 0x7F, 0x86, 0x87, 0x8D, 0xC3]),
+            group("status responses", true, &[0x80, 0x89, 0xC8, 0xC9]),
+            group("written", true, &[0, 0x7E, 0x7F, 0x86, 0x87, 0x88, 0x8D, 0x92, 0xC3]),
+            group("reported statuses", true, &[0x7E, 0x7F, 0x86, 0x8F, 0xC3]),
+        ])
+    }
+
+    fn count(&mut self, group: usize, number: u8) {
+        *self.0[group].counts.entry(number).or_default() += 1;
+    }
+
+    /// Counts the answers to these steps.
+    pub fn add(&mut self, steps: &[Step], answers: &[Printed]) {
+        let lines = steps.iter().filter(|step| step.is_answered());
+        for (step, (number, reply)) in lines.zip(answers) {
+            match step.line {
+                Line::Start => self.count(START, *number),
+                Line::Change(..) => self.count(CHANGE, *number),
+                _ => self.count(SIGN, *number),
+            }
+            if !reply.is_empty() {
+                self.add_statuses(reply);
+            }
+        }
+    }
+
+    fn add_statuses(&mut self, reply: &[u8]) {
+        let fields = read_payload(&reply[8..]).expect("a reply is well-formed");
+        match reply[0] {
+            STATUS_RESPONSE => self.add_status(STATUS, &fields),
+            WRITE_RESPONSE => {
+                for block in members(&fields, 0) {
+                    self.add_status(WRITE, members(inside(block), 1));
+                }
+            }
+            REPORT => {
+                for block in members(&fields, 1) {
+                    self.add_status(BLOCK, members(members(inside(block), 0), 1));
+                }
+            }
+            other => panic!("a reply of opcode {other}"),
+        }
+    }
+
+    /// The status among these fields, if there is one.
+    fn add_status(&mut self, group: usize, fields: &[Element]) {
+        let status = fields.iter().find(|field| field.tag == Tag::Context(0));
+        if let Some(Element { body: Body::Unsigned(code), .. }) = status {
+            self.count(group, *code as u8);
+        }
+    }
+
+    /// Prints the counts; if `all`, with what never came.
+    pub fn print(&self, all: bool) {
+        for Group { name, hex, wanted, counts } in &self.0 {
+            let spell =
+                |number: u8| if *hex { format!("{number:02X}") } else { number.to_string() };
+            let mut line = format!("  {name}:");
+            for (number, count) in counts {
+                line.push_str(&format!(" {} x {count},", spell(*number)));
+            }
+            for number in wanted.iter().filter(|number| all && !counts.contains_key(number)) {
+                line.push_str(&format!(" {} never,", spell(*number)));
+            }
+            if all || !counts.is_empty() {
+                println!("{}", line.trim_end_matches(','));
+            }
+        }
+    }
+}
+
+fn inside(element: &Element) -> &[Element] {
+    match &element.body {
+        Body::Structure(members) | Body::Array(members) | Body::List(members) => members,
+        _ => &[],
+    }
+}
+
+/// The members of the container with this tag.
+fn members(fields: &[Element], tag: u8) -> &[Element] {
+    fields.iter().find(|field| field.tag == Tag::Context(tag)).map_or(&[], inside)
+}

@@ -1,0 +1,44 @@
+//! A sign in ordinary Rust, as a careful firmware author writes it: what it holds behind `&mut`, the schema in slices that may lie in read-only memory,
+//! no heap, messages read in one pass, one walk of the schema a part, each reply made once, where it is kept. Each call of a
+//! `Sign<true>` tests what refusal 2 asks, and none of a `Sign<false>`, which must be lent what keeps the rules; refusals 3 and 4 are made by both.
+
+mod access;
+mod blocks;
+mod reader;
+mod report;
+mod requests;
+mod schema;
+mod sign;
+mod status;
+mod valid;
+mod values;
+mod writer;
+
+pub use access::Entry;
+pub use reader::Value;
+pub use schema::{Attribute, Cluster, Kind, Schema};
+pub use sign::{Answer, Sign};
+pub use values::Values;
+
+// The limits of document 01.
+const ENDPOINTS: usize = 8;
+pub const CLUSTERS: usize = 32;
+pub const ATTRIBUTES: usize = 256;
+const ENTRIES: usize = 16;
+pub const TEXT_SIZE: usize = 200;
+const PATHS: usize = 16;
+const FILTERS: usize = 32;
+const WRITES: usize = 16;
+const EXCHANGES: u64 = 1 << 40;
+/// Eight bytes of envelope and 1,024 of payload.
+const MESSAGE: usize = 1032;
+/// How many containers may stand in the message's own structure, one inside the other.
+const DEPTH: usize = 9;
+
+/// What is lent to a call that answers a message, and never written.
+#[derive(Clone, Copy)]
+struct Lent<'a> {
+    schema: &'a Schema<'a>,
+    table: &'a [Entry],
+    subject: u64,
+}
