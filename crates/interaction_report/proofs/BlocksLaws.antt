@@ -17,10 +17,9 @@ use Rattle.blocks.specs.declared.Report.{Report}
 use Rattle.blocks.specs.declared.ReportRead.the-variants as report-read
 use Rattle.blocks.specs.Data.{ReportOf, reportAt, reportT, reportTree, reportRead}
 use Rattle.blocks.proofs.DataLaws.{report-law}
-use Rattle.interaction.specs.Message.{snoc, openedIn}
-use Rattle.interaction.specs.declared.Opened.the-variants.{Members, NotArray}
+use Rattle.interaction.specs.Message.{snoc}
 use Rattle.interaction_report.specs.declared.Count.{Count}
-use Rattle.interaction_report.specs.Report.{blocksFrom, countRead, firstOpened, firstIn}
+use Rattle.interaction_report.specs.Report.{blocksFrom, countRead}
 
 module _ (d : ℕ) (s : List ℕ) (l : List (ReportOf ℕ)) (at : ℕ) where
   pub blocks-none : headAt s at ≡ Malformed → blocksFrom d s l at ≡ bad
@@ -74,12 +73,3 @@ pub record Counted (c : Count) (g : Got (List (ReportOf ℕ))) : Type 0 where
 pub count-good : (c : Count) (g : Got (List (ReportOf ℕ))) → c ≡ countRead g → c .good ≡ true → Counted c g
 count-good c bad e q = absurd (clash (sym q ∙ ap (λ (y : Count). y .good) e))
 count-good c (got l n) e q = record { list = l; found = ap (got l) (sym (ap (λ (y : Count). y .next .at) e)); counts = ap (λ (y : Count). y .blocks) e }
-
--- where the first block stands
-pub first-none : (s : List ℕ) (p : ℕ) → openedIn s p ≡ NotArray → firstIn s p ≡ 0
-unfolding firstIn
-first-none s p e = ap firstOpened e
-
-pub first-some : (s : List ℕ) (p : ℕ) {c : Cursor} → openedIn s p ≡ Members c → firstIn s p ≡ c .at
-unfolding firstIn
-first-some s p e = ap firstOpened e

@@ -1,13 +1,10 @@
 // The listed members of a container: one loop for all schemas, which says where each stands.
 ghost use mathlib.Core.Path.{_≡_};
 ghost use Rattle.tlv.specs.Walk.Got.{bad};
-ghost use Rattle.members.specs.Fields.{slotOf, fieldsFrom, fieldsAt, insideAt, membersOf};
+ghost use Rattle.members.specs.Fields.{slotOf, fieldsAt, insideAt, membersOf};
 ghost use Rattle.members.specs.Scalar.{numberOf, numberIn, flagIn, wideIn};
-ghost use Rattle.members.specs.Pass.{noPass, insideOn, resumed, Stopped, Passed, codeOf, codeIn, numberBy, flagBy, wideBy};
+ghost use Rattle.members.specs.Pass.{noPass, passFrom, passOf, codeOf, numberBy, flagBy, wideBy};
 ghost use Rattle.members.specs.Item.{itemAt};
-ghost use mathlib.Core.List.{map};
-ghost use lib.ListN.{replicate};
-ghost use Prim.Native.Nat.{_-_};
 use tlv::Cursor;
 use tlv::Element;
 use tlv::Head;
@@ -208,7 +205,8 @@ const NO_ELEMENT: Element = Element {
     next: Cursor { at: 0 },
 };
 
-fn refused() -> Pass
+// No pass: what is read is malformed.
+pub fn refused() -> Pass
     ensures { λ r. ⌜ r ≡ noPass ⌝ }
 {
     Pass {
@@ -219,6 +217,20 @@ fn refused() -> Pass
         codes: [0u64; 10],
     }
 }
+
+// A pass that stops only at the container's end.
+pub const NO_STOP: [bool; 10] = [
+    false,
+    false,
+    false,
+    false,
+    false,
+    false,
+    false,
+    false,
+    false,
+    false,
+];
 
 // The code of a scalar.
 fn code_of(kind: u8, n: u64) -> u64
@@ -255,11 +267,7 @@ pub fn resume(
     stops: &[bool; 10],
     before: Pass,
 ) -> Pass
-    requires { ⌜ before .codes ≡ map (codeIn (now s)) (before .at) ⌝ }
-    ensures { λ r. ⌜ fieldsFrom left (now (s .entry)) kind (now (listed .entry)) (before .at) (c .at) ≡ resumed left (now (s .entry)) kind (now (listed .entry)) r ⌝ }
-    ensures codes { λ r. ⌜ r .codes ≡ map (codeIn (now (s .entry))) (r .at) ⌝ }
-    ensures stopped { λ r. ⌜ Stopped (now (s .entry)) (now (stops .entry)) r ⌝ }
-    ensures passed { λ r. ⌜ Passed (now (stops .entry)) (before .at) r ⌝ }
+    ensures { λ r. ⌜ r ≡ passFrom left (now (s .entry)) kind (now (listed .entry)) (now (stops .entry)) before (c .at) ⌝ }
 {
     let mut seen = before.at;
     let mut codes = before.codes;
@@ -319,10 +327,7 @@ pub fn begin(
     listed: &[bool; 10],
     stops: &[bool; 10],
 ) -> Pass
-    ensures { λ r. ⌜ insideOn kind left (now (s .entry)) (now (listed .entry)) e ≡ resumed (left - 1) (now (s .entry)) kind (now (listed .entry)) r ⌝ }
-    ensures codes { λ r. ⌜ r .codes ≡ map (codeIn (now (s .entry))) (r .at) ⌝ }
-    ensures stopped { λ r. ⌜ Stopped (now (s .entry)) (now (stops .entry)) r ⌝ }
-    ensures passed { λ r. ⌜ Passed (now (stops .entry)) (replicate 10 0) r ⌝ }
+    ensures { λ r. ⌜ r ≡ passOf kind left (now (s .entry)) (now (listed .entry)) (now (stops .entry)) e ⌝ }
 {
     if e.kind != kind {
         return refused();
