@@ -2,9 +2,9 @@
 use mathlib.Core.Path.{_≡_, refl, sym, ap, _∙_}
 use mathlib.Core.Bool.{Bool, true, false}
 use mathlib.Core.List.{List, [], _∷_, map}
-use Prim.Native.Nat.{ℕ, zero, suc, _-_}
+use Prim.Native.Nat.{ℕ, suc}
 use native.Mathlib.Omega.{arith}
-use borrow.Author.Tests.{eq-eqb, ne-eqb, eqb-true, eqb-false, ltb-true}
+use borrow.Author.Tests.{ne-eqb, eqb-true, ltb-true}
 use lib.ListN.{length}
 use lib.Dec.{ltb, eqb}
 use Rattle.tlv.specs.declared.Element.{Element}
@@ -49,15 +49,6 @@ module _ {A B : Type 0} (β : A → B) (means : Tree → Opt B) where
           (q (e .next .at) ∙ sym (bind-map (container (tagOf (e .form) (e .tag)) array) (λ t n. place (listT means t) n) (inner′ array (e .next .at))))
       go false z = rw z (sym (bind-map (container (tagOf (e .form) (e .tag)) (e .kind)) (λ t n. place (listT means t) n) (inner′ (e .kind) (e .next .at)) ∙ bind-nothing (λ ts. listT means (container (tagOf (e .form) (e .tag)) (e .kind) ts)) (inner′ (e .kind) (e .next .at)) (λ ts. simp z)))
 
-  both-bad : (b : Bool) → _≡_ {A = Got (List B)} bad (mapG (map β) (pick b bad bad))
-  both-bad true = refl
-  both-bad false = refl
-
-  headed-deep : (s : List ℕ) (h : Head) → bad ≡ bindG (headed bad (treeOf 0 s) h) (λ t n. place (listT means t) n)
-  unfolding treeOf
-  headed-deep s Malformed = refl
-  headed-deep s (Found e) = both-bad (eqb (e .kind) array) ∙ by-list s (λ n. bad) (λ k n. bad) (λ n. refl) e
-
   module _ (read : ℕ → List ℕ → ℕ → Got A) (d : ℕ) (s : List ℕ) (law : (at : ℕ) → mapG β (read d s at) ≡ bindG (treeAt d s at) (λ t n. place (means t) n)) where
     headed-list : (h : Head) → mapG (map β) (headed bad (λ e. pick (eqb (e .kind) array) (foldAt (eachStep snoc (read d s)) (length s) s array [] (e .next .at)) bad) h) ≡ bindG (headed bad (treeOf (suc d) s) h) (λ t n. place (listT means t) n)
     unfolding treeOf treesAt
@@ -67,10 +58,6 @@ module _ {A B : Type 0} (β : A → B) (means : Tree → Opt B) where
     pub list-law : (at : ℕ) → mapG (map β) (listAt read (suc d) s at) ≡ bindG (treeAt (suc d) s at) (λ t n. place (listT means t) n)
     unfolding listAt treeAt
     list-law at = headed-list (headAt s at)
-
-  pub list-deep : (read : ℕ → List ℕ → ℕ → Got A) (s : List ℕ) (at : ℕ) → mapG (map β) (listAt read 0 s at) ≡ bindG (treeAt 0 s at) (λ t n. place (listT means t) n)
-  unfolding listAt treeAt
-  list-deep read s at = headed-deep s (headAt s at)
 
 -- for a reader that is itself the meaning
 map-id : {A : Type 0} (l : List A) → map (λ x. x) l ≡ l

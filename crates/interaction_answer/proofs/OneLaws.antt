@@ -24,7 +24,7 @@ use Rattle.blocks.specs.Status.{answerAt, answerT, answerRead}
 use Rattle.blocks.proofs.BlockLaws.{answer-law}
 use Rattle.interaction.specs.Message.{snoc}
 use Rattle.interaction.proofs.KeepLaws.{length-snoc}
-use Rattle.interaction_answer.specs.Answered.{answersFrom, answersAt, only, onlyOf}
+use Rattle.interaction_answer.specs.Answered.{answersFrom, answersAt, onlyOf}
 
 -- ---- an array holds at least what was seen of it
 

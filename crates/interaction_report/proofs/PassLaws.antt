@@ -2,7 +2,7 @@
 use mathlib.Core.Path.{_≡_, refl, sym, ap, _∙_}
 use mathlib.Core.Bool.{Bool, true, false}
 use mathlib.Core.List.{List, [], map}
-use Prim.Native.Nat.{ℕ, zero, suc, _+_, _-_, _≤_}
+use Prim.Native.Nat.{ℕ, _+_, _-_, _≤_}
 use native.Mathlib.Omega.{arith}
 use borrow.Author.Tests.{eq-eqb, ne-eqb, eqb-true, eqb-false}
 use lib.ListN.{length, getD}
@@ -10,11 +10,9 @@ use lib.Dec.{eqb}
 use Rattle.tlv.specs.declared.Element.{Element}
 use Rattle.tlv.specs.declared.Head.the-variants.{Found}
 use Rattle.tlv.specs.Octet.{pick, structure, array}
-use Rattle.tlv.specs.Tree.{maxDepth}
 use Rattle.tlv.specs.Head.{headAt}
 use Rattle.tlv.specs.Walk.{Got}
 use Rattle.tlv.specs.Walk.Got.{got, bad}
-use Rattle.tlv.specs.Decode.{Opt, place}
 use Rattle.tlv.specs.Decode.Opt.{just, nothing}
 use Rattle.members.specs.declared.Pass.{Pass}
 use Rattle.members.specs.Array.{optionalIn}
@@ -25,7 +23,6 @@ use Rattle.blocks.specs.Data.{ReportOf, reportAt, reportOn}
 use Rattle.blocks.proofs.OnLaws.{report-reads}
 use Rattle.interaction.specs.Message.{given, structureAt, wholePass, listAt, listOn}
 use Rattle.interaction.proofs.PassLaws.{list-reads, list-other, whole-bad, whole-lacks, whole-passed}
-use Rattle.interaction_report.specs.declared.Part.{Part}
 use Rattle.interaction_report.specs.Report.{firstIn, partTags, partOf, placed, partFrom, partIn, partRead, partBy}
 
 -- the array of blocks by its head

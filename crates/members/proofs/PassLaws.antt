@@ -4,7 +4,6 @@ use mathlib.Core.Bool.{Bool, true, false}
 use mathlib.Core.List.{List, [], _∷_, map}
 use Prim.Native.Nat.{ℕ, zero, suc, _+_, _-_, _<_, _≤_}
 use native.Mathlib.Omega.{arith}
-use native.Mathlib.Numerals.{add-one}
 use borrow.Author.Tests.{eq-eqb, ne-eqb, le-ltb, lt-ltb, ltb-true, ltb-false, eqb-true, eqb-false}
 use lib.ListN.{length, length-set, getD, set, replicate, getD-replicate, List·getD-map}
 use lib.Dec.{ltb, eqb}
@@ -18,11 +17,9 @@ use Rattle.tlv.specs.Walk.Got.{got, bad}
 use Rattle.tlv.specs.Decode.{Opt, place}
 use Rattle.tlv.specs.Decode.Opt.{just, nothing}
 use Rattle.tlv.proofs.FoldLaws.{Ahead, Forward, fold-breaks, fold-on}
-use Rattle.tlv.specs.declared.Cursor.{Cursor}
-use Rattle.tlv.specs.declared.Walk.the-variants.{Past, Broken}
 use Rattle.tlv.proofs.HeadLaws.{Onward, head-onward, no-head}
-use Rattle.tlv.proofs.WalkLaws.{end-within, end-forward, broken, past}
-use Rattle.members.specs.Fields.{slotOf, putAt, putEnd, fieldStep, fieldsFrom, fieldsAt, insideBy, insideAt}
+use Rattle.tlv.proofs.WalkLaws.{end-within, end-forward}
+use Rattle.members.specs.Fields.{slotOf, putAt, putEnd, fieldStep, fieldsFrom, fieldsAt, insideAt}
 use Rattle.members.specs.Array.{optOf, requiredIn, optionalIn}
 use Rattle.members.specs.Scalar.{ABSENT, NULL, WRONG, numberOf, flagOf, wideOf, numberIn, flagIn, wideIn, scalarIn}
 use Rattle.members.specs.Pass.{noPass, insideOn, made, frameOn, passAt, passOn, passListed, passMember, passBy, passIn, passFrom, passOf, codeOf, codeIn, numberBy, flagBy, wideBy}

@@ -1,10 +1,8 @@
-use mathlib.Core.Path.{refl, sym, ap, _∙_}
+use mathlib.Core.Path.{sym, ap, _∙_}
 use native.Mathlib.Omega.{arith}
 use borrow.Author.Tests.{not-true, not-false}
-use Rattle.tlv.specs.Octet.{list}
-use Rattle.members.proofs.PassLaws.{begun, number-coded, flag-coded, wide-coded, frame-none, frame-end, nowhere}
+use Rattle.members.proofs.PassLaws.{begun, number-coded, wide-coded, frame-none, frame-end, nowhere}
 use Rattle.blocks.specs.Filter.{clusterOn, clusterRead, clusterFrom, soundCluster}
-use Rattle.blocks.specs.Filter.{clusterTags}
 use Rattle.blocks.proofs.CodeLaws.{checked-no, checked-yes, cluster-gathered}
 use borrow.Author.Needs.{needs}
 use Rattle.blocks.proofs.cluster_of.Statement.{statement}

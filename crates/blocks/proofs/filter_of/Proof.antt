@@ -1,13 +1,10 @@
 use mathlib.Core.Path.{refl, sym, ap, _∙_}
-use mathlib.Core.Bool.{true, false}
-use mathlib.Core.List.{_∷_}
 use Prim.Native.Nat.{_-_}
 use native.Mathlib.Omega.{arith}
-use native.Mathlib.Nat.{pos-of-ne-zero}
-use lib.ListN.{getD, replicate}
+use lib.ListN.{getD}
 use borrow.Author.Tests.{not-true, not-false}
 use Rattle.tlv.specs.Octet.{structure}
-use Rattle.members.proofs.ArrayLaws.{required-none, required-some}
+use Rattle.members.proofs.ArrayLaws.{required-none}
 use Rattle.members.proofs.PassLaws.{begun, number-coded, frame-deep, frame-none, frame-end, nowhere, only-first, nest-refused, nest-on, nest-found}
 use Rattle.blocks.specs.Filter.{filterOn, filterRead, filterFrom}
 use Rattle.blocks.specs.Filter.{pairTags}

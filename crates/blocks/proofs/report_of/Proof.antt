@@ -1,10 +1,7 @@
 use mathlib.Core.Path.{refl, sym, ap, _∙_}
-use mathlib.Core.Bool.{true, false}
-use mathlib.Core.List.{_∷_}
 use Prim.Native.Nat.{_-_}
 use native.Mathlib.Omega.{arith}
 use native.Mathlib.Nat.{pos-of-ne-zero}
-use lib.ListN.{getD, replicate}
 use borrow.Author.Tests.{not-true, not-false}
 use Rattle.tlv.specs.Octet.{structure}
 use Rattle.members.proofs.PassLaws.{begun, frame-deep, frame-none, frame-end, nowhere, first-or-second, nest-refused, nest-on, nest-found, nest-there}

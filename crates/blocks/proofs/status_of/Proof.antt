@@ -1,10 +1,8 @@
-use mathlib.Core.Path.{refl, sym, ap, _∙_}
+use mathlib.Core.Path.{sym, ap, _∙_}
 use native.Mathlib.Omega.{arith}
 use borrow.Author.Tests.{not-true, not-false}
-use Rattle.tlv.specs.Octet.{structure}
-use Rattle.members.proofs.PassLaws.{begun, number-coded, flag-coded, wide-coded, frame-none, frame-end, nowhere}
+use Rattle.members.proofs.PassLaws.{begun, number-coded, frame-none, frame-end, nowhere}
 use Rattle.blocks.specs.Status.{statusOn, statusRead, statusFrom, soundStatus}
-use Rattle.blocks.specs.Filter.{pairTags}
 use Rattle.blocks.proofs.CodeLaws.{checked-no, checked-yes, status-gathered}
 use borrow.Author.Needs.{needs}
 use Rattle.blocks.proofs.status_of.Statement.{statement}

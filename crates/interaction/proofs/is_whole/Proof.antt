@@ -1,4 +1,4 @@
-use mathlib.Core.Path.{_≡_, refl, sym, ap, _∙_}
+use mathlib.Core.Path.{sym}
 use borrow.Author.Tests.{not-true, not-false}
 use Rattle.interaction.specs.Message.{wholePass}
 use Rattle.interaction.proofs.is_whole.Statement.{statement}

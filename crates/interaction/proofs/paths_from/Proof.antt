@@ -1,11 +1,11 @@
-use mathlib.Core.Path.{_≡_, refl, sym, ap, _∙_}
+use mathlib.Core.Path.{refl, sym, ap, _∙_}
 use mathlib.Core.Bool.{true}
 use Prim.Native.Nat.{_-_}
 use native.Mathlib.Omega.{arith}
 use lib.ListN.{length}
 use Rattle.interaction.specs.Message.{firstOf}
 use borrow.Author.Needs.{needs}
-use Rattle.interaction.specs.Read.{nowhere, pathsAt, pathsFrom, pathsStruct, pathsEnd, askedOn}
+use Rattle.interaction.specs.Read.{nowhere, pathsAt, pathsFrom, pathsEnd, askedOn}
 use Rattle.interaction.proofs.LoopLaws.{map-same, Loop, loop-starts, loop-bad, loop-ends, loop-refuses, loop-nearer, loop-room, loop-goes}
 use Rattle.interaction.proofs.ReadLaws.{asked-reads, asked-none, asked-some}
 use Rattle.interaction.proofs.paths_from.Statement.{statement}

@@ -1,11 +1,11 @@
-use mathlib.Core.Path.{_≡_, refl, sym, ap, _∙_}
+use mathlib.Core.Path.{refl, sym, ap, _∙_}
 use mathlib.Core.Bool.{true}
 use Prim.Native.Nat.{_-_}
 use native.Mathlib.Omega.{arith}
 use lib.ListN.{length}
 use Rattle.interaction.specs.Message.{firstOf}
 use borrow.Author.Needs.{needs}
-use Rattle.interaction.specs.Read.{unwanted, wantsAt, wantsFrom, wantsStruct, wantsEnd, wantedOn}
+use Rattle.interaction.specs.Read.{unwanted, wantsAt, wantsFrom, wantsEnd, wantedOn}
 use Rattle.interaction.proofs.LoopLaws.{map-same, Loop, loop-starts, loop-bad, loop-ends, loop-refuses, loop-nearer, loop-room, loop-goes}
 use Rattle.interaction.proofs.ReadLaws.{wanted-reads, wanted-none, wanted-some}
 use Rattle.interaction.proofs.wants_from.Statement.{statement}

@@ -1,5 +1,5 @@
-use mathlib.Core.Path.{_≡_, refl, sym, ap, _∙_}
-use Prim.Native.Nat.{_-_, _+_}
+use mathlib.Core.Path.{_≡_, refl, sym, _∙_}
+use Prim.Native.Nat.{_-_}
 use native.Mathlib.Omega.{arith}
 use lib.ListN.{length, length-set}
 use borrow.Author.Needs.{needs}
@@ -41,7 +41,7 @@ returns-2 : tie.Need-returns-2 Inv-loop μ-loop
 unfolding passFrom
 returns-2 c = let a = c .before .before .before .before .before .before .before .before .before .before .args in let l = c .before .before .before .before .before .before .loop in
     let h = sym (c .before .before .before .before .before .head .ensures) ∙ c .before .before .before .e .given .1 in
-     sym (l .inv .1 .1 ∙ pass-last (a .left) (a .s .now) (a .kind) (a .listed .now) (a .stops .now) (l .seen) (l .codes) (l .at) h (c .if1 .taken))
+    sym (l .inv .1 .1 ∙ pass-last (a .left) (a .s .now) (a .kind) (a .listed .now) (a .stops .now) (l .seen) (l .codes) (l .at) h (c .if1 .taken))
 
 allowed-requires : tie.Need-allowed-requires Inv-loop μ-loop
 allowed-requires c κs = search needs
@@ -128,7 +128,7 @@ returns-6 : tie.Need-returns-6 Inv-loop μ-loop
 unfolding passFrom
 returns-6 c = let a = c .before .before .before .before .before .before .before .before .before .before .before .before .before .before .before .before .before .before .args in let l = c .before .before .before .before .before .before .before .before .before .before .before .before .before .before .loop in
     let h = sym (c .before .before .before .before .before .before .before .before .before .before .before .before .before .head .ensures) ∙ c .before .before .before .before .before .before .before .before .before .before .before .e .given .1 in
-     sym (l .inv .1 .1 ∙ listed-stop (a .left) (a .s .now) (a .kind) (a .listed .now) (a .stops .now) (l .seen) (l .codes) (l .at) h (c .before .before .before .before .before .before .before .before .if1 .left) (sym (c .before .before .before .before .before .before .before .allowed .ensures) ∙ not-false _ (c .before .before .before .before .before .before .if2 .left)) (c .before .before .before .before .before .slot .ensures) (c .before .before .before .before .if3 .left) (c .before .before .before .if4 .left) (c .before .before .code-of .ensures) (c .if5 .taken))
+    sym (l .inv .1 .1 ∙ listed-stop (a .left) (a .s .now) (a .kind) (a .listed .now) (a .stops .now) (l .seen) (l .codes) (l .at) h (c .before .before .before .before .before .before .before .before .if1 .left) (sym (c .before .before .before .before .before .before .before .allowed .ensures) ∙ not-false _ (c .before .before .before .before .before .before .if2 .left)) (c .before .before .before .before .before .slot .ensures) (c .before .before .before .before .if3 .left) (c .before .before .before .if4 .left) (c .before .before .code-of .ensures) (c .if5 .taken))
 
 walk-element-requires-2 : tie.Need-walk-element-requires-2 Inv-loop μ-loop
 walk-element-requires-2 c κs = search needs
