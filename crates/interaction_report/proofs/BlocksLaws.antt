@@ -2,7 +2,7 @@
 use mathlib.Core.Path.{_≡_, refl, sym, ap, _∙_}
 use mathlib.Core.Bool.{Bool, true, false}
 use mathlib.Core.List.{List}
-use Prim.Native.Nat.{ℕ, _-_, _<_, _≤_}
+use Prim.Native.Nat.{ℕ, _-_}
 use native.Mathlib.Omega.{arith}
 use lib.ListN.{length}
 use Rattle.tlv.specs.declared.Cursor.{Cursor}
@@ -12,7 +12,7 @@ use Rattle.tlv.specs.Octet.{pick, array, endOfContainer}
 use Rattle.tlv.specs.Head.{headAt}
 use Rattle.tlv.specs.Walk.{Got, allowedIn}
 use Rattle.tlv.specs.Walk.Got.{got, bad}
-use Rattle.members.proofs.ArrayLaws.{each-none, each-ends, each-barred, each-breaks, each-on, each-onward}
+use Rattle.members.proofs.ArrayLaws.{each-none, each-ends, each-barred, each-breaks, each-on}
 use Rattle.blocks.specs.declared.Report.{Report}
 use Rattle.blocks.specs.declared.ReportRead.the-variants as report-read
 use Rattle.blocks.specs.Data.{ReportOf, reportAt, reportT, reportTree, reportRead}
@@ -42,9 +42,6 @@ module _ (d : ℕ) (s : List ℕ) (l : List (ReportOf ℕ)) (at : ℕ) where
     pub blocks-on : {x : ReportOf ℕ} {n : ℕ} → (e .kind ≡ endOfContainer → ⊥) → allowedIn array (e .form) ≡ true → reportAt d s at ≡ got x n → blocksFrom d s l at ≡ blocksFrom d s (snoc l x) n
     unfolding blocksFrom
     blocks-on = each-on (reportTree (d - 1 - 1) s) d s (reportAt d s) reportT (report-law d s) snoc array l at h
-
-    pub blocks-onward : {x : ReportOf ℕ} {n : ℕ} → reportAt d s at ≡ got x n → (at < n) × (n ≤ length s)
-    blocks-onward = each-onward (reportTree (d - 1 - 1) s) d s (reportAt d s) reportT (report-law d s) snoc array l at h
 
 -- what the reader of a block says
 clash : true ≡ false → ⊥

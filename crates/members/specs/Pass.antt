@@ -64,10 +64,12 @@ passListed d s stops rest seen codes at e i =
     (λ _. passOn (rest (set seen i (at + 1)) (set codes i (codeOf (e .kind) (e .number)))) (elementEnd d s e)))
     (λ _. noPass)
 
+-- any member; one that is not listed is walked
 unfoldable pub passMember : ℕ → List ℕ → List Bool → (List ℕ → List ℕ → ℕ → Pass) → List ℕ → List ℕ → ℕ → Element → ℕ → Pass
 passMember d s stops rest seen codes at e i =
     choose (ltb i 10) (λ _. passListed d s stops rest seen codes at e i) (λ _. passOn (rest seen codes) (elementEnd d s e))
 
+-- by what stands at a position
 unfoldable pub passBy : ℕ → List ℕ → ℕ → List Bool → List Bool → (List ℕ → List ℕ → ℕ → Pass) → List ℕ → List ℕ → ℕ → Head → Pass
 passBy d s kind listed stops rest seen codes at Malformed = noPass
 passBy d s kind listed stops rest seen codes at (Found e) =
@@ -88,6 +90,7 @@ unfoldable pub passOf : ℕ → ℕ → List ℕ → List Bool → List Bool →
 passOf kind zero s listed stops e = noPass
 passOf kind (suc d) s listed stops e = pick (eqb (e .kind) kind) (passFrom d s kind listed stops noPass (e .next .at)) noPass
 
+-- of the member at a place; and what a code stands for
 unfoldable pub codeIn : List ℕ → ℕ → ℕ
 codeIn s p = pick (eqb p 0) 0 (headed 2 (λ e. codeOf (e .kind) (e .number)) (headAt s (p - 1)))
 
