@@ -7,9 +7,8 @@ use borrow.Author.Tests.{eq-eqb, ne-eqb, lt-ltb, le-ltb, eqb-true, eqb-false}
 use lib.ListN.{getD}
 use lib.Dec.{eqb}
 use Rattle.tlv.specs.Octet.{pick}
-use Rattle.tlv.specs.Walk.{Got, bindG}
-use Rattle.tlv.specs.Walk.Got.{bad}
-use Rattle.tlv.specs.Decode.{Opt, bindO, place}
+use Rattle.tlv.specs.Walk.{Got}
+use Rattle.tlv.specs.Decode.{Opt, bindO}
 use Rattle.tlv.specs.Decode.Opt.{just, nothing}
 use Rattle.members.specs.Scalar.{ABSENT, WRONG, numberIn, flagIn, wideIn}
 use Rattle.members.specs.Array.{requiredIn}

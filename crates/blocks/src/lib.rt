@@ -26,19 +26,6 @@ pub enum PathRead {
 }
 
 // No slot.
-const NOWHERE: [bool; 10] = [
-    false,
-    false,
-    false,
-    false,
-    false,
-    false,
-    false,
-    false,
-    false,
-    false,
-];
-
 const PATH: [bool; 10] = [
     true,
     true,
@@ -78,7 +65,7 @@ pub fn path_of(s: &[u8], e: Element, left: usize) -> PathRead
     ensures { λ r. ⌜ r ≡ pathRead (pathOn left (now (s .entry)) e) ⌝ }
 {
     let listed = PATH;
-    let stops = NOWHERE;
+    let stops = members::NO_STOP;
     let m = members::begin(s, e, left, tlv::LIST, &listed, &stops);
     if !m.good {
         return PathRead::BadPath;
@@ -197,7 +184,7 @@ pub fn cluster_of(s: &[u8], e: Element, left: usize) -> ClusterRead
     ensures { λ r. ⌜ r ≡ clusterRead (clusterOn left (now (s .entry)) e) ⌝ }
 {
     let listed = CLUSTER;
-    let stops = NOWHERE;
+    let stops = members::NO_STOP;
     let m = members::begin(s, e, left, tlv::LIST, &listed, &stops);
     if !m.good {
         return ClusterRead::BadCluster;
@@ -273,7 +260,7 @@ pub fn filter_of(s: &[u8], e: Element, left: usize) -> FilterRead
     let ClusterRead::Cluster(path, after) = cluster_of(s, inner, left - 1) else {
         return FilterRead::BadFilter;
     };
-    let never = NOWHERE;
+    let never = members::NO_STOP;
     let z = members::resume(s, after, left - 1, tlv::STRUCTURE, &listed, &never, m);
     if !z.good {
         return FilterRead::BadFilter;
@@ -313,7 +300,7 @@ pub fn status_of(s: &[u8], e: Element, left: usize) -> StatusRead
     ensures { λ r. ⌜ r ≡ statusRead (statusOn left (now (s .entry)) e) ⌝ }
 {
     let listed = PAIR;
-    let stops = NOWHERE;
+    let stops = members::NO_STOP;
     let m = members::begin(s, e, left, tlv::STRUCTURE, &listed, &stops);
     if !m.good {
         return StatusRead::BadStatus;
@@ -372,7 +359,7 @@ pub fn answer_of(s: &[u8], e: Element, left: usize) -> AnswerRead
     let PathRead::Path(path, after) = path_of(s, inner, left - 1) else {
         return AnswerRead::BadAnswer;
     };
-    let never = NOWHERE;
+    let never = members::NO_STOP;
     let z = members::resume(s, after, left - 1, tlv::STRUCTURE, &listed, &never, m);
     if !z.good {
         return AnswerRead::BadAnswer;
@@ -458,7 +445,7 @@ pub fn data_of(s: &[u8], e: Element, left: usize) -> DataRead
     let PathRead::Path(path, after) = path_of(s, inner, left - 1) else {
         return DataRead::BadData;
     };
-    let never = NOWHERE;
+    let never = members::NO_STOP;
     let z = members::resume(s, after, left - 1, tlv::STRUCTURE, &listed, &never, m);
     if !z.good {
         return DataRead::BadData;
@@ -513,7 +500,7 @@ pub fn report_of(s: &[u8], e: Element, left: usize) -> ReportRead
         return ReportRead::BadReport;
     }
     let inner = m.head;
-    let never = NOWHERE;
+    let never = members::NO_STOP;
     if m.slot == 0 {
         let AnswerRead::Answer(x, after) = answer_of(s, inner, left - 1) else {
             return ReportRead::BadReport;

@@ -1,10 +1,10 @@
--- An array at a position: THE LAW that what is read is the meaning of its tree; and its opening, case by case for the code.
+-- An array at a position: THE LAW that what is read is the meaning of its tree.
 use mathlib.Core.Path.{_≡_, refl, sym, ap, _∙_}
 use mathlib.Core.Bool.{Bool, true, false}
 use mathlib.Core.List.{List, [], _∷_, map}
-use Prim.Native.Nat.{ℕ, zero, suc, _-_}
+use Prim.Native.Nat.{ℕ, suc}
 use native.Mathlib.Omega.{arith}
-use borrow.Author.Tests.{eq-eqb, ne-eqb, eqb-true, eqb-false, ltb-true}
+use borrow.Author.Tests.{ne-eqb, eqb-true, ltb-true}
 use lib.ListN.{length}
 use lib.Dec.{ltb, eqb}
 use Rattle.tlv.specs.declared.Element.{Element}
@@ -21,10 +21,7 @@ use Rattle.tlv.specs.Decode.Opt.{nothing}
 use Rattle.tlv.proofs.Picks.{choose-elim}
 use Rattle.members.specs.Array.{eachStep, eachT}
 use Rattle.members.proofs.ArrayLaws.{each-law, plain}
-use Rattle.interaction.specs.Message.{snoc, listT, listAt, openedIn}
-use Rattle.interaction.specs.declared.Opened.{Opened}
-use Rattle.interaction.specs.declared.Opened.the-variants.{Members, NotArray}
-use Rattle.tlv.specs.declared.Cursor.{Cursor}
+use Rattle.interaction.specs.Message.{snoc, listT, listAt}
 
 map-snoc : {A B : Type 0} (β : A → B) (l : List A) (a : A) → map β (snoc l a) ≡ snoc (map β l) (β a)
 map-snoc β [] a = refl
@@ -52,15 +49,6 @@ module _ {A B : Type 0} (β : A → B) (means : Tree → Opt B) where
           (q (e .next .at) ∙ sym (bind-map (container (tagOf (e .form) (e .tag)) array) (λ t n. place (listT means t) n) (inner′ array (e .next .at))))
       go false z = rw z (sym (bind-map (container (tagOf (e .form) (e .tag)) (e .kind)) (λ t n. place (listT means t) n) (inner′ (e .kind) (e .next .at)) ∙ bind-nothing (λ ts. listT means (container (tagOf (e .form) (e .tag)) (e .kind) ts)) (inner′ (e .kind) (e .next .at)) (λ ts. simp z)))
 
-  both-bad : (b : Bool) → _≡_ {A = Got (List B)} bad (mapG (map β) (pick b bad bad))
-  both-bad true = refl
-  both-bad false = refl
-
-  headed-deep : (s : List ℕ) (h : Head) → bad ≡ bindG (headed bad (treeOf 0 s) h) (λ t n. place (listT means t) n)
-  unfolding treeOf
-  headed-deep s Malformed = refl
-  headed-deep s (Found e) = both-bad (eqb (e .kind) array) ∙ by-list s (λ n. bad) (λ k n. bad) (λ n. refl) e
-
   module _ (read : ℕ → List ℕ → ℕ → Got A) (d : ℕ) (s : List ℕ) (law : (at : ℕ) → mapG β (read d s at) ≡ bindG (treeAt d s at) (λ t n. place (means t) n)) where
     headed-list : (h : Head) → mapG (map β) (headed bad (λ e. pick (eqb (e .kind) array) (foldAt (eachStep snoc (read d s)) (length s) s array [] (e .next .at)) bad) h) ≡ bindG (headed bad (treeOf (suc d) s) h) (λ t n. place (listT means t) n)
     unfolding treeOf treesAt
@@ -70,79 +58,6 @@ module _ {A B : Type 0} (β : A → B) (means : Tree → Opt B) where
     pub list-law : (at : ℕ) → mapG (map β) (listAt read (suc d) s at) ≡ bindG (treeAt (suc d) s at) (λ t n. place (listT means t) n)
     unfolding listAt treeAt
     list-law at = headed-list (headAt s at)
-
-  pub list-deep : (read : ℕ → List ℕ → ℕ → Got A) (s : List ℕ) (at : ℕ) → mapG (map β) (listAt read 0 s at) ≡ bindG (treeAt 0 s at) (λ t n. place (listT means t) n)
-  unfolding listAt treeAt
-  list-deep read s at = headed-deep s (headAt s at)
-
--- ---- for the code
-
-module _ {A : Type 0} (read : ℕ → List ℕ → ℕ → Got A) (d : ℕ) (s : List ℕ) (at : ℕ) where
-  pub list-headless : headAt s at ≡ Malformed → listAt read d s at ≡ bad
-  unfolding listAt
-  list-headless h = elim d as (λ z. listAt read z s at ≡ bad) [ zero ↦ refl | suc z ↦ simp h ]
-
-  pub list-shallow : d ≡ 0 → listAt read d s at ≡ bad
-  unfolding listAt
-  list-shallow = elim d as (λ z. z ≡ 0 → listAt read z s at ≡ bad) [ zero ↦ λ e. refl | suc z ↦ λ e. absurd (omega arith) ]
-
-  module _ {e : Element} (h : headAt s at ≡ Found e) where
-    pub list-other : (e .kind ≡ array → ⊥) → listAt read d s at ≡ bad
-    unfolding listAt
-    list-other q = elim d as (λ z. listAt read z s at ≡ bad) [ zero ↦ refl | suc z ↦ simp (h, ne-eqb _ _ q) ]
-
-    pub list-in : e .kind ≡ array → (d ≡ 0 → ⊥) → listAt read d s at ≡ foldAt (eachStep snoc (read (d - 1) s)) (length s) s array [] (e .next .at)
-    unfolding listAt
-    list-in q = elim d as (λ z. (z ≡ 0 → ⊥) → listAt read z s at ≡ foldAt (eachStep snoc (read (z - 1) s)) (length s) s array [] (e .next .at)) [ zero ↦ λ r. absurd (r refl) | suc z ↦ λ r. (let p : suc z - 1 ≡ z = omega arith in simp (h, eq-eqb _ _ q, p)) ]
-
--- the opening of an array, as the code has it
-module _ (s : List ℕ) (p : ℕ) where
-  pub opened-absent : p ≡ 0 → openedIn s p ≡ NotArray
-  unfolding openedIn
-  opened-absent e = simp (eq-eqb p 0 e)
-
-  pub opened-headless : (p ≡ 0 → ⊥) → headAt s (p - 1) ≡ Malformed → openedIn s p ≡ NotArray
-  unfolding openedIn
-  opened-headless n h = simp (ne-eqb p 0 n, h)
-
-  module _ {e : Element} (n : p ≡ 0 → ⊥) (h : headAt s (p - 1) ≡ Found e) where
-    pub opened-other : (e .kind ≡ array → ⊥) → openedIn s p ≡ NotArray
-    unfolding openedIn
-    opened-other q = simp (ne-eqb p 0 n, h, ne-eqb _ _ q)
-
-    pub opened-array : e .kind ≡ array → openedIn s p ≡ Members (e .next)
-    unfolding openedIn
-    opened-array q = simp (ne-eqb p 0 n, h, eq-eqb _ _ q)
-
-  module _ {A : Type 0} (read : ℕ → List ℕ → ℕ → Got A) (d : ℕ) (n : p ≡ 0 → ⊥) where
-    by-head : {o : Opened} → openedIn s p ≡ o → (h : Head) → headAt s (p - 1) ≡ h → o ≡ headed NotArray (λ e. pick (eqb (e .kind) array) (Members (e .next)) NotArray) h
-    unfolding openedIn
-    by-head q h e = sym q ∙ simp (ne-eqb p 0 n, e)
-
-    clash : {c : Cursor} → Members c ≡ NotArray → ⊥
-    clash q = let z : _≡_ {A = ℕ} 0 1 = cc in omega arith
-
-    pub list-not : openedIn s p ≡ NotArray → listAt read d s (p - 1) ≡ bad
-    list-not q = go (headAt s (p - 1)) refl (by-head q (headAt s (p - 1)) refl)
-      where
-        kind : (e : Element) → headAt s (p - 1) ≡ Found e → (b : Bool) → eqb (e .kind) array ≡ b → NotArray ≡ pick b (Members (e .next)) NotArray → listAt read d s (p - 1) ≡ bad
-        kind e h true k w = absurd (clash (sym w))
-        kind e h false k w = list-other read d s (p - 1) h (eqb-false (e .kind) array k)
-
-        go : (h : Head) → headAt s (p - 1) ≡ h → NotArray ≡ headed NotArray (λ e. pick (eqb (e .kind) array) (Members (e .next)) NotArray) h → listAt read d s (p - 1) ≡ bad
-        go Malformed h w = list-headless read d s (p - 1) h
-        go (Found e) h w = kind e h (eqb (e .kind) array) refl w
-
-    pub list-members : {c : Cursor} → openedIn s p ≡ Members c → (d ≡ 0 → ⊥) → listAt read d s (p - 1) ≡ foldAt (eachStep snoc (read (d - 1) s)) (length s) s array [] (c .at)
-    list-members {c} q z = go (headAt s (p - 1)) refl (by-head q (headAt s (p - 1)) refl)
-      where
-        kind : (e : Element) → headAt s (p - 1) ≡ Found e → (b : Bool) → eqb (e .kind) array ≡ b → Members c ≡ pick b (Members (e .next)) NotArray → listAt read d s (p - 1) ≡ foldAt (eachStep snoc (read (d - 1) s)) (length s) s array [] (c .at)
-        kind e h true k w = let f : c ≡ e .next = cc in list-in read d s (p - 1) h (eqb-true (e .kind) array k) z ∙ rw f refl
-        kind e h false k w = absurd (clash w)
-
-        go : (h : Head) → headAt s (p - 1) ≡ h → Members c ≡ headed NotArray (λ e. pick (eqb (e .kind) array) (Members (e .next)) NotArray) h → listAt read d s (p - 1) ≡ foldAt (eachStep snoc (read (d - 1) s)) (length s) s array [] (c .at)
-        go Malformed h w = absurd (clash w)
-        go (Found e) h w = kind e h (eqb (e .kind) array) refl w
 
 -- for a reader that is itself the meaning
 map-id : {A : Type 0} (l : List A) → map (λ x. x) l ≡ l

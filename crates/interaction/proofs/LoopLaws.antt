@@ -17,7 +17,7 @@ use Rattle.members.specs.declared.Item.the-variants.{Member, Ended, BadItem}
 use Rattle.members.specs.Item.{itemAt}
 use Rattle.members.specs.Array.{eachStep}
 use Rattle.members.proofs.PassLaws.{Reads, reads-forward}
-use Rattle.members.proofs.ItemLaws.{Standing, standing, item-bad, item-end, item-breaks, item-on}
+use Rattle.members.proofs.ItemLaws.{standing, item-bad, item-end, item-breaks, item-on}
 use Rattle.interaction.specs.Message.{snoc, firstOf, keepOf}
 use Rattle.interaction.proofs.KeepLaws.{length-snoc, keep-one, first-none}
 

@@ -1,20 +1,15 @@
 -- The Read Request: THE LAWS of its paths, and its loops case by case for the code.
-use mathlib.Core.Path.{_≡_, refl, sym, ap, _∙_}
-use mathlib.Core.Bool.{Bool, true, false}
+use mathlib.Core.Path.{_≡_, refl, ap, _∙_}
+use mathlib.Core.Bool.{true, false}
 use mathlib.Core.List.{List}
-use Prim.Native.Nat.{ℕ, _<_, _≤_}
+use Prim.Native.Nat.{ℕ}
 use native.Mathlib.Omega.{arith}
-use lib.ListN.{length}
 use Rattle.tlv.specs.declared.Element.{Element}
-use Rattle.tlv.specs.declared.Head.the-variants.{Found, Malformed}
-use Rattle.tlv.specs.Octet.{pick, array, endOfContainer}
 use Rattle.tlv.specs.Tree.{Tree}
-use Rattle.tlv.specs.Head.{headAt}
-use Rattle.tlv.specs.Walk.{Got, mapG, bindG, allowedIn}
+use Rattle.tlv.specs.Walk.{Got, bindG}
 use Rattle.tlv.specs.Walk.Got.{got, bad}
 use Rattle.tlv.specs.Decode.{Opt, bindO, place, treeAt}
 use Rattle.tlv.specs.Decode.Opt.{just, nothing}
-use Rattle.members.specs.Array.{optOf}
 use Rattle.tlv.specs.declared.Cursor.{Cursor}
 use Rattle.members.proofs.PassLaws.{Reads, then-reads}
 use Rattle.blocks.proofs.OnLaws.{path-reads, filter-reads}
@@ -26,13 +21,8 @@ use Rattle.blocks.specs.declared.Filter.{Filter}
 use Rattle.blocks.specs.Filter.{filterAt, filterOn, filterT, filterRead}
 use Rattle.blocks.specs.declared.FilterRead.the-variants as filter
 use Rattle.blocks.proofs.BlockLaws.{path-law, filter-law}
-use Rattle.interaction.specs.Message.{snoc, given}
-use Rattle.members.specs.Scalar.{ABSENT}
-use Rattle.interaction.proofs.MessageLaws.{given-no, given-yes}
-use Rattle.interaction.specs.Read.{targetOf, askedOf, askedAt, askedOn, askedRead, askedT, pathsFrom, localF, wantedOf, wantedIf, wantedAt, wantedOn, wantedRead, wantedT, wantsFrom, pathsRead, pathsOpt, pathsStruct, wantsRead, wantsOpt, wantsStruct, Read, readOf, readVerdict, readRead}
+use Rattle.interaction.specs.Read.{targetOf, askedOf, askedAt, askedOn, askedRead, askedT, localF, wantedOf, wantedIf, wantedAt, wantedOn, wantedRead, wantedT, Read}
 use Rattle.interaction.specs.declared.Target.{Target}
-use Rattle.interaction.specs.declared.Paths.{Paths}
-use Rattle.interaction.specs.declared.Wants.{Wants}
 use Rattle.interaction.specs.declared.Wanted.{Wanted}
 
 -- a reader and then a test is the meaning and then the test
@@ -91,15 +81,6 @@ module _ (d : ℕ) (s : List ℕ) (e : Element) where
   unfolding wantedOn wantedIf
   wanted-got w q = ap (λ g. bindG g (λ p n. place (wantedIf p) n)) w ∙ rw q refl
 
--- what was read of an array, as what it means
-pub paths-opt : (g : Got (List Target)) → pathsRead g ≡ pathsOpt (optOf g)
-paths-opt bad = refl
-paths-opt (got l n) = refl
-
-pub wants-opt : (g : Got (List Wanted)) → wantsRead g ≡ wantsOpt (optOf g)
-wants-opt bad = refl
-wants-opt (got l n) = refl
-
 -- what the reader of a filter says
 never : {A : Type 0} → _≡_ {A = ℕ} 0 1 → A
 never e = absurd (omega arith)
@@ -137,54 +118,3 @@ wanted-some (got q m) {p} {n} e =
     let f : q ≡ p = cc in
     let k : m ≡ n .at = cc in
     rw (f, k) refl
-
--- ---- the request, case by case for the code
-
-none-pick : (b : Bool) → _≡_ {A = Opt Read} (pick b nothing nothing) nothing
-none-pick true = refl
-none-pick false = refl
-
-none-bind : {A : Type 0} (o : Opt A) → _≡_ {A = Opt Read} (bindO o (λ x. nothing)) nothing
-none-bind nothing = refl
-none-bind (just a) = refl
-
-module _ (flag revision : ℕ) (ps : Opt (List Target)) (fs : Opt (List Wanted)) where
-  pub read-no-flag : ABSENT ≤ flag → readOf flag revision ps fs ≡ nothing
-  read-no-flag l = rw (given-no flag l) refl
-
-  pub read-no-revision : ABSENT ≤ revision → readOf flag revision ps fs ≡ nothing
-  read-no-revision l = rw (given-no revision l) (none-pick (given flag))
-
-  pub read-no-paths : ps ≡ nothing → readOf flag revision ps fs ≡ nothing
-  read-no-paths e = rw e (ap (λ o. pick (given flag) o nothing) (none-pick (given revision)) ∙ none-pick (given flag))
-
-  pub read-no-filters : fs ≡ nothing → readOf flag revision ps fs ≡ nothing
-  read-no-filters e = rw e (ap (λ o. pick (given flag) (pick (given revision) o nothing) nothing) (none-bind ps) ∙ ap (λ o. pick (given flag) o nothing) (none-pick (given revision)) ∙ none-pick (given flag))
-
-  pub read-has : flag < ABSENT → revision < ABSENT → {p : List Target} {f : List Wanted} → ps ≡ just p → fs ≡ just f → readOf flag revision ps fs ≡ just (record { paths = p; filters = f })
-  read-has l k e q = rw (given-yes flag l, given-yes revision k, e, q) refl
-
--- what the structs say of what they mean
-clash : true ≡ false → ⊥
-clash e = let z : _≡_ {A = ℕ} 1 0 = ap (λ (b : Bool). pick b 1 0) e in omega arith
-
-pub no-paths-there : (m : Paths) (o : Opt (List Target)) → m ≡ pathsOpt o → m .good ≡ false → o ≡ nothing
-no-paths-there m nothing e q = refl
-no-paths-there m (just l) e q = absurd (clash (sym (ap (λ (y : Paths). y .good) e) ∙ q))
-
-pub paths-there : (m : Paths) (o : Opt (List Target)) → m ≡ pathsOpt o → m .good ≡ true → (l : List Target) × (o ≡ just l) × (m ≡ pathsStruct l)
-paths-there m nothing e q = absurd (clash (sym q ∙ ap (λ (y : Paths). y .good) e))
-paths-there m (just l) e q = (l, refl, e)
-
-pub no-wants-there : (m : Wants) (o : Opt (List Wanted)) → m ≡ wantsOpt o → m .good ≡ false → o ≡ nothing
-no-wants-there m nothing e q = refl
-no-wants-there m (just l) e q = absurd (clash (sym (ap (λ (y : Wants). y .good) e) ∙ q))
-
-pub wants-there : (m : Wants) (o : Opt (List Wanted)) → m ≡ wantsOpt o → m .good ≡ true → (l : List Wanted) × (o ≡ just l) × (m ≡ wantsStruct l)
-wants-there m nothing e q = absurd (clash (sym q ∙ ap (λ (y : Wants). y .good) e))
-wants-there m (just l) e q = (l, refl, e)
-
-pub read-made : (p : Paths) (f : Wants) (v : ℕ) (l : List Target) (k : List Wanted) → p ≡ pathsStruct l → f ≡ wantsStruct k → v ≡ readVerdict (p .count) (f .count) → record { verdict = v; paths = p; filters = f } ≡ readRead (just (record { paths = l; filters = k }))
-read-made p f v l k e q w =
-    let n : readVerdict (p .count) (f .count) ≡ readVerdict (length l) (length k) = rw (e, q) refl in
-    λ j. record { verdict = (w ∙ n) j; paths = e j; filters = q j }

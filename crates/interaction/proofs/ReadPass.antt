@@ -1,69 +1,62 @@
--- The Read Request in one pass: what the code goes on with.
+-- The Read Request in one pass: what its code goes on with, whichever list comes first.
 use mathlib.Core.Path.{_≡_, refl, sym, ap, _∙_}
 use mathlib.Core.Bool.{Bool, true, false}
 use mathlib.Core.List.{List, [], _∷_, map}
-use Prim.Native.Nat.{ℕ, zero, suc, _-_, _≤_}
+use Prim.Native.Nat.{ℕ, zero, suc, _+_, _-_, _<_, _≤_}
 use native.Mathlib.Omega.{arith}
-use borrow.Author.Tests.{eq-eqb, ne-eqb}
+use borrow.Author.Tests.{eqb-true, eqb-false, ltb-true, ltb-false}
 use lib.ListN.{length, getD, replicate}
-use lib.Dec.{eqb}
-use Rattle.tlv.specs.declared.Element.{Element}
-use Rattle.tlv.specs.Octet.{pick, structure, array}
-use Rattle.tlv.specs.Tree.{maxDepth}
+use lib.Dec.{ltb, eqb}
+use Rattle.tlv.specs.Octet.{pick, structure}
 use Rattle.tlv.specs.Walk.{Got}
 use Rattle.tlv.specs.Walk.Got.{got, bad}
-use Rattle.tlv.specs.Decode.{Opt, place, bindO}
+use Rattle.tlv.specs.Decode.{Opt, bindO}
 use Rattle.tlv.specs.Decode.Opt.{just, nothing}
 use Rattle.members.specs.declared.Pass.{Pass}
 use Rattle.members.specs.Array.{optionalIn}
 use Rattle.members.specs.Scalar.{numberIn, flagIn}
-use Rattle.members.specs.Pass.{insideOn, frameOn, resumed, codeIn, numberBy, flagBy}
-use Rattle.members.proofs.PassLaws.{frame-none, frame-end, number-coded, flag-coded, Reads}
-use Rattle.interaction.specs.Message.{given, listAt, listOn}
-use Rattle.interaction.specs.Read.{Read, askedAt, wantedAt, wantedOn, wantsAt, wantsFrom, wantsEnd, wantsStruct, readTags, readOf, readFrom, readRead, readMade, readBy, withPaths, pathsStruct, readVerdict}
+use Rattle.members.specs.Pass.{noPass, passFrom, codeIn, numberBy, flagBy}
+use Rattle.members.proofs.ArrayLaws.{optional-none}
+use Rattle.members.proofs.PassLaws.{Left, frame-none, number-coded, flag-coded, Reads, nowhere, none-true, only-first, nest-on, nest-no-option, nest-option, nest-there}
+use Rattle.interaction.specs.Message.{given, listAt, listOn, structureAt, openPass, wholePass}
+use Rattle.interaction.specs.Read.{Read, askedAt, askedOn, unwanted, wantedAt, wantedOn, pathsStruct, pathsEnd, pathsFound, passPaths, wantsStruct, wantsEnd, wantsFound, passWants, readTags, readOf, readFrom, readIn, readRead, readBy}
+use Rattle.interaction.specs.Read as read
 use Rattle.interaction.specs.declared.Paths.{Paths}
 use Rattle.interaction.specs.declared.Wants.{Wants}
 use Rattle.interaction.specs.declared.Target.{Target}
 use Rattle.interaction.specs.declared.Wanted.{Wanted}
+use Rattle.interaction.specs.declared.PathList.{PathList}
 use Rattle.interaction.specs.declared.WantList.{WantList}
-use Rattle.interaction.proofs.ReadLaws.{wanted-reads}
-use Rattle.interaction.proofs.PassLaws.{endsWith, list-reads}
+use Rattle.interaction.specs.declared.PathsPass.{PathsPass}
+use Rattle.interaction.specs.declared.WantsPass.{WantsPass}
+use Rattle.interaction.proofs.KeepLaws.{first-none}
+use Rattle.interaction.proofs.ReadLaws.{asked-reads, wanted-reads}
+use Rattle.interaction.proofs.PassLaws.{list-reads, opened, whole-bad, whole-refused, whole-passed}
 
-pub wants-reads : (s : List ℕ) → Reads 9 s (listAt wantedAt 9 s) (listOn wantedAt 9 s)
+-- ---- the lists by their heads
+
+paths-reads : (s : List ℕ) → Reads 9 s (listAt askedAt 9 s) (listOn askedAt 9 s)
+paths-reads s = list-reads askedAt (askedOn 8 s) 8 s (asked-reads 8 s)
+
+wants-reads : (s : List ℕ) → Reads 9 s (listAt wantedAt 9 s) (listOn wantedAt 9 s)
 wants-reads s = list-reads wantedAt (wantedOn 8 s) 8 s (wanted-reads 8 s)
-
-module _ (d : ℕ) (s : List ℕ) (e : Element) where
-  pub wants-other : (e .kind ≡ array → ⊥) → listOn wantedAt d s e ≡ bad
-  unfolding listOn
-  wants-other q = elim d as (λ z. listOn wantedAt z s e ≡ bad) [ zero ↦ refl | suc z ↦ simp (ne-eqb _ _ q) ]
-
-  pub wants-deep : d ≡ 0 → listOn wantedAt d s e ≡ bad
-  unfolding listOn
-  wants-deep = elim d as (λ z. z ≡ 0 → listOn wantedAt z s e ≡ bad) [ zero ↦ λ r. refl | suc z ↦ λ r. absurd (omega arith) ]
-
-  pub wants-in : e .kind ≡ array → (d ≡ 0 → ⊥) → listOn wantedAt d s e ≡ wantsAt (d - 1) s (e .next .at)
-  unfolding listOn wantsAt wantsFrom
-  wants-in q = elim d as (λ z. (z ≡ 0 → ⊥) → listOn wantedAt z s e ≡ wantsAt (z - 1) s (e .next .at)) [ zero ↦ λ r. absurd (r refl) | suc z ↦ λ r. (let p : suc z - 1 ≡ z = omega arith in simp (eq-eqb _ _ q, p)) ]
 
 clash : true ≡ false → ⊥
 clash e = let z : _≡_ {A = ℕ} 1 0 = ap (λ (b : Bool). pick b 1 0) e in omega arith
 
-pub list-bad : (c : WantList) (g : Got (List Wanted)) → c ≡ wantsEnd g → c .wants .good ≡ false → g ≡ bad
-list-bad c bad e q = refl
-list-bad c (got l n) e q = absurd (clash (sym (ap (λ (y : WantList). y .wants .good) e) ∙ q))
-
-pub record Listed (c : WantList) (g : Got (List Wanted)) : Type 0 where
-  pub list : List Wanted
-  pub found : g ≡ got list (c .next .at)
-  pub is : c .wants ≡ wantsStruct list
-
-pub list-good : (c : WantList) (g : Got (List Wanted)) → c ≡ wantsEnd g → c .wants .good ≡ true → Listed c g
-list-good c bad e q = absurd (clash (sym q ∙ ap (λ (y : WantList). y .wants .good) e))
-list-good c (got l n) e q = record { list = l; found = ap (got l) (sym (ap (λ (y : WantList). y .next .at) e)); is = ap (λ (y : WantList). y .wants) e }
-
-pub read-lacks : (s : List ℕ) (xs : List ℕ) → optionalIn [] (listAt wantedAt 9 s) (getD xs 4 0) ≡ nothing → readFrom s xs ≡ nothing
+-- a list that can't be read makes no request
+lacks-paths : (s xs : List ℕ) → optionalIn [] (listAt askedAt 9 s) (getD xs 0 0) ≡ nothing → readFrom s xs ≡ nothing
 unfolding readFrom
-read-lacks s xs e = rw e (go (given (flagIn s (getD xs 3 0))) (given (numberIn 255 false s (getD xs 9 0))) (optionalIn [] (listAt askedAt 9 s) (getD xs 0 0)))
+lacks-paths s xs e = rw e (go (given (flagIn s (getD xs 3 0))) (given (numberIn 255 false s (getD xs 9 0))))
+  where
+    go : (a b : Bool) → _≡_ {A = Opt Read} (pick a (pick b nothing nothing) nothing) nothing
+    go false b = refl
+    go true false = refl
+    go true true = refl
+
+lacks-wants : (s xs : List ℕ) → optionalIn [] (listAt wantedAt 9 s) (getD xs 4 0) ≡ nothing → readFrom s xs ≡ nothing
+unfolding readFrom
+lacks-wants s xs e = rw e (go (given (flagIn s (getD xs 3 0))) (given (numberIn 255 false s (getD xs 9 0))) (optionalIn [] (listAt askedAt 9 s) (getD xs 0 0)))
   where
     go : (a b : Bool) (ps : Opt (List Target)) → _≡_ {A = Opt Read} (pick a (pick b (bindO {B = Read} ps (λ p. nothing)) nothing) nothing) nothing
     go false b ps = refl
@@ -71,48 +64,204 @@ read-lacks s xs e = rw e (go (given (flagIn s (getD xs 3 0))) (given (numberIn 2
     go true true nothing = refl
     go true true (just p) = refl
 
-read-made : (len n fl rev : ℕ) (ps : Opt (List Target)) (l : List Wanted) → readRead (endsWith len (place (readOf fl rev ps (just l)) n)) ≡ pick (eqb n len) (readMade fl rev ps (wantsStruct l)) (readRead nothing)
-read-made len n fl rev ps l = go (given fl) (given rev) ps
-  where
-    both : (b : Bool) → readRead nothing ≡ pick b (readRead nothing) (readRead nothing)
-    both true = refl
-    both false = refl
+-- ---- a request so far: what its pass says, and the lists that were read at its stops; at a stop, its stage says where
 
-    last : (p : List Target) (b : Bool) → readRead (pick b (just (record { paths = p; filters = l })) nothing) ≡ pick b (withPaths (wantsStruct l) (just p)) (readRead nothing)
-    last p true = refl
-    last p false = refl
+abbrev PathsIn : List ℕ → Pass → Opt (List Target)
+PathsIn s m = optionalIn [] (listAt askedAt 9 s) (getD (m .at) 0 0)
 
-    go : (a b : Bool) (ps : Opt (List Target)) → readRead (endsWith len (place (pick a (pick b (bindO ps (λ p. just (record { paths = p; filters = l }))) nothing) nothing) n)) ≡ pick (eqb n len) (pick a (pick b (withPaths (wantsStruct l) ps) (readRead nothing)) (readRead nothing)) (readRead nothing)
-    go false b ps = both (eqb n len)
-    go true false ps = both (eqb n len)
-    go true true nothing = both (eqb n len)
-    go true true (just p) = last p (eqb n len)
+abbrev WantsIn : List ℕ → Pass → Opt (List Wanted)
+WantsIn s m = optionalIn [] (listAt wantedAt 9 s) (getD (m .at) 4 0)
 
-from : (s xs ks : List ℕ) → ks ≡ map (codeIn s) xs → {l : List Wanted} → optionalIn [] (listAt wantedAt 9 s) (getD xs 4 0) ≡ just l → readFrom s xs ≡ readOf (flagBy (getD ks 3 0)) (numberBy 255 false (getD ks 9 0)) (optionalIn [] (listAt askedAt 9 s) (getD xs 0 0)) (just l)
-unfolding readFrom
-from s xs ks k b = rw (b, ← (flag-coded s ks xs k 3 refl), ← (number-coded s ks xs k 9 255 false (omega arith) refl)) refl
+pub record ReadTo (s : List ℕ) (Stage : Pass → Type 0) (m : Pass) (ps : Paths) (fs : Wants) : Type 0 where
+  pub lost : m .good ≡ false → readIn s ≡ nothing
+  pub sound : m .slot < 10 → m .good ≡ true
+  pub stops : List Bool
+  pub before : List ℕ
+  pub left : m .good ≡ true → Left 9 s structure readTags stops before (structureAt readTags s) m
+  pub paths : m .good ≡ true → (m .slot ≡ 0 → ⊥) → (l : List Target) × (PathsIn s m ≡ just l) × (ps ≡ pathsStruct l)
+  pub wants : m .good ≡ true → (m .slot ≡ 4 → ⊥) → (l : List Wanted) × (WantsIn s m ≡ just l) × (fs ≡ wantsStruct l)
+  pub stage : m .slot < 10 → Stage m
 
-module _ (s : List ℕ) (e : Element) (z : Pass) (p : insideOn structure maxDepth s readTags e ≡ resumed 9 s structure readTags z) (k : z .codes ≡ map (codeIn s) (z .at)) where
-  pub read-passed : 10 ≤ z .slot → (l : List Wanted) → (z .good ≡ true → optionalIn [] (listAt wantedAt 9 s) (getD (z .at) 4 0) ≡ just l) → readBy s z (wantsStruct l) ≡ readRead (endsWith (length s) (frameOn structure maxDepth s readTags (readFrom s) e))
-  unfolding readBy
-  read-passed o l some = by (z .good) refl
+-- the pass that goes on, after the list at its stop was read
+abbrev After : List ℕ → List Bool → Pass → Pass → Type 0
+After s further m z = Left 9 s structure readTags further (m .at) (structureAt readTags s) z
+
+module _ (s : List ℕ) {Stage Stage′ : Pass → Type 0} (m : Pass) (ps : Paths) (fs : Wants) (R : ReadTo s Stage m ps fs) (further : List Bool) where
+  paths-step : ((m .slot ≡ 0 → ⊥) → Stage m → Stage′ m) → (m .slot ≡ 0 → Stage m → (z : Pass) → After s further m z → z .slot < 10 → Stage′ z) → (m .slot ≡ 0 → Stage m → (z : Pass) → After s further m z → z .good ≡ true → (z .slot ≡ 4 → ⊥) → getD (z .at) 4 0 ≡ getD (m .at) 4 0) → let x = passPaths s further m ps in ReadTo s Stage′ (x .pass) (x .paths) fs
+  unfolding passPaths readIn
+  paths-step skips goes keeps = go (eqb (m .slot) 0) refl (listOn askedAt 9 s (m .head)) refl
     where
-      by : (b : Bool) → z .good ≡ b → readBy s z (wantsStruct l) ≡ readRead (endsWith (length s) (frameOn structure maxDepth s readTags (readFrom s) e))
-      by false g = rw g (sym (ap (λ h. readRead (endsWith (length s) h)) (frame-none structure maxDepth s readTags (readFrom s) e z p g)))
-      by true g = rw g (sym (ap (λ h. readRead (endsWith (length s) h)) (frame-end structure maxDepth s readTags (readFrom s) e z p g o (from s (z .at) (z .codes) k (some g))) ∙ read-made (length s) (z .head .next .at) (flagBy (getD (z .codes) 3 0)) (numberBy 255 false (getD (z .codes) 9 0)) (optionalIn [] (listAt askedAt 9 s) (getD (z .at) 0 0)) l))
+      go : (b : Bool) → eqb (m .slot) 0 ≡ b → (g : Got (List Target)) → listOn askedAt 9 s (m .head) ≡ g → let x = pick b (pathsFound (passFrom 9 s structure readTags further m) g) (record { pass = m; paths = ps }) in ReadTo s Stage′ (x .pass) (x .paths) fs
+      go false e g w = record { lost = R .lost; sound = R .sound; stops = R .stops; before = R .before; left = R .left; paths = R .paths; wants = R .wants; stage = λ l. skips (eqb-false _ 0 e) (R .stage l) }
+      go true e bad w =
+          let i = eqb-true (m .slot) 0 e in
+          let l : m .slot < 10 = omega arith in
+          record { lost = λ g. whole-refused readTags (readFrom s) s (nest-no-option (R .left (R .sound l)) i l (paths-reads s) (readFrom s) w [] (lacks-paths s)); sound = λ l. absurd (omega arith); stops = []; before = []; left = λ g. absurd (clash (sym g)); paths = λ g. absurd (clash (sym g)); wants = λ g. absurd (clash (sym g)); stage = λ l. absurd (omega arith) }
+      go true e (got x n) w =
+          let i = eqb-true (m .slot) 0 e in
+          let l : m .slot < 10 = omega arith in
+          let L = R .left (R .sound l) in
+          let z = passFrom 9 s structure readTags further m n in
+          let N : After s further m z = nest-on L i l (paths-reads s) w further refl in
+          record {
+            lost = λ g. whole-refused readTags (readFrom s) s (frame-none (readFrom s) N g);
+            sound = λ k. N .stopped k .sound;
+            stops = further;
+            before = m .at;
+            left = λ g. N;
+            paths = λ g k. (x, nest-option L i l (paths-reads s) w further refl [] g, refl);
+            wants = λ g k. (let f = R .wants (R .sound l) (λ y. omega arith) in (f .0, ap (optionalIn [] (listAt wantedAt 9 s)) (keeps i (R .stage l) z N g k) ∙ f .1, f .2));
+            stage = λ k. goes i (R .stage l) z N k;
+          }
 
-pub read-paths : (p : Paths) (f : Wants) (v : ℕ) (l : List Target) → p ≡ pathsStruct l → v ≡ readVerdict (p .count) (f .count) → record { verdict = v; paths = p; filters = f } ≡ withPaths f (just l)
-read-paths p f v l e w = let n : readVerdict (p .count) (f .count) ≡ readVerdict (length l) (f .count) = rw e refl in λ j. record { verdict = (w ∙ n) j; paths = e j; filters = f }
+module _ (s : List ℕ) {Stage Stage′ : Pass → Type 0} (m : Pass) (ps : Paths) (R : ReadTo s Stage m ps (wantsStruct [])) (further : List Bool) where
+  wants-step : ((m .slot ≡ 4 → ⊥) → Stage m → Stage′ m) → ((z : Pass) → After s further m z → (z .good ≡ true → getD (z .at) 4 0 ≡ 0 → ⊥) → z .slot < 10 → Stage′ z) → ((z : Pass) → After s further m z → z .good ≡ true → (z .slot ≡ 0 → ⊥) → getD (z .at) 0 0 ≡ getD (m .at) 0 0) → let x = passWants s further m in ReadTo s Stage′ (x .pass) ps (x .wants)
+  unfolding passWants readIn
+  wants-step skips goes keeps = go (eqb (m .slot) 4) refl (listOn wantedAt 9 s (m .head)) refl
+    where
+      go : (b : Bool) → eqb (m .slot) 4 ≡ b → (g : Got (List Wanted)) → listOn wantedAt 9 s (m .head) ≡ g → let x = pick b (wantsFound (passFrom 9 s structure readTags further m) g) (record { pass = m; wants = wantsStruct [] }) in ReadTo s Stage′ (x .pass) ps (x .wants)
+      go false e g w = record { lost = R .lost; sound = R .sound; stops = R .stops; before = R .before; left = R .left; paths = R .paths; wants = R .wants; stage = λ l. skips (eqb-false _ 4 e) (R .stage l) }
+      go true e bad w =
+          let i = eqb-true (m .slot) 4 e in
+          let l : m .slot < 10 = omega arith in
+          record { lost = λ g. whole-refused readTags (readFrom s) s (nest-no-option (R .left (R .sound l)) i l (wants-reads s) (readFrom s) w [] (lacks-wants s)); sound = λ l. absurd (omega arith); stops = []; before = []; left = λ g. absurd (clash (sym g)); paths = λ g. absurd (clash (sym g)); wants = λ g. absurd (clash (sym g)); stage = λ l. absurd (omega arith) }
+      go true e (got x n) w =
+          let i = eqb-true (m .slot) 4 e in
+          let l : m .slot < 10 = omega arith in
+          let L = R .left (R .sound l) in
+          let z = passFrom 9 s structure readTags further m n in
+          let N : After s further m z = nest-on L i l (wants-reads s) w further refl in
+          record {
+            lost = λ g. whole-refused readTags (readFrom s) s (frame-none (readFrom s) N g);
+            sound = λ k. N .stopped k .sound;
+            stops = further;
+            before = m .at;
+            left = λ g. N;
+            paths = λ g k. (let f = R .paths (R .sound l) (λ y. omega arith) in (f .0, ap (optionalIn [] (listAt askedAt 9 s)) (keeps z N g k) ∙ f .1, f .2));
+            wants = λ g k. (x, nest-option L i l (wants-reads s) w further refl [] g, refl);
+            stage = λ k. goes z N (λ g. nest-there L i l (wants-reads s) w further refl g) k;
+          }
 
-none-true : (n j : ℕ) → getD (replicate n false) j false ≡ true → ⊥
-none-true zero j e = clash (sym e)
-none-true (suc n) zero e = clash (sym e)
-none-true (suc n) (suc j) e = none-true n j e
+-- ---- the three steps: at first it stops at either list; then, where it has not stopped at the paths, at the filters; then at the paths,
+-- where the filters were read; then nowhere
 
-pub only-fifth : (j : ℕ) → getD (false ∷ false ∷ false ∷ false ∷ true ∷ replicate 5 false) j false ≡ true → j ≡ 4
-only-fifth zero e = absurd (clash (sym e))
-only-fifth (suc zero) e = absurd (clash (sym e))
-only-fifth (suc (suc zero)) e = absurd (clash (sym e))
-only-fifth (suc (suc (suc zero))) e = absurd (clash (sym e))
-only-fifth (suc (suc (suc (suc zero)))) e = refl
-only-fifth (suc (suc (suc (suc (suc j))))) e = absurd (none-true 5 j e)
+abbrev eitherList : List Bool
+eitherList = true ∷ false ∷ false ∷ false ∷ true ∷ replicate 5 false
+
+abbrev onlyPaths : List Bool
+onlyPaths = true ∷ replicate 9 false
+
+abbrev onlyFilters : List Bool
+onlyFilters = false ∷ false ∷ false ∷ false ∷ true ∷ replicate 5 false
+
+either : (j : ℕ) → getD eitherList j false ≡ true → (j ≡ 0 → ⊥) → j ≡ 4
+either zero e n = absurd (n refl)
+either (suc zero) e n = absurd (clash (sym e))
+either (suc (suc zero)) e n = absurd (clash (sym e))
+either (suc (suc (suc zero))) e n = absurd (clash (sym e))
+either (suc (suc (suc (suc zero)))) e n = refl
+either (suc (suc (suc (suc (suc j))))) e n = absurd (none-true 5 j e)
+
+fifth : (j : ℕ) → getD onlyFilters j false ≡ true → j ≡ 4
+fifth zero e = absurd (clash (sym e))
+fifth (suc j) e = either (suc j) e (λ y. omega arith)
+
+abbrev First : Pass → Type 0
+First m = (m .slot ≡ 0 → ⊥) → m .slot ≡ 4
+
+abbrev Second : Pass → Type 0
+Second m = m .slot ≡ 4
+
+abbrev Third : Pass → Type 0
+Third m = (m .slot ≡ 0) × (getD (m .at) 4 0 ≡ 0 → ⊥)
+
+abbrev Done : Pass → Type 0
+Done m = ⊥
+
+read-opened : {s : List ℕ} {m : Pass} → m ≡ openPass readTags eitherList s → ReadTo s First m (pathsStruct []) (wantsStruct [])
+unfolding readIn
+read-opened {s} {m} e = let L = opened e in record {
+  lost = λ g. whole-refused readTags (readFrom s) s (frame-none (readFrom s) L g);
+  sound = λ l. L .stopped l .sound;
+  stops = eitherList;
+  before = replicate 10 0;
+  left = λ g. L;
+  paths = λ g k. ([], optional-none [] (listAt askedAt 9 s) (getD (m .at) 0 0) (L .passed g 0 refl k), refl);
+  wants = λ g k. ([], optional-none [] (listAt wantedAt 9 s) (getD (m .at) 4 0) (L .passed g 4 refl k), refl);
+  stage = λ l n. either (m .slot) (L .stopped l .wanted) n;
+}
+
+-- ---- at the end
+
+from : (s xs ks : List ℕ) → ks ≡ map (codeIn s) xs → {p : List Target} {f : List Wanted} → optionalIn [] (listAt askedAt 9 s) (getD xs 0 0) ≡ just p → optionalIn [] (listAt wantedAt 9 s) (getD xs 4 0) ≡ just f → readFrom s xs ≡ readOf (flagBy (getD ks 3 0)) (numberBy 255 false (getD ks 9 0)) (just p) (just f)
+unfolding readFrom
+from s xs ks k a b = rw (a, b, ← (flag-coded s ks xs k 3 refl), ← (number-coded s ks xs k 9 255 false (omega arith) refl)) refl
+
+read-ended : {s : List ℕ} {m : Pass} {ps : Paths} {fs : Wants} → ReadTo s Done m ps fs → readBy (length s) m ps fs ≡ readRead (readIn s)
+unfolding readBy readIn
+read-ended {s} {m} {ps} {fs} R = by (m .good) refl
+  where
+    over : 10 ≤ m .slot
+    over = go (ltb (m .slot) 10) refl
+      where
+        go : (b : Bool) → ltb (m .slot) 10 ≡ b → 10 ≤ m .slot
+        go true e = absurd (R .stage (ltb-true (m .slot) 10 e))
+        go false e = ltb-false (m .slot) 10 e
+
+    made : (p : List Target) (f : List Wanted) (w a b : Bool) → pick w (pick a (pick b (readRead (just (record { paths = p; filters = f }))) (readRead nothing)) (readRead nothing)) (readRead nothing) ≡ readRead (pick w (pick a (pick b (just (record { paths = p; filters = f })) nothing) nothing) nothing)
+    made p f false a b = refl
+    made p f true false b = refl
+    made p f true true false = refl
+    made p f true true true = refl
+
+    by : (b : Bool) → m .good ≡ b → readBy (length s) m ps fs ≡ readRead (readIn s)
+    by false g = rw (whole-bad (length s) m g) (sym (ap readRead (R .lost g)))
+    by true g =
+        let p = R .paths g (λ y. (let o = over in omega arith)) in
+        let f = R .wants g (λ y. (let o = over in omega arith)) in
+        let k = R .left g .coded in
+        ap (λ (y : Paths). readBy (length s) m y fs) (p .2) ∙ ap (λ (y : Wants). readBy (length s) m (pathsStruct (p .0)) y) (f .2)
+        ∙ made (p .0) (f .0) (wholePass (length s) m) (given (flagBy (getD (m .codes) 3 0))) (given (numberBy 255 false (getD (m .codes) 9 0)))
+        ∙ sym (ap readRead (whole-passed (readFrom s) (R .left g) over ∙ ap (λ o. pick (wholePass (length s) m) o nothing) (from s (m .at) (m .codes) k (p .1) (f .1))))
+
+-- THE LAW of the request in one pass
+pub read-passed : (s : List ℕ) {m : Pass} {ps : Paths} {x z : PathsPass} {y : WantsPass} → m ≡ openPass readTags eitherList s → ps ≡ pathsStruct [] → x ≡ passPaths s onlyFilters m ps → y ≡ passWants s onlyPaths (x .pass) → z ≡ passPaths s (replicate 10 false) (y .pass) (x .paths) → readBy (length s) (z .pass) (z .paths) (y .wants) ≡ readRead (readIn s)
+read-passed s {m} {ps} {x} {z} {y} em ep ex ey ez = read-ended (rw ez three)
+  where
+    one : ReadTo s Second (x .pass) (x .paths) (wantsStruct [])
+    one = rw (ex, ep) (paths-step s m (pathsStruct []) (wantsStruct []) (read-opened em) onlyFilters (λ n t. t n) (λ i t r N l. fifth (r .slot) (N .stopped l .wanted)) (λ i t r N g n. N .passed g 4 refl n))
+
+    two : ReadTo s Third (y .pass) (x .paths) (y .wants)
+    two = rw ey (wants-step s (x .pass) (x .paths) one onlyPaths (λ n t. absurd (n t)) (λ r N h l. (only-first (r .slot) (N .stopped l .wanted), h (N .stopped l .sound))) (λ r N g n. N .passed g 0 refl n))
+
+    three : let v = passPaths s (replicate 10 false) (y .pass) (x .paths) in ReadTo s Done (v .pass) (v .paths) (y .wants)
+    three = paths-step s (y .pass) (x .paths) (y .wants) two (replicate 10 false) (λ n t. n (t .0)) (λ i t r N l. (let o = nowhere N in omega arith)) (λ i t r N g n. stays (getD (y .pass .at) 4 0) (t .1) (λ v k. N .kept g 4 v k))
+      where
+        stays : (p : ℕ) {q : ℕ} → (p ≡ 0 → ⊥) → ((v : ℕ) → p ≡ v + 1 → q ≡ v + 1) → q ≡ p
+        stays p n k = let e : p ≡ p - 1 + 1 = omega arith in k (p - 1) e ∙ sym e
+
+-- ---- what the code makes of the list at a stop
+
+module _ (on : ℕ → Pass) (f : PathList) (z : Pass) where
+  pub paths-refused : (g : Got (List Target)) → f ≡ pathsEnd g → f .paths .good ≡ false → z ≡ noPass → record { pass = z; paths = f .paths } ≡ pathsFound on g
+  paths-refused bad e q k = λ j. record { pass = k j; paths = e j .paths }
+  paths-refused (got l n) e q k = absurd (clash (sym (ap (λ (y : PathList). y .paths .good) e) ∙ q))
+
+  pub paths-read : (g : Got (List Target)) → f ≡ pathsEnd g → f .paths .good ≡ true → z ≡ on (f .next .at) → record { pass = z; paths = f .paths } ≡ pathsFound on g
+  paths-read bad e q k = absurd (clash (sym q ∙ ap (λ (y : PathList). y .paths .good) e))
+  paths-read (got l n) e q k = λ j. record { pass = (k ∙ ap (λ (y : PathList). on (y .next .at)) e) j; paths = e j .paths }
+
+module _ (on : ℕ → Pass) (f : WantList) (z : Pass) where
+  pub wants-refused : (g : Got (List Wanted)) → f ≡ wantsEnd g → f .wants .good ≡ false → z ≡ noPass → record { pass = z; wants = f .wants } ≡ wantsFound on g
+  wants-refused bad e q k = λ j. record { pass = k j; wants = e j .wants }
+  wants-refused (got l n) e q k = absurd (clash (sym (ap (λ (y : WantList). y .wants .good) e) ∙ q))
+
+  pub wants-read : (g : Got (List Wanted)) → f ≡ wantsEnd g → f .wants .good ≡ true → z ≡ on (f .next .at) → record { pass = z; wants = f .wants } ≡ wantsFound on g
+  wants-read bad e q k = absurd (clash (sym q ∙ ap (λ (y : WantList). y .wants .good) e))
+  wants-read (got l n) e q k = λ j. record { pass = (k ∙ ap (λ (y : WantList). on (y .next .at)) e) j; wants = e j .wants }
+
+pub no-paths-yet : record { good = true; count = 0; kept = replicate 16 read.nowhere } ≡ pathsStruct []
+no-paths-yet = λ j. record { good = true; count = 0; kept = sym (first-none 16 read.nowhere) j }
+
+pub no-wants-yet : record { good = true; count = 0; kept = replicate 32 unwanted } ≡ wantsStruct []
+no-wants-yet = λ j. record { good = true; count = 0; kept = sym (first-none 32 unwanted) j }

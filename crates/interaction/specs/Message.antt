@@ -1,5 +1,5 @@
 -- A whole message (document 01, Spelling): one untagged structure of depth at most 10 that ends where the payload ends.
-use Prim.Native.Nat.{ℕ, zero, suc, _-_}
+use Prim.Native.Nat.{ℕ, zero, suc}
 use mathlib.Core.List.{List, [], _∷_, _++_}
 use mathlib.Core.Bool.{Bool, false}
 use lib.ListN.{length, set}
@@ -14,10 +14,10 @@ use Rattle.tlv.specs.Walk.Got.{got, bad}
 use Rattle.tlv.specs.Decode.{Opt, bindO, place, foldT}
 use Rattle.tlv.specs.Decode.Opt.{nothing}
 use Rattle.members.specs.Fields.{Slot, insideAt, fieldsT}
+use Rattle.members.specs.declared.Pass.{Pass}
+use Rattle.members.specs.Pass.{noPass, passOf}
 use Rattle.members.specs.Scalar.{ABSENT}
 use Rattle.members.specs.Array.{optOf, eachStep, eachT}
-use Rattle.interaction.specs.declared.Opened.{Opened}
-use Rattle.interaction.specs.declared.Opened.the-variants.{Members, NotArray}
 
 unfoldable pub untagged : List ℕ → Bool
 untagged s = headed false (λ e. eqb (e .form) 0) (headAt s 0)
@@ -26,6 +26,17 @@ untagged s = headed false (λ e. eqb (e .form) 0) (headAt s 0)
 unfoldable pub messageAt : List Bool → List ℕ → Got (List ℕ)
 messageAt listed s =
     pick (untagged s) (bindG (insideAt structure maxDepth s listed 0) (λ seen n. pick (eqb n (length s)) (got seen n) bad)) bad
+
+-- of the structure that it starts with, whatever comes after that; and a pass over them
+unfoldable pub structureAt : List Bool → List ℕ → Got (List ℕ)
+structureAt listed s = pick (untagged s) (insideAt structure maxDepth s listed 0) bad
+
+unfoldable pub openPass : List Bool → List Bool → List ℕ → Pass
+openPass listed stops s = headed noPass (λ e. pick (eqb (e .form) 0) (passOf structure maxDepth s listed stops e) noPass) (headAt s 0)
+
+-- a pass that has ended where the payload ends
+unfoldable pub wholePass : ℕ → Pass → Bool
+wholePass len m = pick (m .good) (eqb (m .head .next .at) len) false
 
 -- what is made of them
 abbrev pub wholeIn : {A : Type 0} → List Bool → (List ℕ → Opt A) → List ℕ → Opt A
@@ -67,7 +78,3 @@ listAt read (suc d) s at =
 unfoldable pub listOn : {A : Type 0} → (ℕ → List ℕ → ℕ → Got A) → ℕ → List ℕ → Element → Got (List A)
 listOn read zero s e = bad
 listOn read (suc d) s e = pick (eqb (e .kind) array) (foldAt (eachStep snoc (read d s)) (length s) s array [] (e .next .at)) bad
-
--- where the members of the array at a place start
-unfoldable pub openedIn : List ℕ → ℕ → Opened
-openedIn s p = pick (eqb p 0) NotArray (headed NotArray (λ e. pick (eqb (e .kind) array) (Members (e .next)) NotArray) (headAt s (p - 1)))

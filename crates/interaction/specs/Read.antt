@@ -4,7 +4,7 @@ use mathlib.Core.List.{List, [], _∷_}
 use mathlib.Core.Bool.{Bool, true, false}
 use lib.ListN.{length, getD, replicate}
 use lib.Dec.{ltb, eqb}
-use Rattle.tlv.specs.Octet.{pick, array}
+use Rattle.tlv.specs.Octet.{pick, structure, array}
 use Rattle.tlv.specs.Tree.{Tree, Trees}
 use Rattle.tlv.specs.Walk.{Got, bindG, foldAt}
 use Rattle.tlv.specs.Walk.Got.{got, bad}
@@ -23,14 +23,17 @@ use Rattle.interaction.specs.declared.WantedRead.{WantedRead}
 use Rattle.interaction.specs.declared.WantedRead.the-variants as wanted
 use Rattle.blocks.specs.Path.{pathOn, pathAt, pathT, askableP}
 use Rattle.blocks.specs.Filter.{filterOn, filterAt, filterT}
-use Rattle.interaction.specs.Message.{snoc, listT, listAt, firstOf, given, wholeIn, wholeT}
+use Rattle.interaction.specs.Message.{snoc, listT, listAt, listOn, firstOf, given, wholeIn, wholeT, wholePass}
 use Rattle.interaction.specs.declared.Target.{Target}
 use Rattle.interaction.specs.declared.Paths.{Paths}
 use Rattle.interaction.specs.declared.Wanted.{Wanted}
 use Rattle.interaction.specs.declared.Wants.{Wants}
 use Rattle.interaction.specs.declared.WantList.{WantList}
+use Rattle.interaction.specs.declared.PathList.{PathList}
+use Rattle.interaction.specs.declared.PathsPass.{PathsPass}
+use Rattle.interaction.specs.declared.WantsPass.{WantsPass}
 use Rattle.members.specs.declared.Pass.{Pass}
-use Rattle.members.specs.Pass.{numberBy, flagBy}
+use Rattle.members.specs.Pass.{noPass, passFrom, numberBy, flagBy}
 use Rattle.interaction.specs.declared.ReadRequest.{ReadRequest}
 
 abbrev pub maxPaths : ℕ
@@ -77,6 +80,11 @@ abbrev pub pathsRead : Got (List Target) → Paths
 pathsRead bad = record { good = false; count = 0; kept = replicate maxPaths nowhere }
 pathsRead (got l n) = pathsStruct l
 
+-- with where the array ends
+abbrev pub pathsEnd : Got (List Target) → PathList
+pathsEnd bad = record { paths = pathsRead bad; next = record { at = 0 } }
+pathsEnd (got l n) = record { paths = pathsStruct l; next = record { at = n } }
+
 abbrev pub pathsOpt : Opt (List Target) → Paths
 pathsOpt nothing = record { good = false; count = 0; kept = replicate maxPaths nowhere }
 pathsOpt (just l) = pathsStruct l
@@ -120,7 +128,6 @@ abbrev pub wantsRead : Got (List Wanted) → Wants
 wantsRead bad = record { good = false; count = 0; kept = replicate maxFilters unwanted }
 wantsRead (got l n) = wantsStruct l
 
--- with where the array ends
 abbrev pub wantsEnd : Got (List Wanted) → WantList
 wantsEnd bad = record { wants = wantsRead bad; next = record { at = 0 } }
 wantsEnd (got l n) = record { wants = wantsStruct l; next = record { at = n } }
@@ -168,18 +175,30 @@ readRead (just r) = record {
   filters = wantsStruct (r .filters);
 }
 
--- by a pass over the request's members that has ended, with its filters
-abbrev pub withPaths : Wants → Opt (List Target) → ReadRequest
-withPaths fs nothing = readRead nothing
-withPaths fs (just p) = record { verdict = readVerdict (length p) (fs .count); paths = pathsStruct p; filters = fs }
+-- BY A PASS over the request's members: at a stop its list is read, and the pass goes on after it
+abbrev pub pathsFound : (ℕ → Pass) → Got (List Target) → PathsPass
+pathsFound on bad = record { pass = noPass; paths = pathsRead bad }
+pathsFound on (got l n) = record { pass = on n; paths = pathsStruct l }
 
-abbrev pub readMade : ℕ → ℕ → Opt (List Target) → Wants → ReadRequest
-readMade filtered revision ps fs = pick (given filtered) (pick (given revision) (withPaths fs ps) (readRead nothing)) (readRead nothing)
+unfoldable pub passPaths : List ℕ → List Bool → Pass → Paths → PathsPass
+passPaths s stops m before =
+    pick (eqb (m .slot) 0) (pathsFound (passFrom 9 s structure readTags stops m) (listOn askedAt 9 s (m .head))) (record { pass = m; paths = before })
 
-unfoldable pub readBy : List ℕ → Pass → Wants → ReadRequest
-readBy s m fs =
-    pick (m .good)
-    (pick (eqb (m .head .next .at) (length s))
-    (readMade (flagBy (getD (m .codes) 3 0)) (numberBy 255 false (getD (m .codes) 9 0)) (optionalIn [] (listAt askedAt 9 s) (getD (m .at) 0 0)) fs)
+abbrev pub wantsFound : (ℕ → Pass) → Got (List Wanted) → WantsPass
+wantsFound on bad = record { pass = noPass; wants = wantsRead bad }
+wantsFound on (got l n) = record { pass = on n; wants = wantsStruct l }
+
+unfoldable pub passWants : List ℕ → List Bool → Pass → WantsPass
+passWants s stops m =
+    pick (eqb (m .slot) 4) (wantsFound (passFrom 9 s structure readTags stops m) (listOn wantedAt 9 s (m .head))) (record { pass = m; wants = wantsStruct [] })
+
+-- and the request is made of the pass that has ended, and of the lists
+unfoldable pub readBy : ℕ → Pass → Paths → Wants → ReadRequest
+readBy len m ps fs =
+    pick (wholePass len m)
+    (pick (given (flagBy (getD (m .codes) 3 0)))
+    (pick (given (numberBy 255 false (getD (m .codes) 9 0)))
+    (record { verdict = readVerdict (ps .count) (fs .count); paths = ps; filters = fs })
+    (readRead nothing))
     (readRead nothing))
     (readRead nothing)

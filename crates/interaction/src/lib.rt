@@ -1,20 +1,16 @@
 // Payloads of the Interaction Model, read to their meaning (chapter 10, section 10.6; document 01, Spelling).
 ghost use mathlib.Core.Path.{_≡_};
-ghost use mathlib.Core.List.{[]};
 ghost use Rattle.tlv.specs.Walk.Got.{bad};
 ghost use Rattle.tlv.specs.Decode.Opt.{nothing};
-ghost use Rattle.members.specs.Array.{optionalIn};
-ghost use Rattle.members.specs.Fields.{membersOf};
-ghost use Rattle.interaction.specs.Message.{messageAt, keepOf, listAt, listOn, openedIn};
+ghost use Rattle.interaction.specs.Message.{openPass, wholePass, keepOf, listOn};
 ghost use Rattle.interaction.specs.Status.{responseIn, responseRead};
-ghost use Rattle.interaction.specs.Read.{targetOf, askedAt, askedOn, askedRead, wantedOn, wantedRead, pathsAt, pathsRead, pathsOpt, localF, wantedOf, wantedAt, wantsAt, wantsRead, wantsEnd, readVerdict, readIn, readRead, readBy};
+ghost use Rattle.interaction.specs.Read.{targetOf, askedAt, askedOn, askedRead, wantedOn, wantedRead, pathsAt, pathsRead, pathsEnd, localF, wantedOf, wantedAt, wantsAt, wantsRead, wantsEnd, readVerdict, readIn, readRead, passPaths, passWants, readBy};
 use blocks::Filter;
 use blocks::FilterRead;
 use blocks::Path;
 use blocks::PathRead;
 use members::ABSENT;
 use members::Item;
-use members::Members;
 use members::Pass;
 use tlv::Cursor;
 use tlv::Element;
@@ -25,35 +21,30 @@ pub const MAX_PATHS: usize = 16;
 
 pub const MAX_FILTERS: usize = 32;
 
-fn none() -> Members
-    ensures { λ r. ⌜ r ≡ membersOf bad ⌝ }
-{
-    Members {
-        good: false,
-        next: 0,
-        at: [0usize; 10],
-    }
-}
-
-// The members of a whole message: one untagged structure that ends where the payload ends.
-pub fn message(s: &[u8], listed: &[bool; 10]) -> Members
-    ensures { λ r. ⌜ r ≡ membersOf (messageAt (now (listed .entry)) (now (s .entry))) ⌝ }
+// A pass over the members of a message, from the untagged structure on that it starts with.
+pub fn begin_message(s: &[u8], listed: &[bool; 10], stops: &[bool; 10]) -> Pass
+    ensures { λ r. ⌜ r ≡ openPass (now (listed .entry)) (now (stops .entry)) (now (s .entry)) ⌝ }
 {
     let start = Cursor { at: 0 };
     let Head::Found(e) = start.head(s) else {
-        return none();
+        return members::refused();
     };
     if e.form != 0 {
-        return none();
+        return members::refused();
     }
-    let m = members::inside(s, start, tlv::MAX_DEPTH, tlv::STRUCTURE, listed);
+    members::begin(s, e, tlv::MAX_DEPTH, tlv::STRUCTURE, listed, stops)
+}
+
+// Whether a pass has ended where the payload ends.
+pub fn is_whole(m: Pass, len: usize) -> bool
+    ensures { λ r. ⌜ r ≡ wholePass len m ⌝ }
+{
     if !m.good {
-        return none();
+        return false;
     }
-    if m.next != s.len() {
-        return none();
-    }
-    m
+    let end = m.head;
+    let next = end.next;
+    next.at == len
 }
 
 pub enum StatusResponse {
@@ -79,16 +70,17 @@ pub fn status_response(s: &[u8]) -> StatusResponse
     ensures { λ r. ⌜ r ≡ responseRead (responseIn (now (s .entry))) ⌝ }
 {
     let listed = STATUS;
-    let m = message(s, &listed);
-    if !m.good {
+    let never = members::NO_STOP;
+    let m = begin_message(s, &listed, &never);
+    if !is_whole(m, s.len()) {
         return StatusResponse::BadResponse;
     }
-    let a = m.at;
-    let code = members::number_at(s, a[0], 255, false);
+    let k = m.codes;
+    let code = members::number_by(k[0], 255, false);
     if ABSENT <= code {
         return StatusResponse::BadResponse;
     }
-    let revision = members::number_at(s, a[9], 255, false);
+    let revision = members::number_by(k[9], 255, false);
     if ABSENT <= revision {
         return StatusResponse::BadResponse;
     }
@@ -135,6 +127,22 @@ fn no_paths() -> Paths
     }
 }
 
+// The paths of an array, and where it ends.
+pub struct PathList {
+    pub paths: Paths,
+    pub next: Cursor,
+}
+
+fn no_path_list() -> PathList
+    ensures { λ r. ⌜ r ≡ pathsEnd bad ⌝ }
+{
+    let paths = no_paths();
+    PathList {
+        paths,
+        next: Cursor { at: 0 },
+    }
+}
+
 // What a path of a read asks for.
 pub enum AskedRead {
     Asked(Target, Cursor),
@@ -165,8 +173,8 @@ fn keep_path(kept: [Target; 16], count: usize, t: Target) -> [Target; 16]
 }
 
 // The paths of an array from one of its members on: all are checked and counted, the first are kept.
-pub fn paths_from(s: &[u8], c: Cursor, left: usize) -> Paths
-    ensures { λ r. ⌜ r ≡ pathsRead (pathsAt left (now (s .entry)) (c .at)) ⌝ }
+pub fn paths_from(s: &[u8], c: Cursor, left: usize) -> PathList
+    ensures { λ r. ⌜ r ≡ pathsEnd (pathsAt left (now (s .entry)) (c .at)) ⌝ }
 {
     let mut count: usize = 0;
     let mut kept = [NOWHERE; 16];
@@ -175,18 +183,19 @@ pub fn paths_from(s: &[u8], c: Cursor, left: usize) -> Paths
         let item = members::item_at(s, Cursor { at }, tlv::ARRAY);
         match item {
             Item::BadItem => {
-                return no_paths();
+                return no_path_list();
             }
-            Item::Ended(_) => {
-                return Paths {
+            Item::Ended(next) => {
+                let paths = Paths {
                     good: true,
                     count,
                     kept,
                 };
+                return PathList { paths, next };
             }
             Item::Member(e) => {
                 let AskedRead::Asked(t, next) = asked_of(s, e, left) else {
-                    return no_paths();
+                    return no_path_list();
                 };
                 let more = keep_path(kept, count, t);
                 kept = more;
@@ -197,47 +206,17 @@ pub fn paths_from(s: &[u8], c: Cursor, left: usize) -> Paths
     }
 }
 
-// Where the members of an array start.
-pub enum Opened {
-    Members(Cursor),
-    NotArray,
-}
-
-// The array whose place is p, plus one.
-pub fn open_array(s: &[u8], p: usize) -> Opened
-    ensures { λ r. ⌜ r ≡ openedIn (now (s .entry)) p ⌝ }
+// The paths of the array whose head was read.
+fn paths_of(s: &[u8], e: Element, left: usize) -> PathList
+    ensures { λ r. ⌜ r ≡ pathsEnd (listOn askedAt left (now (s .entry)) e) ⌝ }
 {
-    if p == 0 {
-        return Opened::NotArray;
-    }
-    let c = Cursor { at: p - 1 };
-    let Head::Found(e) = c.head(s) else {
-        return Opened::NotArray;
-    };
     if e.kind != tlv::ARRAY {
-        return Opened::NotArray;
-    }
-    let next = e.next;
-    Opened::Members(next)
-}
-
-// The paths of the array at a place; none where it is absent.
-fn optional_paths(s: &[u8], p: usize, left: usize) -> Paths
-    ensures { λ r. ⌜ r ≡ pathsOpt (optionalIn [] (listAt askedAt left (now (s .entry))) p) ⌝ }
-{
-    if p == 0 {
-        return Paths {
-            good: true,
-            count: 0,
-            kept: [NOWHERE; 16],
-        };
+        return no_path_list();
     }
     if left == 0 {
-        return no_paths();
+        return no_path_list();
     }
-    let Opened::Members(c) = open_array(s, p) else {
-        return no_paths();
-    };
+    let c = e.next;
     paths_from(s, c, left - 1)
 }
 
@@ -296,7 +275,7 @@ pub struct WantList {
     pub next: Cursor,
 }
 
-fn no_list() -> WantList
+fn no_want_list() -> WantList
     ensures { λ r. ⌜ r ≡ wantsEnd bad ⌝ }
 {
     let wants = no_wants();
@@ -346,7 +325,7 @@ pub fn wants_from(s: &[u8], c: Cursor, left: usize) -> WantList
         let item = members::item_at(s, Cursor { at }, tlv::ARRAY);
         match item {
             Item::BadItem => {
-                return no_list();
+                return no_want_list();
             }
             Item::Ended(next) => {
                 let wants = Wants {
@@ -358,7 +337,7 @@ pub fn wants_from(s: &[u8], c: Cursor, left: usize) -> WantList
             }
             Item::Member(e) => {
                 let WantedRead::Wanted(t, next) = wanted_at(s, e, left) else {
-                    return no_list();
+                    return no_want_list();
                 };
                 let more = keep_filter(kept, count, t);
                 kept = more;
@@ -374,10 +353,10 @@ fn wants_of(s: &[u8], e: Element, left: usize) -> WantList
     ensures { λ r. ⌜ r ≡ wantsEnd (listOn wantedAt left (now (s .entry)) e) ⌝ }
 {
     if e.kind != tlv::ARRAY {
-        return no_list();
+        return no_want_list();
     }
     if left == 0 {
-        return no_list();
+        return no_want_list();
     }
     let c = e.next;
     wants_from(s, c, left - 1)
@@ -426,8 +405,21 @@ fn read_verdict(paths: usize, filters: usize) -> u64
     0
 }
 
-const NO_STOP: [bool; 10] = [
+const EITHER_LIST: [bool; 10] = [
+    true,
     false,
+    false,
+    false,
+    true,
+    false,
+    false,
+    false,
+    false,
+    false,
+];
+
+const PATHS: [bool; 10] = [
+    true,
     false,
     false,
     false,
@@ -439,7 +431,7 @@ const NO_STOP: [bool; 10] = [
     false,
 ];
 
-const FIFTH: [bool; 10] = [
+const FILTERS: [bool; 10] = [
     false,
     false,
     false,
@@ -452,30 +444,102 @@ const FIFTH: [bool; 10] = [
     false,
 ];
 
-// The request whose members were passed, with these filters.
-fn read_of(s: &[u8], m: Pass, filters: Wants) -> ReadRequest
-    ensures { λ r. ⌜ r ≡ readBy (now (s .entry)) m filters ⌝ }
+// A pass over a request's members, and the paths that were read by then.
+pub struct PathsPass {
+    pub pass: Pass,
+    pub paths: Paths,
+}
+
+// If the pass has stopped at the paths, they are read, and it goes on.
+fn pass_paths(s: &[u8], m: Pass, before: Paths, stops: &[bool; 10]) -> PathsPass
+    ensures { λ r. ⌜ r ≡ passPaths (now (s .entry)) (now (stops .entry)) m before ⌝ }
 {
-    if !m.good {
-        return refused_read();
+    if m.slot != 0 {
+        return PathsPass {
+            pass: m,
+            paths: before,
+        };
     }
-    let end = m.head;
-    let next = end.next;
-    if next.at != s.len() {
+    let inner = m.head;
+    let f = paths_of(s, inner, tlv::MAX_DEPTH - 1);
+    let paths = f.paths;
+    if !paths.good {
+        return PathsPass {
+            pass: members::refused(),
+            paths,
+        };
+    }
+    let after = f.next;
+    let listed = READ;
+    let pass = members::resume(
+        s,
+        after,
+        tlv::MAX_DEPTH - 1,
+        tlv::STRUCTURE,
+        &listed,
+        stops,
+        m,
+    );
+    PathsPass { pass, paths }
+}
+
+// A pass over a request's members, and its filters, if they were read.
+pub struct WantsPass {
+    pub pass: Pass,
+    pub wants: Wants,
+}
+
+// If the pass has stopped at the filters, they are read, and it goes on.
+fn pass_wants(s: &[u8], m: Pass, stops: &[bool; 10]) -> WantsPass
+    ensures { λ r. ⌜ r ≡ passWants (now (s .entry)) (now (stops .entry)) m ⌝ }
+{
+    if m.slot != 4 {
+        return WantsPass {
+            pass: m,
+            wants: Wants {
+                good: true,
+                count: 0,
+                kept: [UNWANTED; 32],
+            },
+        };
+    }
+    let inner = m.head;
+    let f = wants_of(s, inner, tlv::MAX_DEPTH - 1);
+    let wants = f.wants;
+    if !wants.good {
+        return WantsPass {
+            pass: members::refused(),
+            wants,
+        };
+    }
+    let after = f.next;
+    let listed = READ;
+    let pass = members::resume(
+        s,
+        after,
+        tlv::MAX_DEPTH - 1,
+        tlv::STRUCTURE,
+        &listed,
+        stops,
+        m,
+    );
+    WantsPass { pass, wants }
+}
+
+// The request whose members were passed, with its lists.
+fn read_of(len: usize, m: Pass, paths: Paths, filters: Wants) -> ReadRequest
+    ensures { λ r. ⌜ r ≡ readBy len m paths filters ⌝ }
+{
+    if !is_whole(m, len) {
         return refused_read();
     }
     let k = m.codes;
-    let a = m.at;
     let filtered = members::flag_by(k[3]);
     if ABSENT <= filtered {
         return refused_read();
     }
     let revision = members::number_by(k[9], 255, false);
     if ABSENT <= revision {
-        return refused_read();
-    }
-    let paths = optional_paths(s, a[0], tlv::MAX_DEPTH - 1);
-    if !paths.good {
         return refused_read();
     }
     ReadRequest {
@@ -485,50 +549,24 @@ fn read_of(s: &[u8], m: Pass, filters: Wants) -> ReadRequest
     }
 }
 
-// ReadRequestMessage: paths (tag 0), FabricFiltered (tag 3), filters (tag 4) and the revision.
+// ReadRequestMessage: paths (tag 0), FabricFiltered (tag 3), filters (tag 4) and the revision. The lists come in either order: the pass
+// stops at whichever comes first, then at the other.
 pub fn read_request(s: &[u8]) -> ReadRequest
     ensures { λ r. ⌜ r ≡ readRead (readIn (now (s .entry))) ⌝ }
 {
-    let start = Cursor { at: 0 };
-    let Head::Found(e) = start.head(s) else {
-        return refused_read();
-    };
-    if e.form != 0 {
-        return refused_read();
-    }
     let listed = READ;
-    let stops = FIFTH;
-    let m = members::begin(s, e, tlv::MAX_DEPTH, tlv::STRUCTURE, &listed, &stops);
-    if !m.good {
-        return refused_read();
-    }
-    if 10 <= m.slot {
-        return read_of(
-            s,
-            m,
-            Wants {
-                good: true,
-                count: 0,
-                kept: [UNWANTED; 32],
-            },
-        );
-    }
-    let inner = m.head;
-    let f = wants_of(s, inner, tlv::MAX_DEPTH - 1);
-    let wants = f.wants;
-    if !wants.good {
-        return refused_read();
-    }
-    let after = f.next;
-    let never = NO_STOP;
-    let z = members::resume(
-        s,
-        after,
-        tlv::MAX_DEPTH - 1,
-        tlv::STRUCTURE,
-        &listed,
-        &never,
-        m,
-    );
-    read_of(s, z, wants)
+    let either = EITHER_LIST;
+    let filters = FILTERS;
+    let paths = PATHS;
+    let never = members::NO_STOP;
+    let m = begin_message(s, &listed, &either);
+    let none = Paths {
+        good: true,
+        count: 0,
+        kept: [NOWHERE; 16],
+    };
+    let first = pass_paths(s, m, none, &filters);
+    let second = pass_wants(s, first.pass, &paths);
+    let third = pass_paths(s, second.pass, first.paths, &never);
+    read_of(s.len(), third.pass, third.paths, second.wants)
 }

@@ -15,10 +15,8 @@ use Rattle.tlv.specs.Octet.{array, endOfContainer}
 use Rattle.tlv.specs.Head.{headAt}
 use Rattle.tlv.specs.Walk.{Got, bindG, mapG, allowedIn, choose, foldBy, foldAt}
 use Rattle.tlv.specs.Walk.Got.{got, bad}
-use Rattle.tlv.specs.Decode.{Opt, bindO}
-use Rattle.tlv.specs.Decode.Opt.{just, nothing}
 use Rattle.tlv.specs.Decode.{place, treeAt}
-use Rattle.members.specs.Array.{eachStep, optOf}
+use Rattle.members.specs.Array.{eachStep}
 use Rattle.members.proofs.ArrayLaws.{plain, each-none, each-ends, each-barred, each-breaks, each-on}
 use Rattle.blocks.specs.declared.Answer.{Answer}
 use Rattle.blocks.specs.declared.AnswerRead.the-variants as answer-read
@@ -26,7 +24,7 @@ use Rattle.blocks.specs.Status.{answerAt, answerT, answerRead}
 use Rattle.blocks.proofs.BlockLaws.{answer-law}
 use Rattle.interaction.specs.Message.{snoc}
 use Rattle.interaction.proofs.KeepLaws.{length-snoc}
-use Rattle.interaction_answer.specs.Answered.{answersFrom, answersAt, only}
+use Rattle.interaction_answer.specs.Answered.{answersFrom, answersAt, onlyOf}
 
 -- ---- an array holds at least what was seen of it
 
@@ -70,7 +68,7 @@ module _ (d : ℕ) (s : List ℕ) where
   fold-more zero l at h q = tt
   fold-more (suc f) l at {e} h q = rw (h, ne-eqb (e .kind) endOfContainer q) (member-long l at (λ y n. foldAt step f s array y n) (λ y p. fold-long f y p) e (allowedIn array (e .form)))
 
-not-only : (g : Got (List Answer)) → Long 2 g → bindO (optOf g) only ≡ nothing
+not-only : (g : Got (List Answer)) → Long 2 g → onlyOf g ≡ bad
 not-only bad h = refl
 not-only (got [] n) h = absurd (omega arith)
 not-only (got (x ∷ []) n) h = absurd (omega arith)
@@ -96,41 +94,38 @@ module _ (d : ℕ) (s : List ℕ) (at : ℕ) where
   law : (p : ℕ) → mapG (λ x. x) (answerAt d s p) ≡ bindG (treeAt d s p) (λ t n. place (answerT t) n)
   law = plain d s (answerAt d s) answerT (answer-law d s)
 
-  abbrev one : Got (List Answer) → Opt Answer
-  one g = bindO (optOf g) only
-
-  pub one-none : headAt s at ≡ Malformed → one (answersAt d s at) ≡ nothing
+  pub one-none : headAt s at ≡ Malformed → onlyOf (answersAt d s at) ≡ bad
   unfolding answersAt answersFrom
-  one-none h = ap one (each-none (λ x. x) d s (answerAt d s) answerT law snoc array [] at h)
+  one-none h = ap onlyOf (each-none (λ x. x) d s (answerAt d s) answerT law snoc array [] at h)
 
   module _ {e : Element} (h : headAt s at ≡ Found e) where
-    pub one-ends : e .kind ≡ endOfContainer → one (answersAt d s at) ≡ nothing
+    pub one-ends : e .kind ≡ endOfContainer → onlyOf (answersAt d s at) ≡ bad
     unfolding answersAt answersFrom
-    one-ends q = ap one (each-ends (λ x. x) d s (answerAt d s) answerT law snoc array [] at h q)
+    one-ends q = ap onlyOf (each-ends (λ x. x) d s (answerAt d s) answerT law snoc array [] at h q)
 
     module _ (q : e .kind ≡ endOfContainer → ⊥) where
-      pub one-barred : allowedIn array (e .form) ≡ false → one (answersAt d s at) ≡ nothing
+      pub one-barred : allowedIn array (e .form) ≡ false → onlyOf (answersAt d s at) ≡ bad
       unfolding answersAt answersFrom
-      one-barred b = ap one (each-barred (λ x. x) d s (answerAt d s) answerT law snoc array [] at h q b)
+      one-barred b = ap onlyOf (each-barred (λ x. x) d s (answerAt d s) answerT law snoc array [] at h q b)
 
       module _ (b : allowedIn array (e .form) ≡ true) where
-        pub one-breaks : answerAt d s at ≡ bad → one (answersAt d s at) ≡ nothing
+        pub one-breaks : answerAt d s at ≡ bad → onlyOf (answersAt d s at) ≡ bad
         unfolding answersAt answersFrom
-        one-breaks w = ap one (each-breaks (λ x. x) d s (answerAt d s) answerT law snoc array [] at h q b w)
+        one-breaks w = ap onlyOf (each-breaks (λ x. x) d s (answerAt d s) answerT law snoc array [] at h q b w)
 
         module _ {x : Answer} {n : ℕ} (w : answerAt d s at ≡ got x n) where
           on : answersAt d s at ≡ answersFrom d s (x ∷ []) n
           unfolding answersAt answersFrom
           on = each-on (λ x. x) d s (answerAt d s) answerT law snoc array [] at h q b w
 
-          pub one-cut : headAt s n ≡ Malformed → one (answersAt d s at) ≡ nothing
+          pub one-cut : headAt s n ≡ Malformed → onlyOf (answersAt d s at) ≡ bad
           unfolding answersFrom
-          one-cut z = ap one (on ∙ each-none (λ x. x) d s (answerAt d s) answerT law snoc array (x ∷ []) n z)
+          one-cut z = ap onlyOf (on ∙ each-none (λ x. x) d s (answerAt d s) answerT law snoc array (x ∷ []) n z)
 
-          pub one-there : {f : Element} → headAt s n ≡ Found f → f .kind ≡ endOfContainer → one (answersAt d s at) ≡ just x
+          pub one-there : {f : Element} → headAt s n ≡ Found f → f .kind ≡ endOfContainer → onlyOf (answersAt d s at) ≡ got x (f .next .at)
           unfolding answersFrom
-          one-there z k = ap one (on ∙ each-ends (λ x. x) d s (answerAt d s) answerT law snoc array (x ∷ []) n z k)
+          one-there z k = ap onlyOf (on ∙ each-ends (λ x. x) d s (answerAt d s) answerT law snoc array (x ∷ []) n z k)
 
-          pub one-more : {f : Element} → headAt s n ≡ Found f → (f .kind ≡ endOfContainer → ⊥) → one (answersAt d s at) ≡ nothing
+          pub one-more : {f : Element} → headAt s n ≡ Found f → (f .kind ≡ endOfContainer → ⊥) → onlyOf (answersAt d s at) ≡ bad
           unfolding answersFrom
-          one-more z k = ap one on ∙ not-only (answersFrom d s (x ∷ []) n) (fold-more d s (length s) (x ∷ []) n z k)
+          one-more z k = ap onlyOf on ∙ not-only (answersFrom d s (x ∷ []) n) (fold-more d s (length s) (x ∷ []) n z k)

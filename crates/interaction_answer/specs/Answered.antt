@@ -5,8 +5,9 @@ use mathlib.Core.Bool.{Bool, true, false}
 use lib.ListN.{length, getD}
 use Rattle.tlv.specs.Octet.{pick, array}
 use Rattle.tlv.specs.Tree.{Trees}
-use Rattle.tlv.specs.Walk.{Got, foldAt}
-use Rattle.tlv.specs.Decode.{Opt, bindO}
+use Rattle.tlv.specs.Walk.{Got, bindG, foldAt}
+use Rattle.tlv.specs.Walk.Got.{got, bad}
+use Rattle.tlv.specs.Decode.{Opt, bindO, place}
 use Rattle.tlv.specs.Decode.Opt.{just, nothing}
 use Rattle.members.specs.Fields.{Slot}
 use Rattle.members.specs.Fields.Slot.{absent}
@@ -17,6 +18,8 @@ use Rattle.blocks.specs.Status.{answerAt, answerT}
 use Rattle.interaction.specs.Message.{snoc, listT, listAt, given, wholeIn, wholeT}
 use Rattle.interaction_answer.specs.declared.Answered.{Answered}
 use Rattle.interaction_answer.specs.declared.Answered.the-variants.{One, NotOne}
+use Rattle.interaction_answer.specs.declared.OneRead.{OneRead}
+use Rattle.interaction_answer.specs.declared.OneRead.the-variants.{Only, NotOnly}
 
 -- the statuses of an array from one of its members on, after some that were seen
 unfoldable pub answersFrom : ℕ → List ℕ → List Answer → ℕ → Got (List Answer)
@@ -30,6 +33,14 @@ abbrev pub only : List Answer → Opt Answer
 only [] = nothing
 only (x ∷ []) = just x
 only (x ∷ y ∷ l) = nothing
+
+-- as an array of one status is read, with where it ends
+abbrev pub onlyOf : Got (List Answer) → Got Answer
+onlyOf g = bindG g (λ l n. place (only l) n)
+
+abbrev pub onlyRead : Got Answer → OneRead
+onlyRead bad = NotOnly
+onlyRead (got x n) = Only x (record { at = n })
 
 abbrev pub oneRead : Opt Answer → Answered
 oneRead nothing = NotOne

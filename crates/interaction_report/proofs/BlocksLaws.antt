@@ -2,7 +2,7 @@
 use mathlib.Core.Path.{_≡_, refl, sym, ap, _∙_}
 use mathlib.Core.Bool.{Bool, true, false}
 use mathlib.Core.List.{List}
-use Prim.Native.Nat.{ℕ, _-_, _<_, _≤_}
+use Prim.Native.Nat.{ℕ, _-_}
 use native.Mathlib.Omega.{arith}
 use lib.ListN.{length}
 use Rattle.tlv.specs.declared.Cursor.{Cursor}
@@ -12,15 +12,14 @@ use Rattle.tlv.specs.Octet.{pick, array, endOfContainer}
 use Rattle.tlv.specs.Head.{headAt}
 use Rattle.tlv.specs.Walk.{Got, allowedIn}
 use Rattle.tlv.specs.Walk.Got.{got, bad}
-use Rattle.members.proofs.ArrayLaws.{each-none, each-ends, each-barred, each-breaks, each-on, each-onward}
+use Rattle.members.proofs.ArrayLaws.{each-none, each-ends, each-barred, each-breaks, each-on}
 use Rattle.blocks.specs.declared.Report.{Report}
 use Rattle.blocks.specs.declared.ReportRead.the-variants as report-read
 use Rattle.blocks.specs.Data.{ReportOf, reportAt, reportT, reportTree, reportRead}
 use Rattle.blocks.proofs.DataLaws.{report-law}
-use Rattle.interaction.specs.Message.{snoc, openedIn}
-use Rattle.interaction.specs.declared.Opened.the-variants.{Members, NotArray}
+use Rattle.interaction.specs.Message.{snoc}
 use Rattle.interaction_report.specs.declared.Count.{Count}
-use Rattle.interaction_report.specs.Report.{blocksFrom, countRead, firstOpened, firstIn}
+use Rattle.interaction_report.specs.Report.{blocksFrom, countRead}
 
 module _ (d : ℕ) (s : List ℕ) (l : List (ReportOf ℕ)) (at : ℕ) where
   pub blocks-none : headAt s at ≡ Malformed → blocksFrom d s l at ≡ bad
@@ -43,9 +42,6 @@ module _ (d : ℕ) (s : List ℕ) (l : List (ReportOf ℕ)) (at : ℕ) where
     pub blocks-on : {x : ReportOf ℕ} {n : ℕ} → (e .kind ≡ endOfContainer → ⊥) → allowedIn array (e .form) ≡ true → reportAt d s at ≡ got x n → blocksFrom d s l at ≡ blocksFrom d s (snoc l x) n
     unfolding blocksFrom
     blocks-on = each-on (reportTree (d - 1 - 1) s) d s (reportAt d s) reportT (report-law d s) snoc array l at h
-
-    pub blocks-onward : {x : ReportOf ℕ} {n : ℕ} → reportAt d s at ≡ got x n → (at < n) × (n ≤ length s)
-    blocks-onward = each-onward (reportTree (d - 1 - 1) s) d s (reportAt d s) reportT (report-law d s) snoc array l at h
 
 -- what the reader of a block says
 clash : true ≡ false → ⊥
@@ -74,12 +70,3 @@ pub record Counted (c : Count) (g : Got (List (ReportOf ℕ))) : Type 0 where
 pub count-good : (c : Count) (g : Got (List (ReportOf ℕ))) → c ≡ countRead g → c .good ≡ true → Counted c g
 count-good c bad e q = absurd (clash (sym q ∙ ap (λ (y : Count). y .good) e))
 count-good c (got l n) e q = record { list = l; found = ap (got l) (sym (ap (λ (y : Count). y .next .at) e)); counts = ap (λ (y : Count). y .blocks) e }
-
--- where the first block stands
-pub first-none : (s : List ℕ) (p : ℕ) → openedIn s p ≡ NotArray → firstIn s p ≡ 0
-unfolding firstIn
-first-none s p e = ap firstOpened e
-
-pub first-some : (s : List ℕ) (p : ℕ) {c : Cursor} → openedIn s p ≡ Members c → firstIn s p ≡ c .at
-unfolding firstIn
-first-some s p e = ap firstOpened e

@@ -7,8 +7,11 @@ use native.Mathlib.Omega.{arith}
 use borrow.Author.Tests.{ne-eqb}
 use lib.ListN.{length, getD}
 use lib.Dec.{eqb}
-use Rattle.tlv.specs.Octet.{pick}
-use Rattle.tlv.specs.Walk.{Got, bindG}
+use Rattle.tlv.specs.declared.Head.{Head}
+use Rattle.tlv.specs.declared.Head.the-variants.{Found, Malformed}
+use Rattle.tlv.specs.Octet.{pick, array}
+use Rattle.tlv.specs.Head.{headAt}
+use Rattle.tlv.specs.Walk.{Got, bindG, headed}
 use Rattle.tlv.specs.Walk.Got.{got, bad}
 use Rattle.tlv.specs.Decode.{Opt, bindO, place}
 use Rattle.tlv.specs.Decode.Opt.{just, nothing}
@@ -16,26 +19,22 @@ use Rattle.members.specs.Scalar.{WRONG, numberIn, flagIn}
 use Rattle.members.specs.Array.{optOf, optionalIn}
 use Rattle.blocks.specs.Data.{ReportOf, reportAt}
 use Rattle.blocks.proofs.BlockLaws.{never}
-use Rattle.interaction.specs.Message.{given, listAt, messageAt, openedIn}
-use Rattle.interaction.specs.declared.Opened.{Opened}
-use Rattle.interaction.specs.declared.Opened.the-variants.{Members, NotArray}
-use Rattle.interaction.proofs.ListLaws.{list-not, list-members}
+use Rattle.interaction.specs.Message.{given, listAt, messageAt}
 use Rattle.interaction_report.specs.Report.{PartAt, blocksFrom, blocksAt, firstIn, placed, partTags, partFrom, partIn}
-use Rattle.interaction_report.proofs.BlocksLaws.{first-some}
 
 module _ (s : List ℕ) where
   from-first : (p : ℕ) (l : List (ReportOf ℕ)) → optionalIn [] (listAt reportAt 9 s) p ≡ just l → 0 < length l → optOf (blocksAt 8 s (firstIn s p)) ≡ just l
-  unfolding optionalIn blocksAt blocksFrom
+  unfolding optionalIn blocksAt blocksFrom listAt firstIn
   from-first zero l e some = let z : [] ≡ l = cc in absurd (omega (arith, some, ap (λ (k : List (ReportOf ℕ)). length k) z))
-  from-first (suc p) l e some = go (openedIn s (suc p)) refl
+  from-first (suc p) l e some = rw (ne-eqb (suc p) 0 (λ z. omega arith)) (go (headAt s (suc p - 1)) (rw (ne-eqb (suc p) 0 (λ z. omega arith)) at e))
     where
-      there : optOf (listAt reportAt 9 s (suc p - 1)) ≡ just l
-      there = rw (ne-eqb (suc p) 0 (λ z. omega arith)) at e
+      by : (n : ℕ) (b : Bool) → optOf (pick b (blocksAt 8 s n) bad) ≡ just l → optOf (blocksAt 8 s (pick b n 0)) ≡ just l
+      by n true t = t
+      by n false t = never (cc)
 
-      go : (o : Opened) → openedIn s (suc p) ≡ o → optOf (blocksAt 8 s (firstIn s (suc p))) ≡ just l
-      go NotArray q = never (let z : nothing ≡ just l = sym (ap optOf (list-not s (suc p) reportAt 9 (λ z. omega arith) q)) ∙ there in cc)
-      go (Members c) q =
-          ap (λ n. optOf (blocksAt 8 s n)) (first-some s (suc p) q) ∙ sym (ap optOf (list-members s (suc p) reportAt 9 (λ z. omega arith) q (λ z. omega arith))) ∙ there
+      go : (h : Head) → optOf (headed bad (λ x. pick (eqb (x .kind) array) (blocksAt 8 s (x .next .at)) bad) h) ≡ just l → optOf (blocksAt 8 s (headed 0 (λ x. pick (eqb (x .kind) array) (x .next .at) 0) h)) ≡ just l
+      go Malformed t = never (cc)
+      go (Found x) t = by (x .next .at) (eqb (x .kind) array) t
 
   module _ {x : PartAt} (some : 0 < length (x .part .blocks)) where
     from-blocks : (n more : ℕ) (bs : Opt (List (ReportOf ℕ))) → ((l : List (ReportOf ℕ)) → bs ≡ just l → 0 < length l → optOf (blocksAt 8 s n) ≡ just l) → placed n (bindO bs (λ l. just (record { more = more; blocks = l }))) ≡ just x → optOf (blocksAt 8 s (x .first)) ≡ just (x .part .blocks)

@@ -1,12 +1,13 @@
 -- Report Data (chapter 10, 10.6.3; document 01, Spelling).
-use Prim.Native.Nat.{ℕ}
+use Prim.Native.Nat.{ℕ, _-_}
 use mathlib.Core.List.{List, [], _∷_, map}
 use mathlib.Core.Bool.{Bool, true, false}
 use lib.ListN.{length, getD}
 use lib.Dec.{eqb}
 use Rattle.tlv.specs.Octet.{pick, array}
 use Rattle.tlv.specs.Tree.{Tree, Trees}
-use Rattle.tlv.specs.Walk.{Got, foldAt}
+use Rattle.tlv.specs.Head.{headAt}
+use Rattle.tlv.specs.Walk.{Got, foldAt, headed}
 use Rattle.tlv.specs.Walk.Got.{got, bad}
 use Rattle.tlv.specs.Decode.{Opt, bindO}
 use Rattle.tlv.specs.Decode.Opt.{just, nothing}
@@ -17,9 +18,7 @@ use Rattle.members.specs.Pass.{numberBy, flagBy}
 use Rattle.members.specs.Scalar.{WRONG, numberIn, flagIn, numberT, flagT}
 use Rattle.members.specs.Array.{eachStep, optionalIn, optionalT}
 use Rattle.blocks.specs.Data.{ReportOf, reportAt, reportT, reportTree}
-use Rattle.interaction.specs.Message.{snoc, listT, listAt, openedIn, given, wholeIn, wholeT}
-use Rattle.interaction.specs.declared.Opened.{Opened}
-use Rattle.interaction.specs.declared.Opened.the-variants.{Members, NotArray}
+use Rattle.interaction.specs.Message.{snoc, listT, listAt, given, wholePass, wholeIn, wholeT}
 use Rattle.interaction_report.specs.declared.Count.{Count}
 use Rattle.interaction_report.specs.declared.Part.{Part}
 
@@ -33,12 +32,9 @@ abbrev pub countRead : Got (List (ReportOf ℕ)) → Count
 countRead bad = record { good = false; blocks = 0; next = record { at = 0 } }
 countRead (got l n) = record { good = true; blocks = length l; next = record { at = n } }
 
-abbrev pub firstOpened : Opened → ℕ
-firstOpened NotArray = 0
-firstOpened (Members c) = c .at
-
+-- where the first block stands of the array at a place
 unfoldable pub firstIn : List ℕ → ℕ → ℕ
-firstIn s p = firstOpened (openedIn s p)
+firstIn s p = pick (eqb p 0) 0 (headed 0 (λ e. pick (eqb (e .kind) array) (e .next .at) 0) (headAt s (p - 1)))
 
 -- THE MEANING of a part: its blocks, over what data is, and MoreChunkedMessages (0, 1 or absent)
 pub record PartOf (D : Type 0) : Type 0 where
@@ -87,10 +83,8 @@ partMade subscription more suppress revision blocks first =
 
 unfoldable pub partBy : ℕ → Pass → ℕ → ℕ → Part
 partBy len m blocks first =
-    pick (m .good)
-    (pick (eqb (m .head .next .at) len)
+    pick (wholePass len m)
     (partMade (numberBy 4294967295 false (getD (m .codes) 0 0)) (flagBy (getD (m .codes) 3 0)) (flagBy (getD (m .codes) 4 0)) (numberBy 255 false (getD (m .codes) 9 0)) blocks first)
-    (partRead nothing))
     (partRead nothing)
 
 -- IN TREES

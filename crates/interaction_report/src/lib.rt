@@ -12,7 +12,6 @@ use members::Pass;
 use members::WRONG;
 use tlv::Cursor;
 use tlv::Element;
-use tlv::Head;
 
 // How many blocks an array holds, all of which are well formed.
 pub struct Count {
@@ -111,12 +110,7 @@ fn no_part() -> Part
 fn part_of(len: usize, m: Pass, blocks: usize, first: usize) -> Part
     ensures { λ r. ⌜ r ≡ partBy len m blocks first ⌝ }
 {
-    if !m.good {
-        return no_part();
-    }
-    let end = m.head;
-    let next = end.next;
-    if next.at != len {
+    if !interaction::is_whole(m, len) {
         return no_part();
     }
     let k = m.codes;
@@ -144,19 +138,6 @@ fn part_of(len: usize, m: Pass, blocks: usize, first: usize) -> Part
     }
 }
 
-const NOWHERE: [bool; 10] = [
-    false,
-    false,
-    false,
-    false,
-    false,
-    false,
-    false,
-    false,
-    false,
-    false,
-];
-
 const SECOND: [bool; 10] = [
     false,
     true,
@@ -174,19 +155,9 @@ const SECOND: [bool; 10] = [
 pub fn report_data(s: &[u8]) -> Part
     ensures { λ r. ⌜ r ≡ partRead (partIn (now (s .entry))) ⌝ }
 {
-    let start = Cursor { at: 0 };
-    let Head::Found(e) = start.head(s) else {
-        return no_part();
-    };
-    if e.form != 0 {
-        return no_part();
-    }
     let listed = REPORT;
     let stops = SECOND;
-    let m = members::begin(s, e, tlv::MAX_DEPTH, tlv::STRUCTURE, &listed, &stops);
-    if !m.good {
-        return no_part();
-    }
+    let m = interaction::begin_message(s, &listed, &stops);
     if 10 <= m.slot {
         return part_of(s.len(), m, 0, 0);
     }
@@ -196,7 +167,7 @@ pub fn report_data(s: &[u8]) -> Part
         return no_part();
     }
     let after = n.next;
-    let never = NOWHERE;
+    let never = members::NO_STOP;
     let z = members::resume(
         s,
         after,

@@ -2,10 +2,13 @@
 use mathlib.Core.Path.{_≡_, refl, sym, ap, _∙_}
 use mathlib.Core.Bool.{Bool, true, false}
 use mathlib.Core.List.{List, [], _∷_, map}
-use Prim.Native.Nat.{ℕ, _<_, _≤_}
+use Prim.Native.Nat.{ℕ, _≤_}
 use native.Mathlib.Omega.{arith}
+use borrow.Author.Tests.{ne-eqb}
 use lib.ListN.{length, getD}
-use Rattle.tlv.specs.Octet.{pick}
+use lib.Dec.{eqb}
+use Rattle.tlv.specs.declared.Element.{Element}
+use Rattle.tlv.specs.Octet.{pick, structure}
 use Rattle.tlv.specs.Tree.{Tree, Trees, SpellsMessage, tagOfTree}
 use Rattle.tlv.specs.Tree.Trees.{more}
 use Rattle.tlv.specs.Walk.{Got}
@@ -13,80 +16,87 @@ use Rattle.tlv.specs.Walk.Got.{got, bad}
 use Rattle.tlv.specs.Decode.{Opt, bindO}
 use Rattle.tlv.specs.Decode.Opt.{just, nothing}
 use Rattle.members.specs.Fields.{slotT, slotIn}
-use Rattle.members.specs.Scalar.{ABSENT, numberIn, flagIn}
-use Rattle.members.specs.Array.{mapO, optOf, requiredIn}
+use Rattle.members.specs.declared.Pass.{Pass}
+use Rattle.members.specs.Pass.{codeIn, numberBy, flagBy}
+use Rattle.members.specs.Scalar.{numberIn, flagIn}
+use Rattle.members.specs.Array.{mapO, requiredIn}
 use Rattle.members.proofs.OrderLaws.{Reordered}
 use Rattle.members.proofs.MeaningLaws.{at-place}
 use Rattle.members.proofs.ArrayLaws.{required-mapped, number-here, flag-here}
-use Rattle.interaction.specs.Message.{given, listT, listAt}
-use Rattle.interaction.proofs.MessageLaws.{given-no, given-yes}
+use Rattle.members.proofs.PassLaws.{Left, Reads, number-coded, flag-coded}
+use Rattle.interaction.specs.Message.{given, structureAt, wholePass, listT, listAt, listOn}
 use Rattle.interaction.proofs.ListLaws.{list-law}
+use Rattle.interaction.proofs.PassLaws.{list-reads, whole-bad, whole-lacks, whole-passed}
 use Rattle.interaction.proofs.WholeLaws.{whole-law, whole-mapped, whole-any-order, whole-unlisted}
-use Rattle.interaction_write.specs.declared.Entries.{Entries}
-use Rattle.interaction_write.specs.Write.{EntryOf, entryAt, entryT, entryTree, entriesStruct, entriesRead, entriesOpt, WriteOf, writeTags, unchunked, isEmpty, writeOf, writeFrom, writeIn, writeSlots, writeT, writeVerdict, writeRead, writeTree}
-use Rattle.interaction_write.proofs.EntryLaws.{entry-law}
+use Rattle.interaction_write.specs.declared.EntryList.{EntryList}
+use Rattle.interaction_write.specs.Write.{EntryOf, entryAt, entryOn, entryT, entryTree, entriesStruct, entriesEnd, WriteOf, writeTags, unchunked, isEmpty, writeOf, writeFrom, writeIn, writeSlots, writeT, writeRead, writeMade, writeBy, writeTree}
+use Rattle.interaction_write.proofs.EntryLaws.{entry-law, entry-reads}
 
 -- ---- for the code
 
-pub entries-opt : (g : Got (List (EntryOf ℕ))) → entriesRead g ≡ entriesOpt (optOf g)
-entries-opt bad = refl
-entries-opt (got l n) = refl
-
-none-pick : (b : Bool) → _≡_ {A = Opt (WriteOf ℕ)} (pick b nothing nothing) nothing
-none-pick true = refl
-none-pick false = refl
-
-module _ (sup tim mor rev : ℕ) (es : Opt (List (EntryOf ℕ))) where
-  abbrev inner : Opt (WriteOf ℕ)
-  inner = bindO es (λ l. pick (isEmpty l) nothing (just (record { suppress = sup; timed = tim; entries = l })))
-
-  outer : (o : Opt (WriteOf ℕ)) → o ≡ nothing → pick (given sup) (pick (given tim) (pick (unchunked mor) o nothing) nothing) nothing ≡ nothing
-  outer o e = rw e (ap (λ x. pick (given sup) (pick (given tim) x nothing) nothing) (none-pick (unchunked mor)) ∙ ap (λ x. pick (given sup) x nothing) (none-pick (given tim)) ∙ none-pick (given sup))
-
-  pub write-no-suppress : ABSENT ≤ sup → writeOf sup tim mor rev es ≡ nothing
-  write-no-suppress l = rw (given-no sup l) refl
-
-  pub write-no-timed : ABSENT ≤ tim → writeOf sup tim mor rev es ≡ nothing
-  write-no-timed l = rw (given-no tim l) (none-pick (given sup))
-
-  pub write-chunked : unchunked mor ≡ false → writeOf sup tim mor rev es ≡ nothing
-  write-chunked e = rw e (ap (λ x. pick (given sup) x nothing) (none-pick (given tim)) ∙ none-pick (given sup))
-
-  pub write-no-revision : ABSENT ≤ rev → writeOf sup tim mor rev es ≡ nothing
-  write-no-revision l = outer (pick (given rev) inner nothing) (rw (given-no rev l) refl)
-
-  pub write-no-entries : es ≡ nothing → writeOf sup tim mor rev es ≡ nothing
-  write-no-entries e = outer (pick (given rev) inner nothing) (rw e (none-pick (given rev)))
-
-  pub write-empty : es ≡ just [] → writeOf sup tim mor rev es ≡ nothing
-  write-empty e = outer (pick (given rev) inner nothing) (rw e (none-pick (given rev)))
-
-  pub write-has : sup < ABSENT → tim < ABSENT → unchunked mor ≡ true → rev < ABSENT → {l : List (EntryOf ℕ)} → es ≡ just l → isEmpty l ≡ false → writeOf sup tim mor rev es ≡ just (record { suppress = sup; timed = tim; entries = l })
-  write-has a b c d e f = rw (given-yes sup a, given-yes tim b, c, given-yes rev d, e, f) refl
+pub entries-reads : (s : List ℕ) → Reads 9 s (listAt entryAt 9 s) (listOn entryAt 9 s)
+entries-reads s = list-reads entryAt (entryOn 8 s) 8 s (entry-reads 8 s)
 
 clash : true ≡ false → ⊥
 clash e = let z : _≡_ {A = ℕ} 1 0 = ap (λ (b : Bool). pick b 1 0) e in omega arith
 
-pub no-entries-there : (m : Entries) (o : Opt (List (EntryOf ℕ))) → m ≡ entriesOpt o → m .good ≡ false → o ≡ nothing
-no-entries-there m nothing e q = refl
-no-entries-there m (just l) e q = absurd (clash (sym (ap (λ (y : Entries). y .good) e) ∙ q))
+-- no entries, no write
+pub write-lacks : (s xs : List ℕ) → requiredIn (listAt entryAt 9 s) (getD xs 2 0) ≡ nothing → writeFrom s xs ≡ nothing
+unfolding writeFrom
+write-lacks s xs e = rw e (go (given (flagIn s (getD xs 0 0))) (given (flagIn s (getD xs 1 0))) (unchunked (flagIn s (getD xs 3 0))) (given (numberIn 255 false s (getD xs 9 0))))
+  where
+    go : (a b c d : Bool) → _≡_ {A = Opt (WriteOf ℕ)} (pick a (pick b (pick c (pick d nothing nothing) nothing) nothing) nothing) nothing
+    go false b c d = refl
+    go true false c d = refl
+    go true true false d = refl
+    go true true true false = refl
+    go true true true true = refl
 
-pub entries-there : (m : Entries) (o : Opt (List (EntryOf ℕ))) → m ≡ entriesOpt o → m .good ≡ true → (l : List (EntryOf ℕ)) × (o ≡ just l) × (m ≡ entriesStruct l)
-entries-there m nothing e q = absurd (clash (sym q ∙ ap (λ (y : Entries). y .good) e))
-entries-there m (just l) e q = (l, refl, e)
+module _ (s : List ℕ) (e : Element) (f : EntryList) (q : f ≡ entriesEnd (listOn entryAt 9 s e)) where
+  pub entries-bad : f .entries .good ≡ false → listOn entryAt 9 s e ≡ bad
+  entries-bad g = go (listOn entryAt 9 s e) q
+    where
+      go : (x : Got (List (EntryOf ℕ))) → f ≡ entriesEnd x → x ≡ bad
+      go bad z = refl
+      go (got l n) z = absurd (clash (sym (ap (λ (y : EntryList). y .entries .good) z) ∙ g))
 
-pub empty-list : (l : List (EntryOf ℕ)) → length l ≡ 0 → l ≡ []
-empty-list [] e = refl
-empty-list (x ∷ l) e = absurd (omega arith)
+  pub entries-good : f .entries .good ≡ true → (l : List (EntryOf ℕ)) × (listOn entryAt 9 s e ≡ got l (f .next .at)) × (f .entries ≡ entriesStruct l)
+  entries-good g = go (listOn entryAt 9 s e) q
+    where
+      go : (x : Got (List (EntryOf ℕ))) → f ≡ entriesEnd x → (l : List (EntryOf ℕ)) × (x ≡ got l (f .next .at)) × (f .entries ≡ entriesStruct l)
+      go bad z = absurd (clash (sym g ∙ ap (λ (y : EntryList). y .entries .good) z))
+      go (got l n) z = (l, ap (got l) (sym (ap (λ (y : EntryList). y .next .at) z)), ap (λ (y : EntryList). y .entries) z)
 
-pub some-list : (l : List (EntryOf ℕ)) → (length l ≡ 0 → ⊥) → isEmpty l ≡ false
-some-list [] n = absurd (n refl)
-some-list (x ∷ l) n = refl
+from : (s xs ks : List ℕ) → ks ≡ map (codeIn s) xs → {l : List (EntryOf ℕ)} → requiredIn (listAt entryAt 9 s) (getD xs 2 0) ≡ just l → writeFrom s xs ≡ writeOf (flagBy (getD ks 0 0)) (flagBy (getD ks 1 0)) (flagBy (getD ks 3 0)) (numberBy 255 false (getD ks 9 0)) (just l)
+unfolding writeFrom
+from s xs ks k b = rw (b, ← (flag-coded s ks xs k 0 refl), ← (flag-coded s ks xs k 1 refl), ← (flag-coded s ks xs k 3 refl), ← (number-coded s ks xs k 9 255 false (omega arith) refl)) refl
 
-pub write-made : (m : Entries) (v sup sup′ tim tim′ : ℕ) (l : List (EntryOf ℕ)) → m ≡ entriesStruct l → sup ≡ sup′ → tim ≡ tim′ → v ≡ writeVerdict tim (m .count) → record { verdict = v; suppress = sup; entries = m } ≡ writeRead (just (record { suppress = sup′; timed = tim′; entries = l }))
-write-made m v sup sup′ tim tim′ l e es et w =
-    let n : writeVerdict tim (m .count) ≡ writeVerdict tim′ (length l) = rw (e, et) refl in
-    λ j. record { verdict = (w ∙ n) j; suppress = es j; entries = e j }
+no-entry : (l : List (EntryOf ℕ)) → eqb (length l) 0 ≡ isEmpty l
+no-entry [] = refl
+no-entry (x ∷ l) = ne-eqb (length (x ∷ l)) 0 (λ z. omega arith)
+
+made : (su ti mo re : ℕ) (l : List (EntryOf ℕ)) (w : Bool) → pick w (writeMade su ti mo re (entriesStruct l)) (writeRead nothing) ≡ writeRead (pick w (writeOf su ti mo re (just l)) nothing)
+made su ti mo re l w = rw (no-entry l) (go w (given su) (given ti) (unchunked mo) (given re) (isEmpty l))
+  where
+    go : (w a b c d x : Bool) → let full : WriteOf ℕ = record { suppress = su; timed = ti; entries = l } in pick w (pick a (pick b (pick c (pick d (pick x (writeRead nothing) (writeRead (just full))) (writeRead nothing)) (writeRead nothing)) (writeRead nothing)) (writeRead nothing)) (writeRead nothing) ≡ writeRead (pick w (pick a (pick b (pick c (pick d (pick x nothing (just full)) nothing) nothing) nothing) nothing) nothing)
+    go false a b c d x = refl
+    go true false b c d x = refl
+    go true true false c d x = refl
+    go true true true false d x = refl
+    go true true true true false x = refl
+    go true true true true true true = refl
+    go true true true true true false = refl
+
+-- what is made of the members is what the code makes of their codes
+pub write-passed : {s before : List ℕ} {stops : List Bool} {z : Pass} → Left 9 s structure writeTags stops before (structureAt writeTags s) z → 10 ≤ z .slot → (l : List (EntryOf ℕ)) → (z .good ≡ true → requiredIn (listAt entryAt 9 s) (getD (z .at) 2 0) ≡ just l) → writeBy (length s) z (entriesStruct l) ≡ writeRead (writeIn s)
+unfolding writeBy writeIn
+write-passed {s} {z = z} L o l some = by (z .good) refl
+  where
+    by : (b : Bool) → z .good ≡ b → writeBy (length s) z (entriesStruct l) ≡ writeRead (writeIn s)
+    by false g = rw (whole-bad (length s) z g) (sym (ap writeRead (whole-lacks (writeFrom s) L o (λ h. absurd (clash (sym h ∙ g))))))
+    by true g =
+        made (flagBy (getD (z .codes) 0 0)) (flagBy (getD (z .codes) 1 0)) (flagBy (getD (z .codes) 3 0)) (numberBy 255 false (getD (z .codes) 9 0)) l (wholePass (length s) z)
+        ∙ sym (ap writeRead (whole-passed (writeFrom s) L o ∙ ap (λ x. pick (wholePass (length s) z) x nothing) (from s (z .at) (z .codes) (L .coded) (some g))))
 
 -- ---- the law of the message
 

@@ -15,15 +15,18 @@ use Rattle.members.specs.Fields.{Slot, orNone}
 use Rattle.members.specs.Fields.Slot.{absent}
 use Rattle.members.specs.Scalar.{ABSENT, numberIn, flagIn, numberT, flagT}
 use Rattle.members.specs.Array.{eachStep, requiredIn, requiredT}
+use Rattle.members.specs.declared.Pass.{Pass}
+use Rattle.members.specs.Pass.{numberBy, flagBy}
 use Rattle.blocks.specs.declared.Data.{Data}
 use Rattle.blocks.specs.Path.{exactP}
 use Rattle.blocks.specs.Data.{DataOf, dataOn, dataAt, dataT}
-use Rattle.interaction.specs.Message.{snoc, listT, listAt, firstOf, given, wholeIn, wholeT}
+use Rattle.interaction.specs.Message.{snoc, listT, listAt, firstOf, given, wholePass, wholeIn, wholeT}
 use Rattle.tlv.specs.declared.Element.{Element}
 use Rattle.interaction_write.specs.declared.EntryRead.{EntryRead}
 use Rattle.interaction_write.specs.declared.EntryRead.the-variants as entry
 use Rattle.interaction_write.specs.declared.Entry.{Entry}
 use Rattle.interaction_write.specs.declared.Entries.{Entries}
+use Rattle.interaction_write.specs.declared.EntryList.{EntryList}
 use Rattle.interaction_write.specs.declared.WriteRequest.{WriteRequest}
 
 abbrev pub maxWrites : ℕ
@@ -87,6 +90,11 @@ abbrev pub entriesRead : Got (List (EntryOf ℕ)) → Entries
 entriesRead bad = record { good = false; count = 0; kept = replicate maxWrites noEntry }
 entriesRead (got l n) = entriesStruct l
 
+-- with where the array ends
+abbrev pub entriesEnd : Got (List (EntryOf ℕ)) → EntryList
+entriesEnd bad = record { entries = entriesRead bad; next = record { at = 0 } }
+entriesEnd (got l n) = record { entries = entriesStruct l; next = record { at = n } }
+
 abbrev pub entriesOpt : Opt (List (EntryOf ℕ)) → Entries
 entriesOpt nothing = record { good = false; count = 0; kept = replicate maxWrites noEntry }
 entriesOpt (just l) = entriesStruct l
@@ -139,6 +147,25 @@ writeVerdict timed entries = pick (eqb timed 1) 0xC9 (pick (ltb maxWrites entrie
 abbrev pub writeRead : Opt (WriteOf ℕ) → WriteRequest
 writeRead nothing = record { verdict = 0x80; suppress = 0; entries = entriesOpt nothing }
 writeRead (just w) = record { verdict = writeVerdict (w .timed) (length (w .entries)); suppress = w .suppress; entries = entriesStruct (w .entries) }
+
+-- by a pass over the request's members that has ended, with its entries
+abbrev pub writeMade : ℕ → ℕ → ℕ → ℕ → Entries → WriteRequest
+writeMade suppress timed more revision es =
+    pick (given suppress)
+    (pick (given timed)
+    (pick (unchunked more)
+    (pick (given revision)
+    (pick (eqb (es .count) 0) (writeRead nothing) (record { verdict = writeVerdict timed (es .count); suppress = suppress; entries = es }))
+    (writeRead nothing))
+    (writeRead nothing))
+    (writeRead nothing))
+    (writeRead nothing)
+
+unfoldable pub writeBy : ℕ → Pass → Entries → WriteRequest
+writeBy len m es =
+    pick (wholePass len m)
+    (writeMade (flagBy (getD (m .codes) 0 0)) (flagBy (getD (m .codes) 1 0)) (flagBy (getD (m .codes) 3 0)) (numberBy 255 false (getD (m .codes) 9 0)) es)
+    (writeRead nothing)
 
 -- the tree that stands at a place, for each entry
 abbrev pub entryTree : ℕ → List ℕ → EntryOf ℕ → EntryOf Tree

@@ -2,15 +2,13 @@
 ghost use mathlib.Core.Path.{_≡_};
 ghost use Rattle.tlv.specs.Walk.Got.{bad};
 ghost use Rattle.tlv.specs.Decode.Opt.{nothing};
-ghost use Rattle.members.specs.Array.{requiredIn};
-ghost use Rattle.blocks.specs.Data.{DataOf};
-ghost use Rattle.interaction.specs.Message.{keepOf, listAt};
-ghost use Rattle.interaction_write.specs.Write.{entryOf, entryAt, entryOn, entryRead, entriesAt, entriesRead, entriesOpt, unchunked, writeVerdict, writeIn, writeRead};
+ghost use Rattle.interaction.specs.Message.{keepOf, listOn};
+ghost use Rattle.interaction_write.specs.Write.{entryOf, entryAt, entryOn, entryRead, entriesAt, entriesRead, entriesEnd, unchunked, writeVerdict, writeIn, writeRead, writeBy};
 use blocks::Data;
 use blocks::DataRead;
-use interaction::Opened;
 use members::ABSENT;
 use members::Item;
+use members::Pass;
 use tlv::Cursor;
 use tlv::Element;
 
@@ -48,6 +46,22 @@ fn no_entries() -> Entries
         good: false,
         count: 0,
         kept: [NO_ENTRY; 16],
+    }
+}
+
+// The entries of an array, and where it ends.
+pub struct EntryList {
+    pub entries: Entries,
+    pub next: Cursor,
+}
+
+fn no_list() -> EntryList
+    ensures { λ r. ⌜ r ≡ entriesEnd bad ⌝ }
+{
+    let entries = no_entries();
+    EntryList {
+        entries,
+        next: Cursor { at: 0 },
     }
 }
 
@@ -95,8 +109,8 @@ fn keep_entry(kept: [Entry; 16], count: usize, x: Entry) -> [Entry; 16]
 }
 
 // The entries of an array from one of its members on: all are checked and counted, the first are kept.
-pub fn entries_from(s: &[u8], c: Cursor, left: usize) -> Entries
-    ensures { λ r. ⌜ r ≡ entriesRead (entriesAt left (now (s .entry)) (c .at)) ⌝ }
+pub fn entries_from(s: &[u8], c: Cursor, left: usize) -> EntryList
+    ensures { λ r. ⌜ r ≡ entriesEnd (entriesAt left (now (s .entry)) (c .at)) ⌝ }
 {
     let mut count: usize = 0;
     let mut kept = [NO_ENTRY; 16];
@@ -105,18 +119,19 @@ pub fn entries_from(s: &[u8], c: Cursor, left: usize) -> Entries
         let item = members::item_at(s, Cursor { at }, tlv::ARRAY);
         match item {
             Item::BadItem => {
-                return no_entries();
+                return no_list();
             }
-            Item::Ended(_) => {
-                return Entries {
+            Item::Ended(next) => {
+                let entries = Entries {
                     good: true,
                     count,
                     kept,
                 };
+                return EntryList { entries, next };
             }
             Item::Member(e) => {
                 let EntryRead::Entry(t, next) = entry_at(s, e, left) else {
-                    return no_entries();
+                    return no_list();
                 };
                 let more = keep_entry(kept, count, t);
                 kept = more;
@@ -127,19 +142,17 @@ pub fn entries_from(s: &[u8], c: Cursor, left: usize) -> Entries
     }
 }
 
-// The entries of the array at a place, where there must be one.
-fn required_entries(s: &[u8], p: usize, left: usize) -> Entries
-    ensures { λ r. ⌜ r ≡ entriesOpt (requiredIn (listAt entryAt left (now (s .entry))) p) ⌝ }
+// The entries of the array whose head was read.
+fn entries_of(s: &[u8], e: Element, left: usize) -> EntryList
+    ensures { λ r. ⌜ r ≡ entriesEnd (listOn entryAt left (now (s .entry)) e) ⌝ }
 {
-    if p == 0 {
-        return no_entries();
+    if e.kind != tlv::ARRAY {
+        return no_list();
     }
     if left == 0 {
-        return no_entries();
+        return no_list();
     }
-    let Opened::Members(c) = interaction::open_array(s, p) else {
-        return no_entries();
-    };
+    let c = e.next;
     entries_from(s, c, left - 1)
 }
 
@@ -196,20 +209,18 @@ fn write_verdict(timed: u64, entries: usize) -> u64
     0
 }
 
-// WriteRequestMessage: SuppressResponse (tag 0), TimedRequest (1), the entries (2), MoreChunkedMessages (3) and the revision.
-pub fn write_request(s: &[u8]) -> WriteRequest
-    ensures { λ r. ⌜ r ≡ writeRead (writeIn (now (s .entry))) ⌝ }
+// The request whose members were passed, with its entries.
+fn write_of(len: usize, m: Pass, entries: Entries) -> WriteRequest
+    ensures { λ r. ⌜ r ≡ writeBy len m entries ⌝ }
 {
-    let listed = WRITE;
-    let m = interaction::message(s, &listed);
-    if !m.good {
+    if !interaction::is_whole(m, len) {
         return refused_write();
     }
-    let a = m.at;
-    let suppress = members::flag_at(s, a[0]);
-    let timed = members::flag_at(s, a[1]);
-    let more = members::flag_at(s, a[3]);
-    let revision = members::number_at(s, a[9], 255, false);
+    let k = m.codes;
+    let suppress = members::flag_by(k[0]);
+    let timed = members::flag_by(k[1]);
+    let more = members::flag_by(k[3]);
+    let revision = members::number_by(k[9], 255, false);
     if ABSENT <= suppress {
         return refused_write();
     }
@@ -222,10 +233,6 @@ pub fn write_request(s: &[u8]) -> WriteRequest
     if ABSENT <= revision {
         return refused_write();
     }
-    let entries = required_entries(s, a[2], tlv::MAX_DEPTH - 1);
-    if !entries.good {
-        return refused_write();
-    }
     if entries.count == 0 {
         return refused_write();
     }
@@ -234,4 +241,47 @@ pub fn write_request(s: &[u8]) -> WriteRequest
         suppress,
         entries,
     }
+}
+
+const ENTRIES: [bool; 10] = [
+    false,
+    false,
+    true,
+    false,
+    false,
+    false,
+    false,
+    false,
+    false,
+    false,
+];
+
+// WriteRequestMessage: SuppressResponse (tag 0), TimedRequest (1), the entries (2), MoreChunkedMessages (3) and the revision.
+pub fn write_request(s: &[u8]) -> WriteRequest
+    ensures { λ r. ⌜ r ≡ writeRead (writeIn (now (s .entry))) ⌝ }
+{
+    let listed = WRITE;
+    let stops = ENTRIES;
+    let m = interaction::begin_message(s, &listed, &stops);
+    if 10 <= m.slot {
+        return refused_write();
+    }
+    let inner = m.head;
+    let f = entries_of(s, inner, tlv::MAX_DEPTH - 1);
+    let entries = f.entries;
+    if !entries.good {
+        return refused_write();
+    }
+    let after = f.next;
+    let never = members::NO_STOP;
+    let z = members::resume(
+        s,
+        after,
+        tlv::MAX_DEPTH - 1,
+        tlv::STRUCTURE,
+        &listed,
+        &never,
+        m,
+    );
+    write_of(s.len(), z, entries)
 }

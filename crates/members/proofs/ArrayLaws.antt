@@ -1,5 +1,5 @@
 -- Members that a schema reads, and arrays of them: a reader of one makes a reader of all.
-use mathlib.Core.Path.{_≡_, refl, sym, ap, subst, _∙_}
+use mathlib.Core.Path.{_≡_, refl, sym, ap, _∙_}
 use mathlib.Core.Bool.{Bool, true, false}
 use mathlib.Core.List.{List, map}
 use Prim.Native.Nat.{ℕ, zero, suc, _-_, _<_, _≤_}
@@ -136,10 +136,6 @@ module _ {A B : Type 0} (β : A → B) (d : ℕ) (s : List ℕ) (read : ℕ → 
         pub each-on : {a : A} {n : ℕ} → (e .kind ≡ endOfContainer → ⊥) → allowedIn kind (e .form) ≡ true → read at ≡ got a n → foldAt (eachStep add read) (length s) s kind x at ≡ foldAt (eachStep add read) (length s) s kind (add x a) n
         unfolding eachStep
         each-on q b w = fold-on (eachStep add read) s each-forward kind x at h q b (simp w)
-
-        -- the measure of a loop over an array
-        pub each-onward : {a : A} {n : ℕ} → read at ≡ got a n → (at < n) × (n ≤ length s)
-        each-onward w = subst (Ahead at (length s)) w (reader-forward at e h)
 
 -- ---- for a reader that is itself the meaning of a tree
 

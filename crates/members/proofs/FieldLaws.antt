@@ -1,10 +1,9 @@
 -- The fields of a container, case by case.
-use mathlib.Core.Path.{_≡_, refl, sym, ap, subst, _∙_}
+use mathlib.Core.Path.{_≡_, refl, subst}
 use mathlib.Core.Bool.{Bool, true, false}
 use mathlib.Core.List.{List}
-use Prim.Native.Nat.{ℕ, zero, suc, _+_, _-_, _<_, _≤_}
-use native.Mathlib.Omega.{arith}
-use borrow.Author.Tests.{eq-eqb, ne-eqb, le-ltb, lt-ltb}
+use Prim.Native.Nat.{ℕ, zero, suc, _+_, _<_, _≤_}
+use borrow.Author.Tests.{le-ltb}
 use lib.ListN.{length, getD, set}
 use lib.Dec.{ltb, eqb}
 use Rattle.tlv.specs.declared.Cursor.{Cursor}
@@ -13,12 +12,11 @@ use Rattle.tlv.specs.declared.Head.the-variants.{Found, Malformed}
 use Rattle.tlv.specs.declared.Walk.the-variants.{Past, Broken}
 use Rattle.tlv.specs.Octet.{pick, endOfContainer}
 use Rattle.tlv.specs.Head.{headAt}
-use Rattle.tlv.specs.Walk.{Got, bindG, allowedIn, elementEnd, ended}
+use Rattle.tlv.specs.Walk.{Got, allowedIn, elementEnd, ended}
 use Rattle.tlv.specs.Walk.Got.{got, bad}
 use Rattle.tlv.proofs.FoldLaws.{Ahead, Forward, fold-none, fold-ends, fold-barred, fold-breaks, fold-on}
 use Rattle.tlv.proofs.WalkLaws.{end-forward, broken, past}
-use Rattle.members.specs.Fields.{slotOf, putAt, putEnd, fieldStep, fieldsFrom, fieldsAt, insideAt, membersOf}
-use Rattle.members.specs.declared.Members.{Members}
+use Rattle.members.specs.Fields.{slotOf, putAt, putEnd, fieldStep, fieldsFrom, insideAt}
 
 -- a step goes forward
 put-ahead : (at e n i : ℕ) (seen : List ℕ) → (at < n) × (n ≤ e) → Ahead at e (putAt seen i at n)
@@ -62,53 +60,12 @@ module _ (d : ℕ) (s : List ℕ) (kind : ℕ) (listed : List Bool) (seen : List
         unfolding fieldsFrom fieldStep putAt
         other-member l = fold-on (fieldStep d s listed) s (step-forward d s listed) kind seen at h q a (simp (past (elementEnd d s e) w, ← z, le-ltb i 10 l))
 
-        pub twice-member : i < 10 → (getD seen i 0 ≡ 0 → ⊥) → fieldsFrom d s kind listed seen at ≡ bad
-        unfolding fieldsFrom fieldStep putAt
-        twice-member l y = fold-breaks (fieldStep d s listed) s (step-forward d s listed) kind seen at h q a (simp (past (elementEnd d s e) w, ← z, lt-ltb i 10 l, ne-eqb _ _ y))
-
-        pub first-member : i < 10 → getD seen i 0 ≡ 0 → fieldsFrom d s kind listed seen at ≡ fieldsFrom d s kind listed (set seen i (at + 1)) (n .at)
-        unfolding fieldsFrom fieldStep putAt
-        first-member l y = fold-on (fieldStep d s listed) s (step-forward d s listed) kind seen at h q a (simp (past (elementEnd d s e) w, ← z, lt-ltb i 10 l, eq-eqb _ _ y))
-
     -- the measure of the loop, and that a place can be counted one up
     pub onward : {n : Cursor} → ended (elementEnd d s e) ≡ Past n → (at < n .at) × (n .at ≤ length s)
     onward w = subst (Ahead at (length s)) (past (elementEnd d s e) w) (end-forward d s at e h)
 
--- the container at a position, case by case
-pub inside-deep : (kind d : ℕ) (s : List ℕ) (listed : List Bool) (at : ℕ) → d ≡ 0 → insideAt kind d s listed at ≡ bad
-unfolding insideAt
-inside-deep kind zero s listed at e = refl
-inside-deep kind (suc d) s listed at e = absurd (omega arith)
-
+-- the container at a position
 pub inside-none : (kind d : ℕ) (s : List ℕ) (listed : List Bool) (at : ℕ) → headAt s at ≡ Malformed → insideAt kind d s listed at ≡ bad
 unfolding insideAt
 inside-none kind zero s listed at h = refl
 inside-none kind (suc d) s listed at h = simp h
-
-module _ (kind d : ℕ) (s : List ℕ) (listed : List Bool) (at : ℕ) {e : Element} (h : headAt s at ≡ Found e) where
-  pub inside-other : (e .kind ≡ kind → ⊥) → insideAt kind d s listed at ≡ bad
-  unfolding insideAt
-  inside-other q = elim d as (λ z. insideAt kind z s listed at ≡ bad) [ zero ↦ refl | suc z ↦ simp (h, ne-eqb _ _ q) ]
-
-  pub inside-in : e .kind ≡ kind → (d ≡ 0 → ⊥) → insideAt kind d s listed at ≡ fieldsAt (d - 1) s kind listed (e .next .at)
-  unfolding insideAt
-  inside-in q = elim d as (λ z. (z ≡ 0 → ⊥) → insideAt kind z s listed at ≡ fieldsAt (z - 1) s kind listed (e .next .at)) [ zero ↦ λ r. absurd (r refl) | suc z ↦ λ r. (let p : suc z - 1 ≡ z = omega arith in simp (h, eq-eqb _ _ q, p)) ]
-
--- what the struct says
-clash : true ≡ false → ⊥
-clash e = let z : _≡_ {A = ℕ} 1 0 = ap (λ (b : Bool). pick b 1 0) e in omega arith
-
-pub members-bad : (m : Members) (g : Got (List ℕ)) → m ≡ membersOf g → m .good ≡ false → g ≡ bad
-members-bad m bad e q = refl
-members-bad m (got x n) e q = absurd (clash (sym (ap (λ (y : Members). y .good) e) ∙ q))
-
-pub members-got : (m : Members) (g : Got (List ℕ)) → m ≡ membersOf g → m .good ≡ true → g ≡ got (m .at) (m .next)
-members-got m bad e q = absurd (clash (sym q ∙ ap (λ (y : Members). y .good) e))
-members-got m (got x n) e q = rw e refl
-
--- what a schema goes on with
-pub bad-members : {A : Type 0} (m : Members) (g : Got (List ℕ)) (k : List ℕ → ℕ → Got A) → m ≡ membersOf g → m .good ≡ false → bindG g k ≡ bad
-bad-members m g k e q = rw (members-bad m g e q) refl
-
-pub good-members : {A : Type 0} (m : Members) (g : Got (List ℕ)) (k : List ℕ → ℕ → Got A) → m ≡ membersOf g → m .good ≡ true → bindG g k ≡ k (m .at) (m .next)
-good-members m g k e q = rw (members-got m g e q) refl

@@ -1,8 +1,8 @@
 -- Members of a container one after the other, by what stands at a position: for any step.
-use mathlib.Core.Path.{_≡_, refl, sym, ap, subst, _∙_}
+use mathlib.Core.Path.{_≡_, refl, ap, subst, _∙_}
 use mathlib.Core.Bool.{Bool, true, false}
 use mathlib.Core.List.{List}
-use Prim.Native.Nat.{ℕ, _<_, _≤_}
+use Prim.Native.Nat.{ℕ}
 use native.Mathlib.Omega.{arith}
 use borrow.Author.Tests.{eqb-true, eqb-false}
 use lib.ListN.{length}
@@ -16,7 +16,6 @@ use Rattle.tlv.specs.Head.{headAt}
 use Rattle.tlv.specs.Walk.{Got, allowedIn, foldAt}
 use Rattle.tlv.specs.Walk.Got.{got, bad}
 use Rattle.tlv.proofs.FoldLaws.{Forward, fold-none, fold-ends, fold-barred, fold-breaks, fold-on}
-use Rattle.members.specs.declared.Item.{Item}
 use Rattle.members.specs.declared.Item.the-variants.{Member, Ended, BadItem}
 use Rattle.members.specs.Item.{itemOf, itemAt}
 

@@ -4,9 +4,8 @@ use mathlib.Core.Bool.{Bool, true, false}
 use mathlib.Core.List.{List, [], _∷_, map}
 use Prim.Native.Nat.{ℕ, zero, suc, _+_, _-_, _<_, _≤_}
 use native.Mathlib.Omega.{arith}
-use native.Mathlib.Numerals.{add-one}
 use borrow.Author.Tests.{eq-eqb, ne-eqb, le-ltb, lt-ltb, ltb-true, ltb-false, eqb-true, eqb-false}
-use lib.ListN.{length, getD, set, replicate, getD-replicate, List·getD-map}
+use lib.ListN.{length, length-set, getD, set, replicate, getD-replicate, List·getD-map}
 use lib.Dec.{ltb, eqb}
 use Rattle.tlv.specs.declared.Element.{Element}
 use Rattle.tlv.specs.declared.Head.{Head}
@@ -18,16 +17,15 @@ use Rattle.tlv.specs.Walk.Got.{got, bad}
 use Rattle.tlv.specs.Decode.{Opt, place}
 use Rattle.tlv.specs.Decode.Opt.{just, nothing}
 use Rattle.tlv.proofs.FoldLaws.{Ahead, Forward, fold-breaks, fold-on}
-use Rattle.tlv.specs.declared.Cursor.{Cursor}
-use Rattle.tlv.specs.declared.Walk.the-variants.{Past, Broken}
-use Rattle.tlv.proofs.HeadLaws.{Onward, head-onward}
-use Rattle.tlv.proofs.WalkLaws.{end-within, end-forward, broken, past}
-use Rattle.members.specs.Fields.{slotOf, putAt, putEnd, fieldStep, fieldsFrom, fieldsAt, insideBy, insideAt}
+use Rattle.tlv.proofs.HeadLaws.{Onward, head-onward, no-head}
+use Rattle.tlv.proofs.WalkLaws.{end-within, end-forward}
+use Rattle.members.specs.Fields.{slotOf, putAt, putEnd, fieldStep, fieldsFrom, fieldsAt, insideAt}
 use Rattle.members.specs.Array.{optOf, requiredIn, optionalIn}
 use Rattle.members.specs.Scalar.{ABSENT, NULL, WRONG, numberOf, flagOf, wideOf, numberIn, flagIn, wideIn, scalarIn}
-use Rattle.members.specs.Pass.{noPass, insideOn, frameOn, resumed, Stops, Stopped, Passed, codeOf, codeIn, numberBy, flagBy, wideBy}
+use Rattle.members.specs.Pass.{noPass, insideOn, made, frameOn, passAt, passOn, passListed, passMember, passBy, passIn, passFrom, passOf, codeOf, codeIn, numberBy, flagBy, wideBy}
 use Rattle.members.specs.declared.Pass.{Pass}
-use Rattle.members.proofs.FieldLaws.{step-forward, inside-none}
+use Rattle.members.proofs.ArrayLaws.{required-some, optional-some}
+use Rattle.members.proofs.FieldLaws.{step-forward, inside-none, no-member, last-member, barred-member, broken-member, other-member}
 
 -- ---- a member that was put before it was walked
 
@@ -48,12 +46,6 @@ module _ (d : ℕ) (s : List ℕ) (kind : ℕ) (listed : List Bool) (seen : List
       go : (g : Got (Unit {0})) → elementEnd d s e ≡ g → fieldsFrom d s kind listed seen at ≡ bindG g (λ u n. fieldsFrom d s kind listed (set seen i (at + 1)) n)
       go bad w = fold-breaks (fieldStep d s listed) s (step-forward d s listed) kind seen at h q a (simp w)
       go (got u n) w = fold-on (fieldStep d s listed) s (step-forward d s listed) kind seen at h q a (simp (w, ← z, lt-ltb i 10 l, eq-eqb _ _ y))
-
-  pub put-broken : getD seen i 0 ≡ 0 → ended (elementEnd d s e) ≡ Broken → fieldsFrom d s kind listed seen at ≡ bad
-  put-broken y w = put-first y ∙ ap (λ g. bindG g (λ u n. fieldsFrom d s kind listed (set seen i (at + 1)) n)) (broken (elementEnd d s e) w)
-
-  pub put-walked : {n : Cursor} → getD seen i 0 ≡ 0 → ended (elementEnd d s e) ≡ Past n → fieldsFrom d s kind listed seen at ≡ fieldsFrom d s kind listed (set seen i (at + 1)) (n .at)
-  put-walked y w = put-first y ∙ ap (λ g. bindG g (λ u n. fieldsFrom d s kind listed (set seen i (at + 1)) n)) (past (elementEnd d s e) w)
 
 -- ---- the codes of what was seen
 
@@ -169,7 +161,13 @@ module _ (kind d : ℕ) (s : List ℕ) (listed : List Bool) (e : Element) where
   unfolding insideOn
   on-in q = elim d as (λ z. (z ≡ 0 → ⊥) → insideOn kind z s listed e ≡ fieldsAt (z - 1) s kind listed (e .next .at)) [ zero ↦ λ r. absurd (r refl) | suc z ↦ λ r. (let p : suc z - 1 ≡ z = omega arith in simp (eq-eqb _ _ q, p)) ]
 
--- ---- what is left
+-- ---- what is left of a container after a pass: at a stop, the member whose head was read and then the rest
+
+unfoldable pub resumed : ℕ → List ℕ → ℕ → List Bool → Pass → Got (List ℕ)
+resumed d s kind listed r =
+    pick (r .good)
+    (pick (ltb (r .slot) 10) (bindG (elementEnd d s (r .head)) (λ u n. fieldsFrom d s kind listed (r .at) n)) (got (r .at) (r .head .next .at)))
+    bad
 
 module _ (d : ℕ) (s : List ℕ) (kind : ℕ) (listed : List Bool) (r : Pass) where
   pub left-none : r .good ≡ false → resumed d s kind listed r ≡ bad
@@ -191,39 +189,126 @@ set-other (x ∷ xs) zero (suc j) v n = refl
 set-other (x ∷ xs) (suc i) zero v n = refl
 set-other (x ∷ xs) (suc i) (suc j) v n = set-other xs i j v (λ e. n (ap suc e))
 
--- ---- a pass that is refused, one at its end, one that stops
-
-abbrev pub Left : ℕ → List ℕ → ℕ → List Bool → List Bool → List ℕ → Got (List ℕ) → Pass → Type 0
-Left d s kind listed stops before g r = (g ≡ resumed d s kind listed r) × ((r .codes ≡ map (codeIn s) (r .at)) × (Stopped s stops r × Passed stops before r))
-
-abbrev pub Unseen : List Bool → List ℕ → List ℕ → Type 0
-Unseen stops before seen = (i : ℕ) → getD stops i false ≡ true → getD seen i 0 ≡ getD before i 0
+set-here : (xs : List ℕ) (i v : ℕ) → i < length xs → getD (set xs i v) i 0 ≡ v
+set-here [] i v l = absurd (omega arith)
+set-here (x ∷ xs) zero v l = refl
+set-here (x ∷ xs) (suc i) v l = set-here xs i v (omega arith)
 
 clash : false ≡ true → ⊥
 clash e = let z : _≡_ {A = ℕ} 1 0 = ap (λ (b : Bool). pick b 0 1) e in omega arith
 
-pub unseen-put : (stops : List Bool) (before seen : List ℕ) (j v : ℕ) → getD stops j false ≡ false → Unseen stops before seen → Unseen stops before (set seen j v)
-unseen-put stops before seen j v e h i w = set-other seen j i v (λ z. clash (sym e ∙ ap (λ (k : ℕ). getD stops k false) z ∙ w)) ∙ h i w
+-- a stop is at a member of a slot where it is to stop, and has its head
+pub record Stops (s : List ℕ) (stops : List Bool) (r : Pass) : Type 0 where
+  pub sound : r .good ≡ true
+  pub wanted : getD stops (r .slot) false ≡ true
+  pub place : ℕ
+  pub placed : getD (r .at) (r .slot) 0 ≡ place + 1
+  pub here : headAt s place ≡ Found (r .head)
 
-module _ (d : ℕ) (s : List ℕ) (kind : ℕ) (listed stops : List Bool) (before : List ℕ) {g : Got (List ℕ)} (r : Pass) where
-  pub pass-none : r ≡ noPass → g ≡ bad → Left d s kind listed stops before g r
+-- WHAT A PASS SAYS of what is left of a container; what was seen before stays; where it is to stop, it has seen only the member where it has
+pub record Left (d : ℕ) (s : List ℕ) (kind : ℕ) (listed stops : List Bool) (before : List ℕ) (g : Got (List ℕ)) (r : Pass) : Type 0 where
+  pub left : g ≡ resumed d s kind listed r
+  pub coded : r .codes ≡ map (codeIn s) (r .at)
+  pub ten : length (r .at) ≡ 10
+  pub stopped : r .slot < 10 → Stops s stops r
+  pub kept : r .good ≡ true → (i v : ℕ) → getD before i 0 ≡ v + 1 → getD (r .at) i 0 ≡ v + 1
+  pub passed : r .good ≡ true → (i : ℕ) → getD stops i false ≡ true → (r .slot ≡ i → ⊥) → getD (r .at) i 0 ≡ getD before i 0
+
+module _ (d : ℕ) (s : List ℕ) (kind : ℕ) (listed stops : List Bool) (seen : List ℕ) {g : Got (List ℕ)} where
+  pub left-bad : g ≡ bad → Left d s kind listed stops seen g noPass
   unfolding codeIn
-  pass-none e q = rw e (q ∙ sym (left-none d s kind listed noPass refl), (refl, (λ l. absurd (omega arith), λ b. absurd (clash b))))
+  left-bad q = record { left = q ∙ sym (left-none d s kind listed noPass refl); coded = refl; ten = refl; stopped = λ l. absurd (omega arith); kept = λ b. absurd (clash b); passed = λ b. absurd (clash b) }
 
-  pub pass-end : r .good ≡ true → r .slot ≡ 10 → r .codes ≡ map (codeIn s) (r .at) → g ≡ got (r .at) (r .head .next .at) → Unseen stops before (r .at) → Left d s kind listed stops before g r
-  pass-end y z c q u = (q ∙ sym (left-end d s kind listed r y (omega arith)), (c, (λ l. absurd (omega arith), λ b l. u)))
+  left-last : (e : Element) (codes : List ℕ) → length seen ≡ 10 → codes ≡ map (codeIn s) seen → g ≡ got seen (e .next .at) → Left d s kind listed stops seen g (passAt 10 e seen codes)
+  left-last e codes n k q = record { left = q ∙ sym (left-end d s kind listed (passAt 10 e seen codes) refl (omega arith)); coded = k; ten = n; stopped = λ l. absurd (omega arith); kept = λ b i v w. w; passed = λ b i w m. refl }
 
-  pub pass-stop : r .good ≡ true → r .slot < 10 → r .codes ≡ map (codeIn s) (r .at) → g ≡ bindG (elementEnd d s (r .head)) (λ u n. fieldsFrom d s kind listed (r .at) n) → Stops s stops r → Left d s kind listed stops before g r
-  pass-stop y l c q w = (q ∙ sym (left-stop d s kind listed r y l), (c, (λ m. w, λ b m. absurd (omega arith))))
+  left-at : (at i : ℕ) {e : Element} (codes : List ℕ) → length seen ≡ 10 → codes ≡ map (codeIn s) (set seen i (at + 1)) → i < 10 → headAt s at ≡ Found e → getD seen i 0 ≡ 0 → getD stops i false ≡ true → g ≡ bindG (elementEnd d s e) (λ u n. fieldsFrom d s kind listed (set seen i (at + 1)) n) → Left d s kind listed stops seen g (passAt i e (set seen i (at + 1)) codes)
+  left-at at i {e = x} codes n k l h y w q = record {
+    left = q ∙ sym (left-stop d s kind listed (passAt i x (set seen i (at + 1)) codes) refl l);
+    coded = k;
+    ten = simp length-set n;
+    stopped = λ m. record { sound = refl; wanted = w; place = at; placed = set-here seen i (at + 1) (omega arith); here = h };
+    kept = λ b j v u. set-other seen i j (at + 1) (λ z. taken j v u z) ∙ u;
+    passed = λ b j u m. set-other seen i j (at + 1) m;
+  }
+    where
+      taken : (j v : ℕ) → getD seen j 0 ≡ v + 1 → i ≡ j → ⊥
+      taken j v u z = let o : getD seen i 0 ≡ v + 1 = ap (λ (k : ℕ). getD seen k 0) z ∙ u in omega arith
 
-pub begun : (s : List ℕ) {r : Pass} → r ≡ noPass → r .codes ≡ map (codeIn s) (r .at)
-unfolding codeIn
-begun s e = rw e refl
+  -- a member that was walked, put in a slot where the pass is not to stop
+  left-put : (i v : ℕ) {r : Pass} {f : Got (List ℕ)} → length seen ≡ 10 → getD seen i 0 ≡ 0 → getD stops i false ≡ false → g ≡ f → Left d s kind listed stops (set seen i v) f r → Left d s kind listed stops seen g r
+  left-put i v n y w q L = record {
+    left = q ∙ L .left;
+    coded = L .coded;
+    ten = L .ten;
+    stopped = L .stopped;
+    kept = λ b j x u. L .kept b j x (set-other seen i j v (λ z. taken j x u z) ∙ u);
+    passed = λ b j u m. L .passed b j u m ∙ set-other seen i j v (λ z. other j u z);
+  }
+    where
+      taken : (j x : ℕ) → getD seen j 0 ≡ x + 1 → i ≡ j → ⊥
+      taken j x u z = let o : getD seen i 0 ≡ x + 1 = ap (λ (k : ℕ). getD seen k 0) z ∙ u in omega arith
 
-pub set-here : (xs : List ℕ) (i v : ℕ) → i < length xs → getD (set xs i v) i 0 ≡ v
-set-here [] i v l = absurd (omega arith)
-set-here (x ∷ xs) zero v l = refl
-set-here (x ∷ xs) (suc i) v l = set-here xs i v (omega arith)
+      other : (j : ℕ) → getD stops j false ≡ true → i ≡ j → ⊥
+      other j u z = clash (sym w ∙ ap (λ (k : ℕ). getD stops k false) z ∙ u)
+
+  left-same : {r : Pass} {f : Got (List ℕ)} → g ≡ f → Left d s kind listed stops seen f r → Left d s kind listed stops seen g r
+  left-same q L = record { left = q ∙ L .left; coded = L .coded; ten = L .ten; stopped = L .stopped; kept = L .kept; passed = L .passed }
+
+-- one member after which the pass goes on so
+module _ (d : ℕ) (s : List ℕ) (kind : ℕ) (listed stops : List Bool) (seen codes : List ℕ) (at : ℕ) (n : length seen ≡ 10) (k : codes ≡ map (codeIn s) seen) (rest : List ℕ → List ℕ → ℕ → Pass) (on : (xs ks : List ℕ) (m : ℕ) → at < m → length xs ≡ 10 → ks ≡ map (codeIn s) xs → Left d s kind listed stops xs (fieldsFrom d s kind listed xs m) (rest xs ks m)) where
+  abbrev Here : Pass → Type 0
+  Here r = Left d s kind listed stops seen (fieldsFrom d s kind listed seen at) r
+
+  left-member : {e : Element} → headAt s at ≡ Found e → (e .kind ≡ endOfContainer → ⊥) → allowedIn kind (e .form) ≡ true → (i : ℕ) → i ≡ slotOf listed (e .form) (e .tag) → Here (passMember d s stops rest seen codes at e i)
+  unfolding passMember passListed
+  left-member {e} h q a i z = go (ltb i 10) refl (eqb (getD seen i 0) 0) refl (getD stops i false) refl (elementEnd d s e) refl
+    where
+      ahead : {m : ℕ} → elementEnd d s e ≡ got tt m → at < m
+      ahead w = subst (Ahead at (length s)) w (end-forward d s at e h) .0
+
+      kept : set codes i (codeOf (e .kind) (e .number)) ≡ map (codeIn s) (set seen i (at + 1))
+      kept = codes-put s codes seen i at k h refl
+
+      first : ltb i 10 ≡ true → eqb (getD seen i 0) 0 ≡ true → {g : Got (Unit {0})} → elementEnd d s e ≡ g → fieldsFrom d s kind listed seen at ≡ bindG g (λ u m. fieldsFrom d s kind listed (set seen i (at + 1)) m)
+      first l y w = put-first d s kind listed seen at h q a z (ltb-true i 10 l) (eqb-true _ 0 y) ∙ ap (λ g. bindG g (λ u m. fieldsFrom d s kind listed (set seen i (at + 1)) m)) w
+
+      go : (x : Bool) → ltb i 10 ≡ x → (y : Bool) → eqb (getD seen i 0) 0 ≡ y → (w : Bool) → getD stops i false ≡ w → (g : Got (Unit {0})) → elementEnd d s e ≡ g → Here (choose x (λ _. choose y (λ _. choose w (λ _. passAt i e (set seen i (at + 1)) (set codes i (codeOf (e .kind) (e .number)))) (λ _. passOn (rest (set seen i (at + 1)) (set codes i (codeOf (e .kind) (e .number)))) g)) (λ _. noPass)) (λ _. passOn (rest seen codes) g))
+      go false l y ey w ew bad eg = left-bad d s kind listed stops seen (broken-member d s kind listed seen at h q a (ap ended eg))
+      go false l y ey w ew (got tt m) eg = left-same d s kind listed stops seen (other-member d s kind listed seen at h q a (ap ended eg) z (ltb-false i 10 l)) (on seen codes m (ahead eg) n k)
+      go true l false ey w ew g eg = left-bad d s kind listed stops seen (put-twice d s kind listed seen at h q a z (ltb-true i 10 l) (eqb-false _ 0 ey))
+      go true l true ey true ew g eg = left-at d s kind listed stops seen at i (set codes i (codeOf (e .kind) (e .number))) n kept (ltb-true i 10 l) h (eqb-true _ 0 ey) ew (first l ey refl)
+      go true l true ey false ew bad eg = left-bad d s kind listed stops seen (first l ey eg)
+      go true l true ey false ew (got tt m) eg = left-put d s kind listed stops seen i (at + 1) n (eqb-true _ 0 ey) ew (first l ey eg) (on (set seen i (at + 1)) (set codes i (codeOf (e .kind) (e .number))) m (ahead eg) (simp length-set n) kept)
+
+  left-by : (h : Head) → headAt s at ≡ h → Here (passBy d s kind listed stops rest seen codes at h)
+  unfolding passBy
+  left-by Malformed h = left-bad d s kind listed stops seen (no-member d s kind listed seen at h)
+  left-by (Found e) h = go (eqb (e .kind) endOfContainer) refl (allowedIn kind (e .form)) refl
+    where
+      go : (x : Bool) → eqb (e .kind) endOfContainer ≡ x → (y : Bool) → allowedIn kind (e .form) ≡ y → Here (choose x (λ _. passAt 10 e seen codes) (λ _. choose y (λ _. passMember d s stops rest seen codes at e (slotOf listed (e .form) (e .tag))) (λ _. noPass)))
+      go true x y b = left-last d s kind listed stops seen e codes n k (last-member d s kind listed seen at h (eqb-true _ _ x))
+      go false x true b = left-member h (eqb-false _ _ x) b (slotOf listed (e .form) (e .tag)) refl
+      go false x false b = left-bad d s kind listed stops seen (barred-member d s kind listed seen at h (eqb-false _ _ x) b)
+
+left-in : (d : ℕ) (s : List ℕ) (kind : ℕ) (listed stops : List Bool) (f : ℕ) (seen codes : List ℕ) (at : ℕ) → length s ≤ at + f → length seen ≡ 10 → codes ≡ map (codeIn s) seen → Left d s kind listed stops seen (fieldsFrom d s kind listed seen at) (passIn f d s kind listed stops seen codes at)
+unfolding passIn
+left-in d s kind listed stops zero seen codes at b n k = left-bad d s kind listed stops seen (no-member d s kind listed seen at (no-head s at (omega arith)))
+left-in d s kind listed stops (suc f) seen codes at b n k = left-by d s kind listed stops seen codes at n k (λ xs ks m. passIn f d s kind listed stops xs ks m) (λ xs ks m l. left-in d s kind listed stops f xs ks m (omega arith)) (headAt s at) refl
+
+-- THE LAW of a pass that goes on, and of one over a container
+module _ (d : ℕ) {s : List ℕ} {kind : ℕ} {listed stops : List Bool} {r : Pass} where
+  resumes : (before : Pass) (at : ℕ) → length (before .at) ≡ 10 → before .codes ≡ map (codeIn s) (before .at) → r ≡ passFrom d s kind listed stops before at → Left d s kind listed stops (before .at) (fieldsFrom d s kind listed (before .at) at) r
+  unfolding passFrom
+  resumes before at n k e = rw e (left-in d s kind listed stops (length s) (before .at) (before .codes) at (omega arith) n k)
+
+  pub begun : (e : Element) → r ≡ passOf kind d s listed stops e → Left (d - 1) s kind listed stops (replicate 10 0) (insideOn kind d s listed e) r
+  unfolding passOf insideOn fieldsAt passFrom codeIn
+  begun e q = rw q (elim d as (λ z. Left (z - 1) s kind listed stops (replicate 10 0) (insideOn kind z s listed e) (passOf kind z s listed stops e)) [ zero ↦ left-bad 0 s kind listed stops (replicate 10 0) refl | suc z ↦ (let p : suc z - 1 ≡ z = omega arith in rw p (go z (eqb (e .kind) kind))) ])
+    where
+      go : (z : ℕ) (b : Bool) → Left z s kind listed stops (replicate 10 0) (pick b (fieldsFrom z s kind listed (replicate 10 0) (e .next .at)) bad) (pick b (passIn (length s) z s kind listed stops (replicate 10 0) (replicate 10 0) (e .next .at)) noPass)
+      go z true = left-in z s kind listed stops (length s) (replicate 10 0) (replicate 10 0) (e .next .at) (omega arith) refl refl
+      go z false = left-bad z s kind listed stops (replicate 10 0) refl
 
 -- ---- members that are found stay, and end where their container ends
 
@@ -304,11 +389,10 @@ never e = absurd (let z : _≡_ {A = ℕ} 0 1 = cc in omega arith)
 
 module _ {A : Type 0} (kind d : ℕ) (s : List ℕ) (tags : List Bool) (F : List ℕ → Opt A) (e : Element) where
   pub frame-here : (at : ℕ) → headAt s at ≡ Found e → bindG (insideAt kind d s tags at) (λ seen n. place (F seen) n) ≡ frameOn kind d s tags F e
-  unfolding frameOn
   frame-here at h = ap (λ g. bindG g (λ seen n. place (F seen) n)) (on-head kind d s tags at h)
 
   pub frame-ends : structure ≤ kind → kind ≤ list → {x : A} {n : ℕ} → frameOn kind d s tags F e ≡ got x n → elementEnd d s e ≡ got tt n
-  unfolding frameOn fieldsAt
+  unfolding fieldsAt
   frame-ends lo hi {x} {n} w = go (insideOn kind d s tags e) refl w
     where
       no : {B : Type 0} → _≡_ {A = Got A} bad (got x n) → B
@@ -334,45 +418,42 @@ module _ {A : Type 0} (kind d : ℕ) (s : List ℕ) (tags : List Bool) (F : List
       go bad z y = no y
       go (got xs m) z y = inner xs m z ∙ ap (got tt) (put (F xs) m y)
 
-  module _ (r : Pass) (p : insideOn kind d s tags e ≡ resumed (d - 1) s kind tags r) where
-    pub frame-none : r .good ≡ false → frameOn kind d s tags F e ≡ bad
-    unfolding frameOn
-    frame-none g = ap (λ g. bindG g (λ seen n. place (F seen) n)) (p ∙ left-none (d - 1) s kind tags r g)
+module _ {A : Type 0} (F : List ℕ → Opt A) {d : ℕ} {s : List ℕ} {kind : ℕ} {tags stops : List Bool} {before : List ℕ} {t : Got (List ℕ)} {r : Pass} (L : Left d s kind tags stops before t r) where
+  pub frame-none : r .good ≡ false → made F t ≡ bad
+  frame-none g = ap (made F) (L .left ∙ left-none d s kind tags r g)
 
-    pub frame-end : r .good ≡ true → 10 ≤ r .slot → {o : Opt A} → F (r .at) ≡ o → frameOn kind d s tags F e ≡ place o (r .head .next .at)
-    unfolding frameOn
-    frame-end g l f = ap (λ g. bindG g (λ seen n. place (F seen) n)) (p ∙ left-end (d - 1) s kind tags r g l) ∙ ap (λ o. place o (r .head .next .at)) f
+  pub frame-end : r .good ≡ true → 10 ≤ r .slot → {o : Opt A} → F (r .at) ≡ o → made F t ≡ place o (r .head .next .at)
+  frame-end g l f = ap (made F) (L .left ∙ left-end d s kind tags r g l) ∙ ap (λ o. place o (r .head .next .at)) f
 
-    -- a stop at a member that its reader refuses
-    pub frame-refused : r .good ≡ true → (l : r .slot < 10) → (q : ℕ) → getD (r .at) (r .slot) 0 ≡ q + 1 → ((xs : List ℕ) → getD xs (r .slot) 0 ≡ q + 1 → F xs ≡ nothing) → frameOn kind d s tags F e ≡ bad
-    unfolding frameOn
-    frame-refused g l q k refuses = ap (λ g. bindG g (λ seen n. place (F seen) n)) (p ∙ left-stop (d - 1) s kind tags r g l) ∙ go (elementEnd (d - 1) s (r .head))
-      where
-        rest : (n : ℕ) (h : Got (List ℕ)) → fieldsFrom (d - 1) s kind tags (r .at) n ≡ h → bindG h (λ seen n. place (F seen) n) ≡ bad
-        rest n bad z = refl
-        rest n (got xs m) z = ap (λ o. place o m) (refuses xs (fields-keep (d - 1) s tags (r .slot) q kind (r .at) n k z))
+  -- a stop at a member that its reader refuses
+  frame-refused : (l : r .slot < 10) → ((xs : List ℕ) → getD xs (r .slot) 0 ≡ L .stopped l .place + 1 → F xs ≡ nothing) → made F t ≡ bad
+  frame-refused l refuses = ap (made F) (L .left ∙ left-stop d s kind tags r (L .stopped l .sound) l) ∙ go (elementEnd d s (r .head))
+    where
+      rest : (n : ℕ) (h : Got (List ℕ)) → fieldsFrom d s kind tags (r .at) n ≡ h → made F h ≡ bad
+      rest n bad z = refl
+      rest n (got xs m) z = ap (λ o. place o m) (refuses xs (fields-keep d s tags (r .slot) (L .stopped l .place) kind (r .at) n (L .stopped l .placed) z))
 
-        go : (h : Got (Unit {0})) → bindG (bindG h (λ u n. fieldsFrom (d - 1) s kind tags (r .at) n)) (λ seen n. place (F seen) n) ≡ bad
-        go bad = refl
-        go (got u n) = rest n (fieldsFrom (d - 1) s kind tags (r .at) n) refl
+      go : (h : Got (Unit {0})) → made F (bindG h (λ u n. fieldsFrom d s kind tags (r .at) n)) ≡ bad
+      go bad = refl
+      go (got u n) = rest n (fieldsFrom d s kind tags (r .at) n) refl
 
-    -- a stop at a member that its reader reads: the pass that goes on after it is one of the same container
-    module _ (g : r .good ≡ true) (l : r .slot < 10) {n : ℕ} (w : elementEnd (d - 1) s (r .head) ≡ got tt n) (z : Pass) (y : fieldsFrom (d - 1) s kind tags (r .at) n ≡ resumed (d - 1) s kind tags z) where
-      pub goes-on : insideOn kind d s tags e ≡ resumed (d - 1) s kind tags z
-      goes-on = p ∙ left-stop (d - 1) s kind tags r g l ∙ ap (λ h. bindG h (λ u n. fieldsFrom (d - 1) s kind tags (r .at) n)) w ∙ y
+-- a stop at a member that its reader reads: the pass that goes on after it is one of the same container
+module _ {d : ℕ} {s : List ℕ} {kind : ℕ} {tags stops : List Bool} {before : List ℕ} {t : Got (List ℕ)} {r : Pass} (L : Left d s kind tags stops before t r) (l : r .slot < 10) {n : ℕ} (w : elementEnd d s (r .head) ≡ got tt n) (further : List Bool) {z : Pass} (q : z ≡ passFrom d s kind tags further r n) where
+  after : Left d s kind tags further (r .at) (fieldsFrom d s kind tags (r .at) n) z
+  after = resumes d r n (L .ten) (L .coded) q
 
-      pub goes-kept : z .good ≡ true → 10 ≤ z .slot → (i v : ℕ) → getD (r .at) i 0 ≡ v + 1 → getD (z .at) i 0 ≡ v + 1
-      goes-kept a b i v k = fields-keep (d - 1) s tags i v kind (r .at) n k (y ∙ left-end (d - 1) s kind tags z a b)
+  goes-on : Left d s kind tags further (r .at) t z
+  goes-on = let M = after in record { left = L .left ∙ left-stop d s kind tags r (L .stopped l .sound) l ∙ ap (λ h. bindG h (λ u m. fieldsFrom d s kind tags (r .at) m)) w ∙ M .left; coded = M .coded; ten = M .ten; stopped = M .stopped; kept = M .kept; passed = M .passed }
 
 -- a pass that is to stop nowhere does not stop
-pub nowhere : (s : List ℕ) (r : Pass) → Stopped s (replicate 10 false) r → 10 ≤ r .slot
-nowhere s r w = go (ltb (r .slot) 10) refl
+pub nowhere : {d : ℕ} {s : List ℕ} {kind : ℕ} {tags : List Bool} {before : List ℕ} {t : Got (List ℕ)} {r : Pass} → Left d s kind tags (replicate 10 false) before t r → 10 ≤ r .slot
+nowhere {r = r} L = go (ltb (r .slot) 10) refl
   where
     go : (b : Bool) → ltb (r .slot) 10 ≡ b → 10 ≤ r .slot
-    go true e = absurd (clash (sym (getD-replicate 10 (r .slot) false false (ltb-true (r .slot) 10 e)) ∙ w (ltb-true (r .slot) 10 e) .wanted))
+    go true e = absurd (clash (sym (getD-replicate 10 (r .slot) false false (ltb-true (r .slot) 10 e)) ∙ L .stopped (ltb-true (r .slot) 10 e) .wanted))
     go false e = ltb-false (r .slot) 10 e
 
-none-true : (n j : ℕ) → getD (replicate n false) j false ≡ true → ⊥
+pub none-true : (n j : ℕ) → getD (replicate n false) j false ≡ true → ⊥
 none-true zero j e = clash e
 none-true (suc n) zero e = clash e
 none-true (suc n) (suc j) e = none-true n j e
@@ -385,6 +466,12 @@ pub only-second : (j : ℕ) → getD (false ∷ true ∷ replicate 8 false) j fa
 only-second zero e = absurd (clash e)
 only-second (suc zero) e = refl
 only-second (suc (suc j)) e = absurd (none-true 8 j e)
+
+pub only-third : (j : ℕ) → getD (false ∷ false ∷ true ∷ replicate 7 false) j false ≡ true → j ≡ 2
+only-third zero e = absurd (clash e)
+only-third (suc zero) e = absurd (clash e)
+only-third (suc (suc zero)) e = refl
+only-third (suc (suc (suc j))) e = absurd (none-true 7 j e)
 
 pub first-or-second : (j : ℕ) → getD (true ∷ true ∷ replicate 8 false) j false ≡ true → (j ≡ 0 → ⊥) → j ≡ 1
 first-or-second zero e n = absurd (n refl)
@@ -402,47 +489,54 @@ pub frame-reads : {A : Type 0} (kind d : ℕ) (s : List ℕ) (tags : List Bool) 
 frame-reads kind d s tags F lo hi = record { here = λ at e h. frame-here kind d s tags F e at h; none = λ at h. ap (λ g. bindG g (λ seen n. place (F seen) n)) (inside-none kind d s tags at h); ends = λ e x n w. frame-ends kind d s tags F e lo hi w }
 
 pub frame-deep : {A : Type 0} (kind d : ℕ) (s : List ℕ) (tags : List Bool) (F : List ℕ → Opt A) (e : Element) → d ≡ 0 → frameOn kind d s tags F e ≡ bad
-unfolding frameOn
 frame-deep kind d s tags F e q = ap (λ g. bindG g (λ seen n. place (F seen) n)) (on-deep kind d s tags e q)
 
 -- ---- a member of slot i that a reader of its own reads, in one pass
 
-module _ {A B : Type 0} (kind d : ℕ) (s : List ℕ) (tags : List Bool) (F : List ℕ → Opt A) (e : Element) (r : Pass) (p : insideOn kind d s tags e ≡ resumed (d - 1) s kind tags r) (stops : List Bool) (st : Stopped s stops r) (i : ℕ) (is : r .slot ≡ i) (g : r .good ≡ true) (l : r .slot < 10) {read : ℕ → Got B} {on : Element → Got B} (reads : Reads (d - 1) s read on) where
-  nest-place : getD (r .at) i 0 ≡ st l .place + 1
-  nest-place = ap (λ (j : ℕ). getD (r .at) j 0) (sym is) ∙ st l .placed
+module _ {B : Type 0} {d : ℕ} {s : List ℕ} {kind : ℕ} {tags stops : List Bool} {before : List ℕ} {t : Got (List ℕ)} {r : Pass} (L : Left d s kind tags stops before t r) {i : ℕ} (is : r .slot ≡ i) (l : r .slot < 10) {read : ℕ → Got B} {on : Element → Got B} (reads : Reads d s read on) where
+  abbrev Placed : List ℕ → Type 0
+  Placed xs = getD xs i 0 ≡ L .stopped l .place + 1
 
-  nest-read : read (st l .place) ≡ on (r .head)
-  nest-read = reads .here (st l .place) (r .head) (st l .here)
+  here-placed : Placed (r .at)
+  here-placed = ap (λ (j : ℕ). getD (r .at) j 0) (sym is) ∙ L .stopped l .placed
 
-  found : (xs : List ℕ) → getD xs i 0 ≡ st l .place + 1 → {h : Got B} → on (r .head) ≡ h → requiredIn read (getD xs i 0) ≡ optOf h
-  unfolding requiredIn
-  found xs k w = let q : st l .place + 1 - 1 ≡ st l .place = omega arith in rw (k, ne-eqb (st l .place + 1) 0 (λ z. omega arith), q, nest-read, w) refl
+  in-slot : (xs : List ℕ) → getD xs (r .slot) 0 ≡ L .stopped l .place + 1 → Placed xs
+  in-slot xs k = ap (λ (j : ℕ). getD xs j 0) (sym is) ∙ k
 
-  option : (o : B) (xs : List ℕ) → getD xs i 0 ≡ st l .place + 1 → {h : Got B} → on (r .head) ≡ h → optionalIn o read (getD xs i 0) ≡ optOf h
-  unfolding optionalIn
-  option o xs k w = let q : st l .place + 1 - 1 ≡ st l .place = omega arith in rw (k, ne-eqb (st l .place + 1) 0 (λ z. omega arith), q, nest-read, w) refl
+  there : (xs : List ℕ) → Placed xs → getD xs i 0 ≡ 0 → ⊥
+  there xs k q = omega arith
 
-  pub nest-no-option : (o : B) → on (r .head) ≡ bad → ((xs : List ℕ) → optionalIn o read (getD xs i 0) ≡ nothing → F xs ≡ nothing) → frameOn kind d s tags F e ≡ bad
-  nest-no-option o w lacks = frame-refused kind d s tags F e r p g l (st l .place) (st l .placed) (λ xs k. lacks xs (option o xs (ap (λ (j : ℕ). getD xs j 0) (sym is) ∙ k) w))
+  read-here : (xs : List ℕ) → Placed xs → {h : Got B} → on (r .head) ≡ h → read (getD xs i 0 - 1) ≡ h
+  read-here xs k w = let q : getD xs i 0 - 1 ≡ L .stopped l .place = omega arith in ap read q ∙ reads .here (L .stopped l .place) (r .head) (L .stopped l .here) ∙ w
 
-  pub nest-refused : on (r .head) ≡ bad → ((xs : List ℕ) → (getD xs i 0 ≡ 0 → ⊥) → requiredIn read (getD xs i 0) ≡ nothing → F xs ≡ nothing) → frameOn kind d s tags F e ≡ bad
-  nest-refused w lacks = frame-refused kind d s tags F e r p g l (st l .place) (st l .placed) (λ xs k. lacks xs (λ q. (let v : getD xs i 0 ≡ st l .place + 1 = ap (λ (j : ℕ). getD xs j 0) (sym is) ∙ k in omega arith)) (found xs (ap (λ (j : ℕ). getD xs j 0) (sym is) ∙ k) w))
+  found : (xs : List ℕ) → Placed xs → {h : Got B} → on (r .head) ≡ h → requiredIn read (getD xs i 0) ≡ optOf h
+  found xs k w = required-some read (getD xs i 0) (there xs k) (read-here xs k w)
 
-  module _ {x : B} {n : ℕ} (w : on (r .head) ≡ got x n) (z : Pass) (y : fieldsFrom (d - 1) s kind tags (r .at) n ≡ resumed (d - 1) s kind tags z) where
-    pub nest-on : insideOn kind d s tags e ≡ resumed (d - 1) s kind tags z
-    nest-on = goes-on kind d s tags F e r p g l (reads .ends (r .head) x n w) z y
+  option : (o : B) (xs : List ℕ) → Placed xs → {h : Got B} → on (r .head) ≡ h → optionalIn o read (getD xs i 0) ≡ optOf h
+  option o xs k w = optional-some o read (getD xs i 0) (there xs k) (read-here xs k w)
 
-    pub nest-found : z .good ≡ true → 10 ≤ z .slot → requiredIn read (getD (z .at) i 0) ≡ just x
-    nest-found a b = found (z .at) (goes-kept kind d s tags F e r p g l (reads .ends (r .head) x n w) z y a b i (st l .place) nest-place) w
+  module _ {A : Type 0} (F : List ℕ → Opt A) (w : on (r .head) ≡ bad) where
+    pub nest-no-option : (o : B) → ((xs : List ℕ) → optionalIn o read (getD xs i 0) ≡ nothing → F xs ≡ nothing) → made F t ≡ bad
+    nest-no-option o lacks = frame-refused F L l (λ xs k. lacks xs (option o xs (in-slot xs k) w))
 
-    pub nest-option : (o : B) → z .good ≡ true → 10 ≤ z .slot → optionalIn o read (getD (z .at) i 0) ≡ just x
-    nest-option o a b = option o (z .at) (goes-kept kind d s tags F e r p g l (reads .ends (r .head) x n w) z y a b i (st l .place) nest-place) w
+    pub nest-refused : ((xs : List ℕ) → (getD xs i 0 ≡ 0 → ⊥) → requiredIn read (getD xs i 0) ≡ nothing → F xs ≡ nothing) → made F t ≡ bad
+    nest-refused lacks = frame-refused F L l (λ xs k. lacks xs (there xs (in-slot xs k)) (found xs (in-slot xs k) w))
 
-    pub nest-at : z .good ≡ true → 10 ≤ z .slot → getD (z .at) i 0 ≡ st l .place + 1
-    nest-at a b = goes-kept kind d s tags F e r p g l (reads .ends (r .head) x n w) z y a b i (st l .place) nest-place
+  module _ {x : B} {n : ℕ} (w : on (r .head) ≡ got x n) (further : List Bool) {z : Pass} (q : z ≡ passFrom d s kind tags further r n) where
+    pub nest-on : Left d s kind tags further (r .at) t z
+    nest-on = goes-on L l (reads .ends (r .head) x n w) further q
 
-    pub nest-there : z .good ≡ true → 10 ≤ z .slot → getD (z .at) i 0 ≡ 0 → ⊥
-    nest-there a b q = let k = goes-kept kind d s tags F e r p g l (reads .ends (r .head) x n w) z y a b i (st l .place) nest-place in omega arith
+    pub nest-at : z .good ≡ true → Placed (z .at)
+    nest-at a = nest-on .kept a i (L .stopped l .place) here-placed
+
+    pub nest-found : z .good ≡ true → requiredIn read (getD (z .at) i 0) ≡ just x
+    nest-found a = found (z .at) (nest-at a) w
+
+    pub nest-option : (o : B) → z .good ≡ true → optionalIn o read (getD (z .at) i 0) ≡ just x
+    nest-option o a = option o (z .at) (nest-at a) w
+
+    pub nest-there : z .good ≡ true → getD (z .at) i 0 ≡ 0 → ⊥
+    nest-there a = there (z .at) (nest-at a)
 
 -- a reader and then a test is a reader
 pub then-reads : {A B : Type 0} (d : ℕ) (s : List ℕ) {read : ℕ → Got A} {on : Element → Got A} (f : A → Opt B) → Reads d s read on → Reads d s (λ at. bindG (read at) (λ a n. place (f a) n)) (λ e. bindG (on e) (λ a n. place (f a) n))

@@ -1,10 +1,10 @@
--- A scalar at a place: case by case for the code, and THE LAW that it is what the tree there is.
+-- A scalar at a place: THE LAW that it is what the tree there is.
 use mathlib.Core.Path.{_≡_, refl, sym, _∙_}
 use mathlib.Core.Bool.{Bool}
 use mathlib.Core.List.{List}
 use Prim.Native.Nat.{ℕ, zero, suc, _-_, _≤_}
 use native.Mathlib.Omega.{arith}
-use borrow.Author.Tests.{eq-eqb, ne-eqb, le-ltb, lt-ltb, ltb-true, ltb-false}
+use borrow.Author.Tests.{ne-eqb, le-ltb, lt-ltb, ltb-true, ltb-false}
 use lib.ListN.{length, take, drop}
 use lib.Dec.{ltb}
 use Rattle.tlv.specs.declared.Element.{Element}
@@ -21,19 +21,7 @@ use Rattle.tlv.proofs.Picks.{choose-elim}
 use Rattle.tlv.proofs.ValueLaws.{Each, each}
 use Rattle.members.specs.Fields.{slotIn, orNone}
 use Rattle.members.specs.Fields.Slot.{present}
-use Rattle.members.specs.Scalar.{ABSENT, WRONG, scalarIn, numberOf, flagOf, wideOf, numberIn, flagIn, wideIn, scalarT, numberP, flagP, wideP, numberT, flagT, wideT}
-
--- ---- for the code
-
-module _ (f : Element → ℕ) (s : List ℕ) (p : ℕ) where
-  pub scalar-none : p ≡ 0 → scalarIn f s p ≡ ABSENT
-  scalar-none e = simp (eq-eqb p 0 e)
-
-  pub scalar-broken : (p ≡ 0 → ⊥) → headAt s (p - 1) ≡ Malformed → scalarIn f s p ≡ WRONG
-  scalar-broken n h = simp (ne-eqb p 0 n, h)
-
-  pub scalar-found : (p ≡ 0 → ⊥) → {e : Element} → headAt s (p - 1) ≡ Found e → scalarIn f s p ≡ f e
-  scalar-found n h = simp (ne-eqb p 0 n, h)
+use Rattle.members.specs.Scalar.{WRONG, scalarIn, numberOf, flagOf, wideOf, numberIn, flagIn, wideIn, scalarT, numberP, flagP, wideP, numberT, flagT, wideT}
 
 -- ---- a scalar in bytes is the scalar of the tree
 

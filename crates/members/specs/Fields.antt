@@ -1,7 +1,7 @@
 -- The listed members of a container: in bytes, where each stands; in trees, which each is (document 01, Spelling).
 use Prim.Native.Nat.{ℕ, zero, suc, _+_}
 use mathlib.Core.List.{List}
-use mathlib.Core.Bool.{Bool, true, false}
+use mathlib.Core.Bool.{Bool, false}
 use lib.ListN.{length, getD, set, replicate}
 use lib.Dec.{ltb, eqb}
 use Rattle.tlv.specs.declared.Element.{Element}
@@ -15,7 +15,6 @@ use Rattle.tlv.specs.Walk.{Got, foldAt, headed, elementEnd}
 use Rattle.tlv.specs.Walk.Got.{got, bad}
 use Rattle.tlv.specs.Decode.{Opt, foldT, treeAt}
 use Rattle.tlv.specs.Decode.Opt.{just, nothing}
-use Rattle.members.specs.declared.Members.{Members}
 
 -- the slot of a context tag: 0 to 8 have their own, 255 has the last; 10 if the tag is not listed
 unfoldable pub placeOf : List Bool → ℕ → ℕ
@@ -49,10 +48,6 @@ insideBy kind inner e = pick (eqb (e .kind) kind) (inner (e .next .at)) bad
 unfoldable pub insideAt : ℕ → ℕ → List ℕ → List Bool → ℕ → Got (List ℕ)
 insideAt kind zero s listed at = bad
 insideAt kind (suc d) s listed at = headed bad (insideBy kind (λ n. fieldsAt d s kind listed n)) (headAt s at)
-
-abbrev pub membersOf : Got (List ℕ) → Members
-membersOf bad = record { good = false; next = 0; at = replicate 10 0 }
-membersOf (got seen n) = record { good = true; next = n; at = seen }
 
 -- IN TREES
 pub data Slot : Type 0 where

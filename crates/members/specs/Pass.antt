@@ -1,51 +1,33 @@
--- One pass over a container's members, which stops at a member that a reader of its own reads: what is left to read, in terms of
--- where the members stand (Fields); and what a scalar's head says, as one number.
-use Prim.Native.Nat.{ℕ, zero, suc, _+_, _-_, _<_, _≤_}
-use mathlib.Core.Path.{_≡_}
-use mathlib.Core.List.{List, map}
+-- One pass over a container's members, which stops at a member that a reader of its own reads: where it stops, and what it has seen by
+-- then; and what a scalar's head says, as one number.
+use Prim.Native.Nat.{ℕ, zero, suc, _+_, _-_}
+use mathlib.Core.List.{List}
 use mathlib.Core.Bool.{Bool, true, false}
-use lib.ListN.{getD, replicate}
+use lib.ListN.{length, getD, set, replicate}
 use lib.Dec.{ltb, eqb}
 use Rattle.tlv.specs.declared.Element.{Element}
-use Rattle.tlv.specs.declared.Head.the-variants.{Found}
-use Rattle.tlv.specs.Octet.{pick}
+use Rattle.tlv.specs.declared.Head.{Head}
+use Rattle.tlv.specs.declared.Head.the-variants.{Found, Malformed}
+use Rattle.tlv.specs.Octet.{pick, endOfContainer}
 use Rattle.tlv.specs.Head.{headAt}
-use Rattle.tlv.specs.Walk.{Got, bindG, headed, elementEnd}
+use Rattle.tlv.specs.Walk.{Got, bindG, choose, allowedIn, headed, elementEnd}
 use Rattle.tlv.specs.Walk.Got.{got, bad}
 use Rattle.tlv.specs.Decode.{Opt, place}
-use Rattle.members.specs.Fields.{fieldsFrom, fieldsAt, insideBy}
+use Rattle.members.specs.Fields.{slotOf, fieldsAt, insideBy}
 use Rattle.members.specs.Scalar.{ABSENT, NULL, WRONG}
 use Rattle.members.specs.declared.Pass.{Pass}
 
--- of the container with this head
+-- where the members stand of the container with this head
 unfoldable pub insideOn : ℕ → ℕ → List ℕ → List Bool → Element → Got (List ℕ)
 insideOn kind zero s listed e = bad
 insideOn kind (suc d) s listed e = insideBy kind (λ n. fieldsAt d s kind listed n) e
 
--- a frame: what is made of the members of the container with a head
-unfoldable pub frameOn : {A : Type 0} → ℕ → ℕ → List ℕ → List Bool → (List ℕ → Opt A) → Element → Got A
-frameOn kind d s tags F e = bindG (insideOn kind d s tags e) (λ seen n. place (F seen) n)
+-- what is made of the members; a frame: of the members of the container with a head
+abbrev pub made : {A : Type 0} → (List ℕ → Opt A) → Got (List ℕ) → Got A
+made F g = bindG g (λ seen n. place (F seen) n)
 
--- WHAT IS LEFT: at a stop, the member whose head was read and then the rest
-unfoldable pub resumed : ℕ → List ℕ → ℕ → List Bool → Pass → Got (List ℕ)
-resumed d s kind listed r =
-    pick (r .good)
-    (pick (ltb (r .slot) 10) (bindG (elementEnd d s (r .head)) (λ u n. fieldsFrom d s kind listed (r .at) n)) (got (r .at) (r .head .next .at)))
-    bad
-
--- a stop is at a member of a slot where it is to stop, and has its head
-pub record Stops (s : List ℕ) (stops : List Bool) (r : Pass) : Type 0 where
-  pub wanted : getD stops (r .slot) false ≡ true
-  pub place : ℕ
-  pub placed : getD (r .at) (r .slot) 0 ≡ place + 1
-  pub here : headAt s place ≡ Found (r .head)
-
-abbrev pub Stopped : List ℕ → List Bool → Pass → Type 0
-Stopped s stops r = r .slot < 10 → Stops s stops r
-
--- at the end, no member of a slot where it was to stop was seen
-abbrev pub Passed : List Bool → List ℕ → Pass → Type 0
-Passed stops before r = r .good ≡ true → 10 ≤ r .slot → (i : ℕ) → getD stops i false ≡ true → getD (r .at) i 0 ≡ getD before i 0
+abbrev pub frameOn : {A : Type 0} → ℕ → ℕ → List ℕ → List Bool → (List ℕ → Opt A) → Element → Got A
+frameOn kind d s tags F e = made F (insideOn kind d s tags e)
 
 -- no pass, and one that has seen nothing
 abbrev pub noPass : Pass
@@ -64,6 +46,51 @@ codeOf kind n =
     (pick (ltb kind 4) 2
     (pick (ltb 7 kind) (pick (eqb kind 8) 4 (pick (eqb kind 9) 5 2)) (pick (ltb 4294967295 n) 3 (n + 6))))
 
+-- WHERE IT STOPS: at a member of a slot, or at the container's end (slot 10), whose head it has read
+abbrev pub passAt : ℕ → Element → List ℕ → List ℕ → Pass
+passAt i e seen codes = record { good = true; slot = i; head = e; at = seen; codes = codes }
+
+-- a member is walked, and the pass goes on after it
+abbrev pub passOn : (ℕ → Pass) → Got (Unit {0}) → Pass
+passOn rest bad = noPass
+passOn rest (got u n) = rest n
+
+-- a listed member: its place and its code are put in its slot, where there may be none yet
+unfoldable pub passListed : ℕ → List ℕ → List Bool → (List ℕ → List ℕ → ℕ → Pass) → List ℕ → List ℕ → ℕ → Element → ℕ → Pass
+passListed d s stops rest seen codes at e i =
+    choose (eqb (getD seen i 0) 0)
+    (λ _. choose (getD stops i false)
+    (λ _. passAt i e (set seen i (at + 1)) (set codes i (codeOf (e .kind) (e .number))))
+    (λ _. passOn (rest (set seen i (at + 1)) (set codes i (codeOf (e .kind) (e .number)))) (elementEnd d s e)))
+    (λ _. noPass)
+
+-- any member; one that is not listed is walked
+unfoldable pub passMember : ℕ → List ℕ → List Bool → (List ℕ → List ℕ → ℕ → Pass) → List ℕ → List ℕ → ℕ → Element → ℕ → Pass
+passMember d s stops rest seen codes at e i =
+    choose (ltb i 10) (λ _. passListed d s stops rest seen codes at e i) (λ _. passOn (rest seen codes) (elementEnd d s e))
+
+-- by what stands at a position
+unfoldable pub passBy : ℕ → List ℕ → ℕ → List Bool → List Bool → (List ℕ → List ℕ → ℕ → Pass) → List ℕ → List ℕ → ℕ → Head → Pass
+passBy d s kind listed stops rest seen codes at Malformed = noPass
+passBy d s kind listed stops rest seen codes at (Found e) =
+    choose (eqb (e .kind) endOfContainer) (λ _. passAt 10 e seen codes)
+    (λ _. choose (allowedIn kind (e .form)) (λ _. passMember d s stops rest seen codes at e (slotOf listed (e .form) (e .tag))) (λ _. noPass))
+
+-- the bound on how many members are looked at does not matter where it is the message's length
+unfoldable pub passIn : ℕ → ℕ → List ℕ → ℕ → List Bool → List Bool → List ℕ → List ℕ → ℕ → Pass
+passIn zero d s kind listed stops seen codes at = noPass
+passIn (suc f) d s kind listed stops seen codes at =
+    passBy d s kind listed stops (λ xs ks n. passIn f d s kind listed stops xs ks n) seen codes at (headAt s at)
+
+-- THE PASS from a position on, after one before; and over the container with a head
+unfoldable pub passFrom : ℕ → List ℕ → ℕ → List Bool → List Bool → Pass → ℕ → Pass
+passFrom d s kind listed stops before at = passIn (length s) d s kind listed stops (before .at) (before .codes) at
+
+unfoldable pub passOf : ℕ → ℕ → List ℕ → List Bool → List Bool → Element → Pass
+passOf kind zero s listed stops e = noPass
+passOf kind (suc d) s listed stops e = pick (eqb (e .kind) kind) (passFrom d s kind listed stops noPass (e .next .at)) noPass
+
+-- of the member at a place; and what a code stands for
 unfoldable pub codeIn : List ℕ → ℕ → ℕ
 codeIn s p = pick (eqb p 0) 0 (headed 2 (λ e. codeOf (e .kind) (e .number)) (headAt s (p - 1)))
 

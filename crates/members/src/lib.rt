@@ -1,13 +1,8 @@
-// The listed members of a container: one loop for all schemas, which says where each stands.
+// The listed members of a container: one loop for all schemas, which says where each stands and stops where another reader is to read.
 ghost use mathlib.Core.Path.{_≡_};
-ghost use Rattle.tlv.specs.Walk.Got.{bad};
-ghost use Rattle.members.specs.Fields.{slotOf, fieldsFrom, fieldsAt, insideAt, membersOf};
-ghost use Rattle.members.specs.Scalar.{numberOf, numberIn, flagIn, wideIn};
-ghost use Rattle.members.specs.Pass.{noPass, insideOn, resumed, Stopped, Passed, codeOf, codeIn, numberBy, flagBy, wideBy};
+ghost use Rattle.members.specs.Fields.{slotOf};
+ghost use Rattle.members.specs.Pass.{noPass, passFrom, passOf, codeOf, numberBy, flagBy, wideBy};
 ghost use Rattle.members.specs.Item.{itemAt};
-ghost use mathlib.Core.List.{map};
-ghost use lib.ListN.{replicate};
-ghost use Prim.Native.Nat.{_-_};
 use tlv::Cursor;
 use tlv::Element;
 use tlv::Head;
@@ -19,24 +14,6 @@ pub const ABSENT: u64 = 4294967296;
 pub const NULL: u64 = 4294967297;
 
 pub const WRONG: u64 = 4294967298;
-
-// Where each listed member of a container stands, plus one; 0 for one that is absent. Context tags 0 to 8 have slots of
-// their own, and 255 has the last.
-pub struct Members {
-    pub good: bool,
-    pub next: usize,
-    pub at: [usize; 10],
-}
-
-fn malformed() -> Members
-    ensures { λ r. ⌜ r ≡ membersOf bad ⌝ }
-{
-    Members {
-        good: false,
-        next: 0,
-        at: [0usize; 10],
-    }
-}
 
 // The slot of a listed tag, or 10.
 fn slot(listed: &[bool; 10], form: u8, tag: u64) -> usize
@@ -60,137 +37,9 @@ fn slot(listed: &[bool; 10], form: u8, tag: u64) -> usize
     10
 }
 
-// The members of a container of a type from a cursor on. A listed tag twice is malformed.
-pub fn fields(s: &[u8], c: Cursor, left: usize, kind: u8, listed: &[bool; 10]) -> Members
-    ensures { λ r. ⌜ r ≡ membersOf (fieldsAt left (now (s .entry)) kind (now (listed .entry)) (c .at)) ⌝ }
-{
-    let mut seen = [0usize; 10];
-    let mut at = c.at;
-    loop {
-        let here = Cursor { at };
-        let Head::Found(e) = here.head(s) else {
-            return malformed();
-        };
-        if e.kind == tlv::END {
-            let next = e.next;
-            return Members {
-                good: true,
-                next: next.at,
-                at: seen,
-            };
-        }
-        if !tlv::allowed(kind, e.form) {
-            return malformed();
-        }
-        let Walk::Past(n) = tlv::walk_element(s, e, left) else {
-            return malformed();
-        };
-        let i = slot(listed, e.form, e.tag);
-        if i < 10 {
-            if seen[i] != 0 {
-                return malformed();
-            }
-            seen[i] = at + 1;
-        }
-        at = n.at;
-    }
-}
-
-// The members of the container of a type that stands at a cursor.
-pub fn inside(s: &[u8], c: Cursor, left: usize, kind: u8, listed: &[bool; 10]) -> Members
-    ensures { λ r. ⌜ r ≡ membersOf (insideAt kind left (now (s .entry)) (now (listed .entry)) (c .at)) ⌝ }
-{
-    let Head::Found(e) = c.head(s) else {
-        return malformed();
-    };
-    if e.kind != kind {
-        return malformed();
-    }
-    if left == 0 {
-        return malformed();
-    }
-    let next = e.next;
-    fields(s, next, left - 1, kind, listed)
-}
-
-// What an element type and its number are as an unsigned number, at most so large, or as null where that is allowed.
-fn number_of(kind: u8, n: u64, most: u64, nullable: bool) -> u64
-    ensures { λ r. ⌜ r ≡ numberOf most nullable kind n ⌝ }
-{
-    if kind == 20 {
-        if nullable {
-            return NULL;
-        }
-        return WRONG;
-    }
-    if kind < 4 {
-        return WRONG;
-    }
-    if 7 < kind {
-        return WRONG;
-    }
-    if most < n {
-        return WRONG;
-    }
-    n
-}
-
-// The unsigned number of the member at a place.
-pub fn number_at(s: &[u8], p: usize, most: u64, nullable: bool) -> u64
-    ensures { λ r. ⌜ r ≡ numberIn most nullable (now (s .entry)) p ⌝ }
-{
-    if p == 0 {
-        return ABSENT;
-    }
-    let c = Cursor { at: p - 1 };
-    let Head::Found(e) = c.head(s) else {
-        return WRONG;
-    };
-    number_of(e.kind, e.number, most, nullable)
-}
-
-// The boolean of the member at a place: 0 or 1.
-pub fn flag_at(s: &[u8], p: usize) -> u64
-    ensures { λ r. ⌜ r ≡ flagIn (now (s .entry)) p ⌝ }
-{
-    if p == 0 {
-        return ABSENT;
-    }
-    let c = Cursor { at: p - 1 };
-    let Head::Found(e) = c.head(s) else {
-        return WRONG;
-    };
-    if e.kind == 8 {
-        return 0;
-    }
-    if e.kind == 9 {
-        return 1;
-    }
-    WRONG
-}
-
-// Whether the member at a place is an unsigned number of any size: 0 if it is.
-pub fn wide_at(s: &[u8], p: usize) -> u64
-    ensures { λ r. ⌜ r ≡ wideIn (now (s .entry)) p ⌝ }
-{
-    if p == 0 {
-        return ABSENT;
-    }
-    let c = Cursor { at: p - 1 };
-    let Head::Found(e) = c.head(s) else {
-        return WRONG;
-    };
-    if e.kind < 4 {
-        return WRONG;
-    }
-    if 7 < e.kind {
-        return WRONG;
-    }
-    0
-}
-
 // A pass over the members of a container, so far: whether it is well formed; the slot of the member where it stopped, or 10 at the
-// container's end; the head that it read last; where each listed member stands, plus one; and each one's scalar as a code.
+// container's end; the head that it read last; where each listed member stands, plus one, or 0; and each one's scalar as a code.
+// Context tags 0 to 8 have slots of their own, and 255 has the last.
 pub struct Pass {
     pub good: bool,
     pub slot: usize,
@@ -208,7 +57,8 @@ const NO_ELEMENT: Element = Element {
     next: Cursor { at: 0 },
 };
 
-fn refused() -> Pass
+// No pass: what is read is malformed.
+pub fn refused() -> Pass
     ensures { λ r. ⌜ r ≡ noPass ⌝ }
 {
     Pass {
@@ -219,6 +69,20 @@ fn refused() -> Pass
         codes: [0u64; 10],
     }
 }
+
+// A pass that stops only at the container's end.
+pub const NO_STOP: [bool; 10] = [
+    false,
+    false,
+    false,
+    false,
+    false,
+    false,
+    false,
+    false,
+    false,
+    false,
+];
 
 // The code of a scalar.
 fn code_of(kind: u8, n: u64) -> u64
@@ -255,11 +119,7 @@ pub fn resume(
     stops: &[bool; 10],
     before: Pass,
 ) -> Pass
-    requires { ⌜ before .codes ≡ map (codeIn (now s)) (before .at) ⌝ }
-    ensures { λ r. ⌜ fieldsFrom left (now (s .entry)) kind (now (listed .entry)) (before .at) (c .at) ≡ resumed left (now (s .entry)) kind (now (listed .entry)) r ⌝ }
-    ensures codes { λ r. ⌜ r .codes ≡ map (codeIn (now (s .entry))) (r .at) ⌝ }
-    ensures stopped { λ r. ⌜ Stopped (now (s .entry)) (now (stops .entry)) r ⌝ }
-    ensures passed { λ r. ⌜ Passed (now (stops .entry)) (before .at) r ⌝ }
+    ensures { λ r. ⌜ r ≡ passFrom left (now (s .entry)) kind (now (listed .entry)) (now (stops .entry)) before (c .at) ⌝ }
 {
     let mut seen = before.at;
     let mut codes = before.codes;
@@ -319,10 +179,7 @@ pub fn begin(
     listed: &[bool; 10],
     stops: &[bool; 10],
 ) -> Pass
-    ensures { λ r. ⌜ insideOn kind left (now (s .entry)) (now (listed .entry)) e ≡ resumed (left - 1) (now (s .entry)) kind (now (listed .entry)) r ⌝ }
-    ensures codes { λ r. ⌜ r .codes ≡ map (codeIn (now (s .entry))) (r .at) ⌝ }
-    ensures stopped { λ r. ⌜ Stopped (now (s .entry)) (now (stops .entry)) r ⌝ }
-    ensures passed { λ r. ⌜ Passed (now (stops .entry)) (replicate 10 0) r ⌝ }
+    ensures { λ r. ⌜ r ≡ passOf kind left (now (s .entry)) (now (listed .entry)) (now (stops .entry)) e ⌝ }
 {
     if e.kind != kind {
         return refused();

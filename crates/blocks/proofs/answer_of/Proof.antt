@@ -1,14 +1,12 @@
 use mathlib.Core.Path.{refl, sym, ap, _∙_}
-use mathlib.Core.Bool.{true, false}
-use mathlib.Core.List.{_∷_}
 use Prim.Native.Nat.{_-_}
 use native.Mathlib.Omega.{arith}
 use native.Mathlib.Nat.{pos-of-ne-zero}
-use lib.ListN.{getD, replicate}
+use lib.ListN.{getD}
 use borrow.Author.Tests.{not-true, not-false}
 use Rattle.tlv.specs.Octet.{structure}
 use Rattle.members.proofs.ArrayLaws.{required-none, required-some}
-use Rattle.members.proofs.PassLaws.{number-coded, frame-deep, frame-none, frame-end, nowhere, only-first, nest-refused, nest-on, nest-found}
+use Rattle.members.proofs.PassLaws.{begun, frame-deep, frame-none, frame-end, nowhere, only-first, nest-refused, nest-on, nest-found}
 use Rattle.blocks.specs.Status.{answerOn, answerRead, answerFrom}
 use Rattle.blocks.specs.Filter.{pairTags}
 use Rattle.blocks.specs.Path.{pathAt, pathOn}
@@ -31,13 +29,13 @@ begin-requires c κs = search needs
 
 returns-2 : tie.Need-returns-2
 unfolding answerOn
-returns-2 c = let a = c .before .before .before .before .before .before .before .args in let s = a .s .now in let d = a .left - 1 in let m = c .before .before .begin in
-    sym (ap answerRead (frame-none structure (a .left) s pairTags (answerFrom d s) (a .e) (m .result) (m .ensures .0) (not-true _ (c .if2 .taken))))
+returns-2 c = let a = c .before .before .before .before .before .before .before .args in let s = a .s .now in let d = a .left - 1 in let m = c .before .before .begin in let L = begun (a .left) (a .e) (m .ensures) in
+    sym (ap answerRead (frame-none (answerFrom d s) L (not-true _ (c .if2 .taken))))
 
 returns-3 : tie.Need-returns-3
 unfolding answerOn
-returns-3 c = let a = c .before .before .before .before .before .before .before .before .before .args in let s = a .s .now in let d = a .left - 1 in let m = c .before .before .before .before .begin in let g = not-false _ (c .before .before .if2 .left) in let xs = m .result .at in
-    sym (ap answerRead (frame-end structure (a .left) s pairTags (answerFrom d s) (a .e) (m .result) (m .ensures .0) g (c .if3 .taken) (answer-lacks-path d s xs (required-none (pathAt d s) (getD xs 0 0) (m .ensures .1 .1 .1 g (c .if3 .taken) 0 refl)))))
+returns-3 c = let a = c .before .before .before .before .before .before .before .before .before .args in let s = a .s .now in let d = a .left - 1 in let m = c .before .before .before .before .begin in let L = begun (a .left) (a .e) (m .ensures) in let g = not-false _ (c .before .before .if2 .left) in let xs = m .result .at in
+    sym (ap answerRead (frame-end (answerFrom d s) L g (c .if3 .taken) (answer-lacks-path d s xs (required-none (pathAt d s) (getD xs 0 0) (L .passed g 0 refl (λ z. (let o = c .if3 .taken in omega arith)))))))
 
 sub-path-of : tie.Need-sub-path-of
 sub-path-of c = search needs
@@ -53,8 +51,8 @@ enum-told c = search needs
 
 returns-4 : tie.Need-returns-4
 unfolding answerOn
-returns-4 c = let a = c .before .before .before .before .before .before .before .before .before .before .before .before .before .args in let s = a .s .now in let d = a .left - 1 in let m = c .before .before .before .before .before .before .before .before .begin in let g = not-false _ (c .before .before .before .before .before .before .if2 .left) in
-    sym (ap answerRead (nest-refused structure (a .left) s pairTags (answerFrom d s) (a .e) (m .result) (m .ensures .0) (true ∷ replicate 9 false) (m .ensures .1 .1 .0) 0 (only-first _ (m .ensures .1 .1 .0 (c .before .before .before .before .if3 .left) .wanted)) g (c .before .before .before .before .if3 .left) (path-reads d s) (path-lacks (pathOn d s (m .result .head)) (sym (c .before .before .path-of .ensures) ∙ c .enum-told .given .1)) (λ xs n k. answer-lacks-path d s xs k)))
+returns-4 c = let a = c .before .before .before .before .before .before .before .before .before .before .before .before .before .args in let s = a .s .now in let d = a .left - 1 in let m = c .before .before .before .before .before .before .before .before .begin in let L = begun (a .left) (a .e) (m .ensures) in
+    sym (ap answerRead (nest-refused L (only-first _ (L .stopped (c .before .before .before .before .if3 .left) .wanted)) (c .before .before .before .before .if3 .left) (path-reads d s) (answerFrom d s) (path-lacks (pathOn d s (m .result .head)) (sym (c .before .before .path-of .ensures) ∙ c .enum-told .given .1)) (λ xs n k. answer-lacks-path d s xs k)))
 
 sub-resume : tie.Need-sub-resume
 sub-resume c = search needs
@@ -64,21 +62,21 @@ resume-requires c κs = search needs
 
 returns-5 : tie.Need-returns-5
 unfolding answerOn
-returns-5 c = let a = c .before .before .before .before .before .before .before .before .before .before .before .before .before .before .before .before .before .before .before .args in let s = a .s .now in let d = a .left - 1 in let m = c .before .before .before .before .before .before .before .before .before .before .before .before .before .before .begin in let g = not-false _ (c .before .before .before .before .before .before .before .before .before .before .before .before .if2 .left) in
+returns-5 c = let a = c .before .before .before .before .before .before .before .before .before .before .before .before .before .before .before .before .before .before .before .args in let s = a .s .now in let d = a .left - 1 in let m = c .before .before .before .before .before .before .before .before .before .before .before .before .before .before .begin in let L = begun (a .left) (a .e) (m .ensures) in
     let w = path-has (pathOn d s (m .result .head)) (sym (c .before .before .before .before .before .before .before .before .path-of .ensures) ∙ c .before .before .before .before .before .before .path .given .1) in let z = c .before .before .resume in
-    let on = nest-on structure (a .left) s pairTags (answerFrom d s) (a .e) (m .result) (m .ensures .0) (true ∷ replicate 9 false) (m .ensures .1 .1 .0) 0 (only-first _ (m .ensures .1 .1 .0 (c .before .before .before .before .before .before .before .before .before .before .if3 .left) .wanted)) g (c .before .before .before .before .before .before .before .before .before .before .if3 .left) (path-reads d s) w (z .result) (z .ensures .0) in
-    sym (ap answerRead (frame-none structure (a .left) s pairTags (answerFrom d s) (a .e) (z .result) on (not-true _ (c .if4 .taken))))
+    let on = nest-on L (only-first _ (L .stopped (c .before .before .before .before .before .before .before .before .before .before .if3 .left) .wanted)) (c .before .before .before .before .before .before .before .before .before .before .if3 .left) (path-reads d s) w _ (z .ensures) in
+    sym (ap answerRead (frame-none (answerFrom d s) on (not-true _ (c .if4 .taken))))
 
 array-read-q : tie.Need-array-read-q
 array-read-q c = search needs
 
 returns-6 : tie.Need-returns-6
 unfolding answerOn
-returns-6 c = let a = c .before .before .before .before .before .before .before .before .before .before .before .before .before .before .before .before .before .before .before .before .before .args in let s = a .s .now in let d = a .left - 1 in let m = c .before .before .before .before .before .before .before .before .before .before .before .before .before .before .before .before .begin in let g = not-false _ (c .before .before .before .before .before .before .before .before .before .before .before .before .before .before .if2 .left) in
+returns-6 c = let a = c .before .before .before .before .before .before .before .before .before .before .before .before .before .before .before .before .before .before .before .before .before .args in let s = a .s .now in let d = a .left - 1 in let m = c .before .before .before .before .before .before .before .before .before .before .before .before .before .before .before .before .begin in let L = begun (a .left) (a .e) (m .ensures) in
     let w = path-has (pathOn d s (m .result .head)) (sym (c .before .before .before .before .before .before .before .before .before .before .path-of .ensures) ∙ c .before .before .before .before .before .before .before .before .path .given .1) in let z = c .before .before .before .before .resume in
-    let on = nest-on structure (a .left) s pairTags (answerFrom d s) (a .e) (m .result) (m .ensures .0) (true ∷ replicate 9 false) (m .ensures .1 .1 .0) 0 (only-first _ (m .ensures .1 .1 .0 (c .before .before .before .before .before .before .before .before .before .before .before .before .if3 .left) .wanted)) g (c .before .before .before .before .before .before .before .before .before .before .before .before .if3 .left) (path-reads d s) w (z .result) (z .ensures .0) in
-    let h = not-false _ (c .before .before .if4 .left) in let o = nowhere s (z .result) (z .ensures .1 .1 .0) in let f = nest-found structure (a .left) s pairTags (answerFrom d s) (a .e) (m .result) (m .ensures .0) (true ∷ replicate 9 false) (m .ensures .1 .1 .0) 0 (only-first _ (m .ensures .1 .1 .0 (c .before .before .before .before .before .before .before .before .before .before .before .before .if3 .left) .wanted)) g (c .before .before .before .before .before .before .before .before .before .before .before .before .if3 .left) (path-reads d s) w (z .result) (z .ensures .0) h o in let xs = z .result .at in let ks = z .result .codes in let k = z .ensures .1 .0 in
-    sym (ap answerRead (frame-end structure (a .left) s pairTags (answerFrom d s) (a .e) (z .result) on h o (answer-lacks-status d s xs (required-none (statusAt d s) (getD xs 1 0) (c .if5 .taken)))))
+    let on = nest-on L (only-first _ (L .stopped (c .before .before .before .before .before .before .before .before .before .before .before .before .if3 .left) .wanted)) (c .before .before .before .before .before .before .before .before .before .before .before .before .if3 .left) (path-reads d s) w _ (z .ensures) in
+    let h = not-false _ (c .before .before .if4 .left) in let o = nowhere on in let xs = z .result .at in
+    sym (ap answerRead (frame-end (answerFrom d s) on h o (answer-lacks-status d s xs (required-none (statusAt d s) (getD xs 1 0) (c .if5 .taken)))))
 
 sub-t22 : tie.Need-sub-t22
 sub-t22 c = search needs
@@ -97,19 +95,19 @@ enum-told-2 c = search needs
 
 returns-7 : tie.Need-returns-7
 unfolding answerOn
-returns-7 c = let a = c .before .before .before .before .before .before .before .before .before .before .before .before .before .before .before .before .before .before .before .before .before .before .before .before .args in let s = a .s .now in let d = a .left - 1 in let m = c .before .before .before .before .before .before .before .before .before .before .before .before .before .before .before .before .before .before .before .begin in let g = not-false _ (c .before .before .before .before .before .before .before .before .before .before .before .before .before .before .before .before .before .if2 .left) in
+returns-7 c = let a = c .before .before .before .before .before .before .before .before .before .before .before .before .before .before .before .before .before .before .before .before .before .before .before .before .args in let s = a .s .now in let d = a .left - 1 in let m = c .before .before .before .before .before .before .before .before .before .before .before .before .before .before .before .before .before .before .before .begin in let L = begun (a .left) (a .e) (m .ensures) in
     let w = path-has (pathOn d s (m .result .head)) (sym (c .before .before .before .before .before .before .before .before .before .before .before .before .before .path-of .ensures) ∙ c .before .before .before .before .before .before .before .before .before .before .before .path .given .1) in let z = c .before .before .before .before .before .before .before .resume in
-    let on = nest-on structure (a .left) s pairTags (answerFrom d s) (a .e) (m .result) (m .ensures .0) (true ∷ replicate 9 false) (m .ensures .1 .1 .0) 0 (only-first _ (m .ensures .1 .1 .0 (c .before .before .before .before .before .before .before .before .before .before .before .before .before .before .before .if3 .left) .wanted)) g (c .before .before .before .before .before .before .before .before .before .before .before .before .before .before .before .if3 .left) (path-reads d s) w (z .result) (z .ensures .0) in
-    let h = not-false _ (c .before .before .before .before .before .if4 .left) in let o = nowhere s (z .result) (z .ensures .1 .1 .0) in let f = nest-found structure (a .left) s pairTags (answerFrom d s) (a .e) (m .result) (m .ensures .0) (true ∷ replicate 9 false) (m .ensures .1 .1 .0) 0 (only-first _ (m .ensures .1 .1 .0 (c .before .before .before .before .before .before .before .before .before .before .before .before .before .before .before .if3 .left) .wanted)) g (c .before .before .before .before .before .before .before .before .before .before .before .before .before .before .before .if3 .left) (path-reads d s) w (z .result) (z .ensures .0) h o in let xs = z .result .at in let ks = z .result .codes in let k = z .ensures .1 .0 in
-    sym (ap answerRead (frame-end structure (a .left) s pairTags (answerFrom d s) (a .e) (z .result) on h o (answer-lacks-status d s xs (required-some (statusAt d s) (getD xs 1 0) (c .before .before .before .if5 .left) (status-lacks (statusAt d s (getD xs 1 0 - 1)) (sym (c .before .before .status-at .ensures) ∙ c .enum-told2 .given .1))))))
+    let on = nest-on L (only-first _ (L .stopped (c .before .before .before .before .before .before .before .before .before .before .before .before .before .before .before .if3 .left) .wanted)) (c .before .before .before .before .before .before .before .before .before .before .before .before .before .before .before .if3 .left) (path-reads d s) w _ (z .ensures) in
+    let h = not-false _ (c .before .before .before .before .before .if4 .left) in let o = nowhere on in let xs = z .result .at in
+    sym (ap answerRead (frame-end (answerFrom d s) on h o (answer-lacks-status d s xs (required-some (statusAt d s) (getD xs 1 0) (c .before .before .before .if5 .left) (status-lacks (statusAt d s (getD xs 1 0 - 1)) (sym (c .before .before .status-at .ensures) ∙ c .enum-told2 .given .1))))))
 
 returns-8 : tie.Need-returns-8
 unfolding answerOn
-returns-8 c = let a = c .before .before .before .before .before .before .before .before .before .before .before .before .before .before .before .before .before .before .before .before .before .before .before .before .before .before .before .args in let s = a .s .now in let d = a .left - 1 in let m = c .before .before .before .before .before .before .before .before .before .before .before .before .before .before .before .before .before .before .before .before .before .before .begin in let g = not-false _ (c .before .before .before .before .before .before .before .before .before .before .before .before .before .before .before .before .before .before .before .before .if2 .left) in
+returns-8 c = let a = c .before .before .before .before .before .before .before .before .before .before .before .before .before .before .before .before .before .before .before .before .before .before .before .before .before .before .before .args in let s = a .s .now in let d = a .left - 1 in let m = c .before .before .before .before .before .before .before .before .before .before .before .before .before .before .before .before .before .before .before .before .before .before .begin in let L = begun (a .left) (a .e) (m .ensures) in
     let w = path-has (pathOn d s (m .result .head)) (sym (c .before .before .before .before .before .before .before .before .before .before .before .before .before .before .before .before .path-of .ensures) ∙ c .before .before .before .before .before .before .before .before .before .before .before .before .before .before .path .given .1) in let z = c .before .before .before .before .before .before .before .before .before .before .resume in
-    let on = nest-on structure (a .left) s pairTags (answerFrom d s) (a .e) (m .result) (m .ensures .0) (true ∷ replicate 9 false) (m .ensures .1 .1 .0) 0 (only-first _ (m .ensures .1 .1 .0 (c .before .before .before .before .before .before .before .before .before .before .before .before .before .before .before .before .before .before .if3 .left) .wanted)) g (c .before .before .before .before .before .before .before .before .before .before .before .before .before .before .before .before .before .before .if3 .left) (path-reads d s) w (z .result) (z .ensures .0) in
-    let h = not-false _ (c .before .before .before .before .before .before .before .before .if4 .left) in let o = nowhere s (z .result) (z .ensures .1 .1 .0) in let f = nest-found structure (a .left) s pairTags (answerFrom d s) (a .e) (m .result) (m .ensures .0) (true ∷ replicate 9 false) (m .ensures .1 .1 .0) 0 (only-first _ (m .ensures .1 .1 .0 (c .before .before .before .before .before .before .before .before .before .before .before .before .before .before .before .before .before .before .if3 .left) .wanted)) g (c .before .before .before .before .before .before .before .before .before .before .before .before .before .before .before .before .before .before .if3 .left) (path-reads d s) w (z .result) (z .ensures .0) h o in let xs = z .result .at in let ks = z .result .codes in let k = z .ensures .1 .0 in
-    sym (ap answerRead (frame-end structure (a .left) s pairTags (answerFrom d s) (a .e) (z .result) on h o (answer-has d s xs f (required-some (statusAt d s) (getD xs 1 0) (c .before .before .before .before .before .before .if5 .left) (status-has (statusAt d s (getD xs 1 0 - 1)) (sym (c .before .before .before .before .before .status-at .ensures) ∙ c .before .before .before .status .given .1))))))
+    let on = nest-on L (only-first _ (L .stopped (c .before .before .before .before .before .before .before .before .before .before .before .before .before .before .before .before .before .before .if3 .left) .wanted)) (c .before .before .before .before .before .before .before .before .before .before .before .before .before .before .before .before .before .before .if3 .left) (path-reads d s) w _ (z .ensures) in
+    let h = not-false _ (c .before .before .before .before .before .before .before .before .if4 .left) in let o = nowhere on in let f = nest-found L (only-first _ (L .stopped (c .before .before .before .before .before .before .before .before .before .before .before .before .before .before .before .before .before .before .if3 .left) .wanted)) (c .before .before .before .before .before .before .before .before .before .before .before .before .before .before .before .before .before .before .if3 .left) (path-reads d s) w _ (z .ensures) h in let xs = z .result .at in
+    sym (ap answerRead (frame-end (answerFrom d s) on h o (answer-has d s xs f (required-some (statusAt d s) (getD xs 1 0) (c .before .before .before .before .before .before .if5 .left) (status-has (statusAt d s (getD xs 1 0 - 1)) (sym (c .before .before .before .before .before .status-at .ensures) ∙ c .before .before .before .status .given .1))))))
 
 pub answer-of-spec : {M : Type 1} → statement M
 answer-of-spec =

@@ -1,10 +1,8 @@
-use mathlib.Core.Path.{refl, sym, ap, _∙_}
+use mathlib.Core.Path.{sym, ap, _∙_}
 use native.Mathlib.Omega.{arith}
 use borrow.Author.Tests.{not-true, not-false}
-use Rattle.tlv.specs.Octet.{list}
-use Rattle.members.proofs.PassLaws.{number-coded, flag-coded, wide-coded, frame-none, frame-end, nowhere}
+use Rattle.members.proofs.PassLaws.{begun, number-coded, wide-coded, frame-none, frame-end, nowhere}
 use Rattle.blocks.specs.Filter.{clusterOn, clusterRead, clusterFrom, soundCluster}
-use Rattle.blocks.specs.Filter.{clusterTags}
 use Rattle.blocks.proofs.CodeLaws.{checked-no, checked-yes, cluster-gathered}
 use borrow.Author.Needs.{needs}
 use Rattle.blocks.proofs.cluster_of.Statement.{statement}
@@ -15,8 +13,8 @@ begin-requires c κs = search needs
 
 returns : tie.Need-returns
 unfolding clusterOn
-returns c = let a = c .before .before .before .before .before .before .args in let s = a .s .now in let m = c .before .before .begin in
-    sym (ap clusterRead (frame-none list (a .left) s clusterTags (clusterFrom s) (a .e) (m .result) (m .ensures .0) (not-true _ (c .if1 .taken))))
+returns c = let a = c .before .before .before .before .before .before .args in let s = a .s .now in let m = c .before .before .begin in let L = begun (a .left) (a .e) (m .ensures) in
+    sym (ap clusterRead (frame-none (clusterFrom s) L (not-true _ (c .if1 .taken))))
 
 array-read-wide-by : tie.Need-array-read-wide-by
 array-read-wide-by c = search needs
@@ -41,17 +39,17 @@ sound-cluster-requires c κs = search needs
 
 returns-2 : tie.Need-returns-2
 unfolding clusterOn
-returns-2 c = let a = c .before .before .before .before .before .before .before .before .before .before .before .before .args in let s = a .s .now in let m = c .before .before .before .before .before .before .before .before .begin in
-    let xs = m .result .at in let ks = m .result .codes in let k = m .ensures .1 .0 in
+returns-2 c = let a = c .before .before .before .before .before .before .before .before .before .before .before .before .args in let s = a .s .now in let m = c .before .before .before .before .before .before .before .before .begin in let L = begun (a .left) (a .e) (m .ensures) in
+    let xs = m .result .at in let ks = m .result .codes in let k = L .coded in
     let f = cluster-gathered s xs (record { node = c .before .before .before .before .wide-by .result; endpoint = c .before .before .before .number-by .result; cluster = c .before .before .number-by2 .result }) (wide-coded s ks xs k 0 (c .before .before .before .before .wide-by .ensures)) (number-coded s ks xs k 1 _ _ (omega arith) (c .before .before .before .number-by .ensures)) (number-coded s ks xs k 2 _ _ (omega arith) (c .before .before .number-by2 .ensures)) ∙ checked-no soundCluster _ (sym (c .before .sound-cluster .ensures) ∙ not-true _ (c .if2 .taken)) in
-    sym (ap clusterRead (frame-end list (a .left) s clusterTags (clusterFrom s) (a .e) (m .result) (m .ensures .0) (not-false _ (c .before .before .before .before .before .before .if1 .left)) (nowhere s (m .result) (m .ensures .1 .1 .0)) f))
+    sym (ap clusterRead (frame-end (clusterFrom s) L (not-false _ (c .before .before .before .before .before .before .if1 .left)) (nowhere L) f))
 
 returns-3 : tie.Need-returns-3
 unfolding clusterOn
-returns-3 c = let a = c .before .before .before .before .before .before .before .before .before .before .before .before .before .before .args in let s = a .s .now in let m = c .before .before .before .before .before .before .before .before .before .before .begin in
-    let xs = m .result .at in let ks = m .result .codes in let k = m .ensures .1 .0 in
+returns-3 c = let a = c .before .before .before .before .before .before .before .before .before .before .before .before .before .before .args in let s = a .s .now in let m = c .before .before .before .before .before .before .before .before .before .before .begin in let L = begun (a .left) (a .e) (m .ensures) in
+    let xs = m .result .at in let ks = m .result .codes in let k = L .coded in
     let f = cluster-gathered s xs (record { node = c .before .before .before .before .before .before .wide-by .result; endpoint = c .before .before .before .before .before .number-by .result; cluster = c .before .before .before .before .number-by2 .result }) (wide-coded s ks xs k 0 (c .before .before .before .before .before .before .wide-by .ensures)) (number-coded s ks xs k 1 _ _ (omega arith) (c .before .before .before .before .before .number-by .ensures)) (number-coded s ks xs k 2 _ _ (omega arith) (c .before .before .before .before .number-by2 .ensures)) ∙ checked-yes soundCluster _ (sym (c .before .before .before .sound-cluster .ensures) ∙ not-false _ (c .before .before .if2 .left)) in
-    sym (ap clusterRead (frame-end list (a .left) s clusterTags (clusterFrom s) (a .e) (m .result) (m .ensures .0) (not-false _ (c .before .before .before .before .before .before .before .before .if1 .left)) (nowhere s (m .result) (m .ensures .1 .1 .0)) f))
+    sym (ap clusterRead (frame-end (clusterFrom s) L (not-false _ (c .before .before .before .before .before .before .before .before .if1 .left)) (nowhere L) f))
 
 pub cluster-of-spec : {M : Type 1} → statement M
 cluster-of-spec =

@@ -1,14 +1,11 @@
 use mathlib.Core.Path.{refl, sym, ap, _∙_}
-use mathlib.Core.Bool.{true, false}
-use mathlib.Core.List.{_∷_}
 use Prim.Native.Nat.{_-_}
 use native.Mathlib.Omega.{arith}
-use native.Mathlib.Nat.{pos-of-ne-zero}
-use lib.ListN.{getD, replicate}
+use lib.ListN.{getD}
 use borrow.Author.Tests.{not-true, not-false}
 use Rattle.tlv.specs.Octet.{structure}
-use Rattle.members.proofs.ArrayLaws.{required-none, required-some}
-use Rattle.members.proofs.PassLaws.{number-coded, frame-deep, frame-none, frame-end, nowhere, only-first, nest-refused, nest-on, nest-found}
+use Rattle.members.proofs.ArrayLaws.{required-none}
+use Rattle.members.proofs.PassLaws.{begun, number-coded, frame-deep, frame-none, frame-end, nowhere, only-first, nest-refused, nest-on, nest-found}
 use Rattle.blocks.specs.Filter.{filterOn, filterRead, filterFrom}
 use Rattle.blocks.specs.Filter.{pairTags}
 use Rattle.blocks.specs.Filter.{clusterAt, clusterOn}
@@ -29,13 +26,13 @@ begin-requires c κs = search needs
 
 returns-2 : tie.Need-returns-2
 unfolding filterOn
-returns-2 c = let a = c .before .before .before .before .before .before .before .args in let s = a .s .now in let d = a .left - 1 in let m = c .before .before .begin in
-    sym (ap filterRead (frame-none structure (a .left) s pairTags (filterFrom d s) (a .e) (m .result) (m .ensures .0) (not-true _ (c .if2 .taken))))
+returns-2 c = let a = c .before .before .before .before .before .before .before .args in let s = a .s .now in let d = a .left - 1 in let m = c .before .before .begin in let L = begun (a .left) (a .e) (m .ensures) in
+    sym (ap filterRead (frame-none (filterFrom d s) L (not-true _ (c .if2 .taken))))
 
 returns-3 : tie.Need-returns-3
 unfolding filterOn
-returns-3 c = let a = c .before .before .before .before .before .before .before .before .before .args in let s = a .s .now in let d = a .left - 1 in let m = c .before .before .before .before .begin in let g = not-false _ (c .before .before .if2 .left) in let xs = m .result .at in
-    sym (ap filterRead (frame-end structure (a .left) s pairTags (filterFrom d s) (a .e) (m .result) (m .ensures .0) g (c .if3 .taken) (filter-lacks d s xs (required-none (clusterAt d s) (getD xs 0 0) (m .ensures .1 .1 .1 g (c .if3 .taken) 0 refl)))))
+returns-3 c = let a = c .before .before .before .before .before .before .before .before .before .args in let s = a .s .now in let d = a .left - 1 in let m = c .before .before .before .before .begin in let L = begun (a .left) (a .e) (m .ensures) in let g = not-false _ (c .before .before .if2 .left) in let xs = m .result .at in
+    sym (ap filterRead (frame-end (filterFrom d s) L g (c .if3 .taken) (filter-lacks d s xs (required-none (clusterAt d s) (getD xs 0 0) (L .passed g 0 refl (λ z. (let o = c .if3 .taken in omega arith)))))))
 
 sub-cluster-of : tie.Need-sub-cluster-of
 sub-cluster-of c = search needs
@@ -51,8 +48,8 @@ enum-told c = search needs
 
 returns-4 : tie.Need-returns-4
 unfolding filterOn
-returns-4 c = let a = c .before .before .before .before .before .before .before .before .before .before .before .before .before .args in let s = a .s .now in let d = a .left - 1 in let m = c .before .before .before .before .before .before .before .before .begin in let g = not-false _ (c .before .before .before .before .before .before .if2 .left) in
-    sym (ap filterRead (nest-refused structure (a .left) s pairTags (filterFrom d s) (a .e) (m .result) (m .ensures .0) (true ∷ replicate 9 false) (m .ensures .1 .1 .0) 0 (only-first _ (m .ensures .1 .1 .0 (c .before .before .before .before .if3 .left) .wanted)) g (c .before .before .before .before .if3 .left) (cluster-reads d s) (cluster-lacks (clusterOn d s (m .result .head)) (sym (c .before .before .cluster-of .ensures) ∙ c .enum-told .given .1)) (λ xs n k. filter-lacks d s xs k)))
+returns-4 c = let a = c .before .before .before .before .before .before .before .before .before .before .before .before .before .args in let s = a .s .now in let d = a .left - 1 in let m = c .before .before .before .before .before .before .before .before .begin in let L = begun (a .left) (a .e) (m .ensures) in
+    sym (ap filterRead (nest-refused L (only-first _ (L .stopped (c .before .before .before .before .if3 .left) .wanted)) (c .before .before .before .before .if3 .left) (cluster-reads d s) (filterFrom d s) (cluster-lacks (clusterOn d s (m .result .head)) (sym (c .before .before .cluster-of .ensures) ∙ c .enum-told .given .1)) (λ xs n k. filter-lacks d s xs k)))
 
 sub-resume : tie.Need-sub-resume
 sub-resume c = search needs
@@ -62,10 +59,10 @@ resume-requires c κs = search needs
 
 returns-5 : tie.Need-returns-5
 unfolding filterOn
-returns-5 c = let a = c .before .before .before .before .before .before .before .before .before .before .before .before .before .before .before .before .before .before .before .args in let s = a .s .now in let d = a .left - 1 in let m = c .before .before .before .before .before .before .before .before .before .before .before .before .before .before .begin in let g = not-false _ (c .before .before .before .before .before .before .before .before .before .before .before .before .if2 .left) in
+returns-5 c = let a = c .before .before .before .before .before .before .before .before .before .before .before .before .before .before .before .before .before .before .before .args in let s = a .s .now in let d = a .left - 1 in let m = c .before .before .before .before .before .before .before .before .before .before .before .before .before .before .begin in let L = begun (a .left) (a .e) (m .ensures) in
     let w = cluster-has (clusterOn d s (m .result .head)) (sym (c .before .before .before .before .before .before .before .before .cluster-of .ensures) ∙ c .before .before .before .before .before .before .path .given .1) in let z = c .before .before .resume in
-    let on = nest-on structure (a .left) s pairTags (filterFrom d s) (a .e) (m .result) (m .ensures .0) (true ∷ replicate 9 false) (m .ensures .1 .1 .0) 0 (only-first _ (m .ensures .1 .1 .0 (c .before .before .before .before .before .before .before .before .before .before .if3 .left) .wanted)) g (c .before .before .before .before .before .before .before .before .before .before .if3 .left) (cluster-reads d s) w (z .result) (z .ensures .0) in
-    sym (ap filterRead (frame-none structure (a .left) s pairTags (filterFrom d s) (a .e) (z .result) on (not-true _ (c .if4 .taken))))
+    let on = nest-on L (only-first _ (L .stopped (c .before .before .before .before .before .before .before .before .before .before .if3 .left) .wanted)) (c .before .before .before .before .before .before .before .before .before .before .if3 .left) (cluster-reads d s) w _ (z .ensures) in
+    sym (ap filterRead (frame-none (filterFrom d s) on (not-true _ (c .if4 .taken))))
 
 array-read-number-by : tie.Need-array-read-number-by
 array-read-number-by c = search needs
@@ -75,19 +72,19 @@ number-by-requires c κs = search needs
 
 returns-6 : tie.Need-returns-6
 unfolding filterOn
-returns-6 c = let a = c .before .before .before .before .before .before .before .before .before .before .before .before .before .before .before .before .before .before .before .before .before .before .args in let s = a .s .now in let d = a .left - 1 in let m = c .before .before .before .before .before .before .before .before .before .before .before .before .before .before .before .before .before .begin in let g = not-false _ (c .before .before .before .before .before .before .before .before .before .before .before .before .before .before .before .if2 .left) in
+returns-6 c = let a = c .before .before .before .before .before .before .before .before .before .before .before .before .before .before .before .before .before .before .before .before .before .before .args in let s = a .s .now in let d = a .left - 1 in let m = c .before .before .before .before .before .before .before .before .before .before .before .before .before .before .before .before .before .begin in let L = begun (a .left) (a .e) (m .ensures) in
     let w = cluster-has (clusterOn d s (m .result .head)) (sym (c .before .before .before .before .before .before .before .before .before .before .before .cluster-of .ensures) ∙ c .before .before .before .before .before .before .before .before .before .path .given .1) in let z = c .before .before .before .before .before .resume in
-    let on = nest-on structure (a .left) s pairTags (filterFrom d s) (a .e) (m .result) (m .ensures .0) (true ∷ replicate 9 false) (m .ensures .1 .1 .0) 0 (only-first _ (m .ensures .1 .1 .0 (c .before .before .before .before .before .before .before .before .before .before .before .before .before .if3 .left) .wanted)) g (c .before .before .before .before .before .before .before .before .before .before .before .before .before .if3 .left) (cluster-reads d s) w (z .result) (z .ensures .0) in
-    let h = not-false _ (c .before .before .before .if4 .left) in let o = nowhere s (z .result) (z .ensures .1 .1 .0) in let f = nest-found structure (a .left) s pairTags (filterFrom d s) (a .e) (m .result) (m .ensures .0) (true ∷ replicate 9 false) (m .ensures .1 .1 .0) 0 (only-first _ (m .ensures .1 .1 .0 (c .before .before .before .before .before .before .before .before .before .before .before .before .before .if3 .left) .wanted)) g (c .before .before .before .before .before .before .before .before .before .before .before .before .before .if3 .left) (cluster-reads d s) w (z .result) (z .ensures .0) h o in let xs = z .result .at in let ks = z .result .codes in let k = z .ensures .1 .0 in
-    sym (ap filterRead (frame-end structure (a .left) s pairTags (filterFrom d s) (a .e) (z .result) on h o (filter-has d s xs f (number-coded s ks xs k 1 _ _ (omega arith) (c .before .number-by .ensures)) ∙ filter-over _ _ (c .if5 .taken))))
+    let on = nest-on L (only-first _ (L .stopped (c .before .before .before .before .before .before .before .before .before .before .before .before .before .if3 .left) .wanted)) (c .before .before .before .before .before .before .before .before .before .before .before .before .before .if3 .left) (cluster-reads d s) w _ (z .ensures) in
+    let h = not-false _ (c .before .before .before .if4 .left) in let o = nowhere on in let f = nest-found L (only-first _ (L .stopped (c .before .before .before .before .before .before .before .before .before .before .before .before .before .if3 .left) .wanted)) (c .before .before .before .before .before .before .before .before .before .before .before .before .before .if3 .left) (cluster-reads d s) w _ (z .ensures) h in let xs = z .result .at in let ks = z .result .codes in let k = on .coded in
+    sym (ap filterRead (frame-end (filterFrom d s) on h o (filter-has d s xs f (number-coded s ks xs k 1 _ _ (omega arith) (c .before .number-by .ensures)) ∙ filter-over _ _ (c .if5 .taken))))
 
 returns-7 : tie.Need-returns-7
 unfolding filterOn
-returns-7 c = let a = c .before .before .before .before .before .before .before .before .before .before .before .before .before .before .before .before .before .before .before .before .before .before .before .before .args in let s = a .s .now in let d = a .left - 1 in let m = c .before .before .before .before .before .before .before .before .before .before .before .before .before .before .before .before .before .before .before .begin in let g = not-false _ (c .before .before .before .before .before .before .before .before .before .before .before .before .before .before .before .before .before .if2 .left) in
+returns-7 c = let a = c .before .before .before .before .before .before .before .before .before .before .before .before .before .before .before .before .before .before .before .before .before .before .before .before .args in let s = a .s .now in let d = a .left - 1 in let m = c .before .before .before .before .before .before .before .before .before .before .before .before .before .before .before .before .before .before .before .begin in let L = begun (a .left) (a .e) (m .ensures) in
     let w = cluster-has (clusterOn d s (m .result .head)) (sym (c .before .before .before .before .before .before .before .before .before .before .before .before .before .cluster-of .ensures) ∙ c .before .before .before .before .before .before .before .before .before .before .before .path .given .1) in let z = c .before .before .before .before .before .before .before .resume in
-    let on = nest-on structure (a .left) s pairTags (filterFrom d s) (a .e) (m .result) (m .ensures .0) (true ∷ replicate 9 false) (m .ensures .1 .1 .0) 0 (only-first _ (m .ensures .1 .1 .0 (c .before .before .before .before .before .before .before .before .before .before .before .before .before .before .before .if3 .left) .wanted)) g (c .before .before .before .before .before .before .before .before .before .before .before .before .before .before .before .if3 .left) (cluster-reads d s) w (z .result) (z .ensures .0) in
-    let h = not-false _ (c .before .before .before .before .before .if4 .left) in let o = nowhere s (z .result) (z .ensures .1 .1 .0) in let f = nest-found structure (a .left) s pairTags (filterFrom d s) (a .e) (m .result) (m .ensures .0) (true ∷ replicate 9 false) (m .ensures .1 .1 .0) 0 (only-first _ (m .ensures .1 .1 .0 (c .before .before .before .before .before .before .before .before .before .before .before .before .before .before .before .if3 .left) .wanted)) g (c .before .before .before .before .before .before .before .before .before .before .before .before .before .before .before .if3 .left) (cluster-reads d s) w (z .result) (z .ensures .0) h o in let xs = z .result .at in let ks = z .result .codes in let k = z .ensures .1 .0 in
-    sym (ap filterRead (frame-end structure (a .left) s pairTags (filterFrom d s) (a .e) (z .result) on h o (filter-has d s xs f (number-coded s ks xs k 1 _ _ (omega arith) (c .before .before .before .number-by .ensures)) ∙ filter-under _ _ (c .before .before .if5 .left))))
+    let on = nest-on L (only-first _ (L .stopped (c .before .before .before .before .before .before .before .before .before .before .before .before .before .before .before .if3 .left) .wanted)) (c .before .before .before .before .before .before .before .before .before .before .before .before .before .before .before .if3 .left) (cluster-reads d s) w _ (z .ensures) in
+    let h = not-false _ (c .before .before .before .before .before .if4 .left) in let o = nowhere on in let f = nest-found L (only-first _ (L .stopped (c .before .before .before .before .before .before .before .before .before .before .before .before .before .before .before .if3 .left) .wanted)) (c .before .before .before .before .before .before .before .before .before .before .before .before .before .before .before .if3 .left) (cluster-reads d s) w _ (z .ensures) h in let xs = z .result .at in let ks = z .result .codes in let k = on .coded in
+    sym (ap filterRead (frame-end (filterFrom d s) on h o (filter-has d s xs f (number-coded s ks xs k 1 _ _ (omega arith) (c .before .before .before .number-by .ensures)) ∙ filter-under _ _ (c .before .before .if5 .left))))
 
 pub filter-of-spec : {M : Type 1} → statement M
 filter-of-spec =

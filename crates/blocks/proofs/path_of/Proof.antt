@@ -1,10 +1,8 @@
-use mathlib.Core.Path.{refl, sym, ap, _∙_}
+use mathlib.Core.Path.{sym, ap, _∙_}
 use native.Mathlib.Omega.{arith}
 use borrow.Author.Tests.{not-true, not-false}
-use Rattle.tlv.specs.Octet.{list}
-use Rattle.members.proofs.PassLaws.{number-coded, flag-coded, wide-coded, frame-none, frame-end, nowhere}
+use Rattle.members.proofs.PassLaws.{begun, number-coded, flag-coded, wide-coded, frame-none, frame-end, nowhere}
 use Rattle.blocks.specs.Path.{pathOn, pathRead, pathFrom, soundPath}
-use Rattle.blocks.specs.Path.{pathTags}
 use Rattle.blocks.proofs.CodeLaws.{checked-no, checked-yes, path-gathered}
 use borrow.Author.Needs.{needs}
 use Rattle.blocks.proofs.path_of.Statement.{statement}
@@ -15,8 +13,8 @@ begin-requires c κs = search needs
 
 returns : tie.Need-returns
 unfolding pathOn
-returns c = let a = c .before .before .before .before .before .before .args in let s = a .s .now in let m = c .before .before .begin in
-    sym (ap pathRead (frame-none list (a .left) s pathTags (pathFrom s) (a .e) (m .result) (m .ensures .0) (not-true _ (c .if1 .taken))))
+returns c = let a = c .before .before .before .before .before .before .args in let s = a .s .now in let m = c .before .before .begin in let L = begun (a .left) (a .e) (m .ensures) in
+    sym (ap pathRead (frame-none (pathFrom s) L (not-true _ (c .if1 .taken))))
 
 array-read-flag-by : tie.Need-array-read-flag-by
 array-read-flag-by c = search needs
@@ -59,17 +57,17 @@ sound-path-requires c κs = search needs
 
 returns-2 : tie.Need-returns-2
 unfolding pathOn
-returns-2 c = let a = c .before .before .before .before .before .before .before .before .before .before .before .before .before .before .before .args in let s = a .s .now in let m = c .before .before .before .before .before .before .before .before .before .before .before .begin in
-    let xs = m .result .at in let ks = m .result .codes in let k = m .ensures .1 .0 in
+returns-2 c = let a = c .before .before .before .before .before .before .before .before .before .before .before .before .before .before .before .args in let s = a .s .now in let m = c .before .before .before .before .before .before .before .before .before .before .before .begin in let L = begun (a .left) (a .e) (m .ensures) in
+    let xs = m .result .at in let ks = m .result .codes in let k = L .coded in
     let f = path-gathered s xs (record { compress = c .before .before .before .before .before .before .before .flag-by .result; node = c .before .before .before .before .before .before .wide-by .result; endpoint = c .before .before .before .before .before .number-by .result; cluster = c .before .before .before .before .number-by2 .result; attribute = c .before .before .before .number-by3 .result; index = c .before .before .number-by4 .result }) (flag-coded s ks xs k 0 (c .before .before .before .before .before .before .before .flag-by .ensures)) (wide-coded s ks xs k 1 (c .before .before .before .before .before .before .wide-by .ensures)) (number-coded s ks xs k 2 _ _ (omega arith) (c .before .before .before .before .before .number-by .ensures)) (number-coded s ks xs k 3 _ _ (omega arith) (c .before .before .before .before .number-by2 .ensures)) (number-coded s ks xs k 4 _ _ (omega arith) (c .before .before .before .number-by3 .ensures)) (number-coded s ks xs k 5 _ _ (omega arith) (c .before .before .number-by4 .ensures)) ∙ checked-no soundPath _ (sym (c .before .sound-path .ensures) ∙ not-true _ (c .if2 .taken)) in
-    sym (ap pathRead (frame-end list (a .left) s pathTags (pathFrom s) (a .e) (m .result) (m .ensures .0) (not-false _ (c .before .before .before .before .before .before .before .before .before .if1 .left)) (nowhere s (m .result) (m .ensures .1 .1 .0)) f))
+    sym (ap pathRead (frame-end (pathFrom s) L (not-false _ (c .before .before .before .before .before .before .before .before .before .if1 .left)) (nowhere L) f))
 
 returns-3 : tie.Need-returns-3
 unfolding pathOn
-returns-3 c = let a = c .before .before .before .before .before .before .before .before .before .before .before .before .before .before .before .before .before .args in let s = a .s .now in let m = c .before .before .before .before .before .before .before .before .before .before .before .before .before .begin in
-    let xs = m .result .at in let ks = m .result .codes in let k = m .ensures .1 .0 in
+returns-3 c = let a = c .before .before .before .before .before .before .before .before .before .before .before .before .before .before .before .before .before .args in let s = a .s .now in let m = c .before .before .before .before .before .before .before .before .before .before .before .before .before .begin in let L = begun (a .left) (a .e) (m .ensures) in
+    let xs = m .result .at in let ks = m .result .codes in let k = L .coded in
     let f = path-gathered s xs (record { compress = c .before .before .before .before .before .before .before .before .before .flag-by .result; node = c .before .before .before .before .before .before .before .before .wide-by .result; endpoint = c .before .before .before .before .before .before .before .number-by .result; cluster = c .before .before .before .before .before .before .number-by2 .result; attribute = c .before .before .before .before .before .number-by3 .result; index = c .before .before .before .before .number-by4 .result }) (flag-coded s ks xs k 0 (c .before .before .before .before .before .before .before .before .before .flag-by .ensures)) (wide-coded s ks xs k 1 (c .before .before .before .before .before .before .before .before .wide-by .ensures)) (number-coded s ks xs k 2 _ _ (omega arith) (c .before .before .before .before .before .before .before .number-by .ensures)) (number-coded s ks xs k 3 _ _ (omega arith) (c .before .before .before .before .before .before .number-by2 .ensures)) (number-coded s ks xs k 4 _ _ (omega arith) (c .before .before .before .before .before .number-by3 .ensures)) (number-coded s ks xs k 5 _ _ (omega arith) (c .before .before .before .before .number-by4 .ensures)) ∙ checked-yes soundPath _ (sym (c .before .before .before .sound-path .ensures) ∙ not-false _ (c .before .before .if2 .left)) in
-    sym (ap pathRead (frame-end list (a .left) s pathTags (pathFrom s) (a .e) (m .result) (m .ensures .0) (not-false _ (c .before .before .before .before .before .before .before .before .before .before .before .if1 .left)) (nowhere s (m .result) (m .ensures .1 .1 .0)) f))
+    sym (ap pathRead (frame-end (pathFrom s) L (not-false _ (c .before .before .before .before .before .before .before .before .before .before .before .if1 .left)) (nowhere L) f))
 
 pub path-of-spec : {M : Type 1} → statement M
 path-of-spec =

@@ -1,11 +1,11 @@
-use Rattle.interaction.specs.Message.{firstOf}
-use mathlib.Core.Path.{_≡_, refl, sym, ap, _∙_}
+use mathlib.Core.Path.{refl, sym, ap, _∙_}
 use mathlib.Core.Bool.{true}
 use Prim.Native.Nat.{_-_}
 use native.Mathlib.Omega.{arith}
 use lib.ListN.{length}
+use Rattle.interaction.specs.Message.{firstOf}
 use borrow.Author.Needs.{needs}
-use Rattle.interaction.specs.Read.{nowhere, pathsAt, pathsFrom, pathsStruct, pathsRead, askedOn}
+use Rattle.interaction.specs.Read.{nowhere, pathsAt, pathsFrom, pathsEnd, askedOn}
 use Rattle.interaction.proofs.LoopLaws.{map-same, Loop, loop-starts, loop-bad, loop-ends, loop-refuses, loop-nearer, loop-room, loop-goes}
 use Rattle.interaction.proofs.ReadLaws.{asked-reads, asked-none, asked-some}
 use Rattle.interaction.proofs.paths_from.Statement.{statement}
@@ -27,23 +27,22 @@ item-at-requires c κs = search needs
 enum-told : tie.Need-enum-told Inv-loop μ-loop
 enum-told c = search needs
 
-no-paths-requires : tie.Need-no-paths-requires Inv-loop μ-loop
-no-paths-requires c κs = search needs
+no-path-list-requires : tie.Need-no-path-list-requires Inv-loop μ-loop
+no-path-list-requires c κs = search needs
 
 returns : tie.Need-returns Inv-loop μ-loop
 returns c = let a = c .before .before .before .before .before .before .args in let d = a .left in let s = a .s .now in let l = c .before .before .before .before .loop in let g = pathsAt d s (a .c .at) in
-    c .no-paths .ensures ∙ ap pathsRead (sym (loop-bad (λ x. x) 16 nowhere d s (asked-reads d s) g (l .inv) (sym (c .before .before .before .item-at .ensures) ∙ c .before .enum-told .given .1)))
-
-enum-told-2 : tie.Need-enum-told-2 Inv-loop μ-loop
-enum-told-2 c = search needs
-
-returns-2 : tie.Need-returns-2 Inv-loop μ-loop
-returns-2 c = let a = c .before .before .before .before .before .args in let d = a .left in let s = a .s .now in let l = c .before .before .before .loop in let g = pathsAt d s (a .c .at) in
-    let made : record { good = true; count = l .count; kept = l .kept } ≡ pathsStruct (l .inv .list) = λ j. record { good = true; count = l .inv .counted j; kept = (l .inv .kept ∙ ap (firstOf 16 nowhere) (map-same (l .inv .list))) j } in
-    made ∙ ap pathsRead (sym (loop-ends (λ x. x) 16 nowhere d s (asked-reads d s) g (l .inv) (sym (c .before .before .item-at .ensures) ∙ c .enum-told2 .given .1)))
+    c .no-path-list .ensures ∙ ap pathsEnd (sym (loop-bad (λ x. x) 16 nowhere d s (asked-reads d s) g (l .inv) (sym (c .before .before .before .item-at .ensures) ∙ c .before .enum-told .given .1)))
 
 enum-known-item : tie.Need-enum-known-item Inv-loop μ-loop
 enum-known-item c = search needs
+
+returns-2 : tie.Need-returns-2 Inv-loop μ-loop
+returns-2 c = let a = c .before .before .before .before .before .before .args in let d = a .left in let s = a .s .now in let l = c .before .before .before .before .loop in let g = pathsAt d s (a .c .at) in
+    (λ j. record { paths = record { good = true; count = l .inv .counted j; kept = (l .inv .kept ∙ ap (firstOf 16 nowhere) (map-same (l .inv .list))) j }; next = c .before .item .given .0 .0 }) ∙ ap pathsEnd (sym (loop-ends (λ x. x) 16 nowhere d s (asked-reads d s) g (l .inv) (sym (c .before .before .before .item-at .ensures) ∙ c .before .item .given .1)))
+
+enum-known-item-2 : tie.Need-enum-known-item-2 Inv-loop μ-loop
+enum-known-item-2 c = search needs
 
 asked-of-requires : tie.Need-asked-of-requires Inv-loop μ-loop
 asked-of-requires c κs = search needs
@@ -51,30 +50,30 @@ asked-of-requires c κs = search needs
 enum-known-t : tie.Need-enum-known-t Inv-loop μ-loop
 enum-known-t c = search needs
 
-enum-told-3 : tie.Need-enum-told-3 Inv-loop μ-loop
-enum-told-3 c = search needs
+enum-told-2 : tie.Need-enum-told-2 Inv-loop μ-loop
+enum-told-2 c = search needs
 
-no-paths-requires-2 : tie.Need-no-paths-requires-2 Inv-loop μ-loop
-no-paths-requires-2 c κs = search needs
+no-path-list-requires-2 : tie.Need-no-path-list-requires-2 Inv-loop μ-loop
+no-path-list-requires-2 c κs = search needs
 
 returns-3 : tie.Need-returns-3 Inv-loop μ-loop
 returns-3 c = let a = c .before .before .before .before .before .before .before .before .before .before .args in let d = a .left in let s = a .s .now in let l = c .before .before .before .before .before .before .before .before .loop in let g = pathsAt d s (a .c .at) in
-    c .no-paths2 .ensures ∙ ap pathsRead (sym (loop-refuses (λ x. x) 16 nowhere d s (asked-reads d s) g (l .inv) (sym (c .before .before .before .before .before .before .before .item-at .ensures) ∙ c .before .before .before .before .before .item .given .1) (asked-none (askedOn d s _) (sym (c .before .before .before .asked-of .ensures) ∙ c .before .enum-told3 .given .1))))
+    c .no-path-list2 .ensures ∙ ap pathsEnd (sym (loop-refuses (λ x. x) 16 nowhere d s (asked-reads d s) g (l .inv) (sym (c .before .before .before .before .before .before .before .item-at .ensures) ∙ c .before .before .before .before .before .item2 .given .1) (asked-none (askedOn d s _) (sym (c .before .before .before .asked-of .ensures) ∙ c .before .enum-told2 .given .1))))
 
 keep-path-requires : tie.Need-keep-path-requires Inv-loop μ-loop
 keep-path-requires c κs = search needs
 
 add-count : tie.Need-add-count Inv-loop μ-loop
 add-count c = let a = c .before .before .before .before .before .before .before .before .before .before .before .args in let d = a .left in let s = a .s .now in let l = c .before .before .before .before .before .before .before .before .before .loop in let g = pathsAt d s (a .c .at) in
-    let r = loop-room (λ x. x) 16 nowhere d s (asked-reads d s) g (l .inv) (sym (c .before .before .before .before .before .before .before .before .item-at .ensures) ∙ c .before .before .before .before .before .before .item .given .1) (asked-some (askedOn d s _) (sym (c .before .before .before .before .asked-of .ensures) ∙ c .before .before .t .given .1)) in omega arith
+    let r = loop-room (λ x. x) 16 nowhere d s (asked-reads d s) g (l .inv) (sym (c .before .before .before .before .before .before .before .before .item-at .ensures) ∙ c .before .before .before .before .before .before .item2 .given .1) (asked-some (askedOn d s _) (sym (c .before .before .before .before .asked-of .ensures) ∙ c .before .before .t .given .1)) in omega arith
 
 loop-less : tie.Need-loop-less Inv-loop μ-loop
 loop-less c = let a = c .before .before .before .before .before .before .before .before .before .before .before .args in let d = a .left in let s = a .s .now in let l = c .before .before .before .before .before .before .before .before .before .loop in let g = pathsAt d s (a .c .at) in
-    loop-nearer (λ x. x) 16 nowhere d s (asked-reads d s) g (l .inv) (sym (c .before .before .before .before .before .before .before .before .item-at .ensures) ∙ c .before .before .before .before .before .before .item .given .1) (asked-some (askedOn d s _) (sym (c .before .before .before .before .asked-of .ensures) ∙ c .before .before .t .given .1))
+    loop-nearer (λ x. x) 16 nowhere d s (asked-reads d s) g (l .inv) (sym (c .before .before .before .before .before .before .before .before .item-at .ensures) ∙ c .before .before .before .before .before .before .item2 .given .1) (asked-some (askedOn d s _) (sym (c .before .before .before .before .asked-of .ensures) ∙ c .before .before .t .given .1))
 
 loop-again : tie.Need-loop-again Inv-loop μ-loop
 loop-again c = let a = c .before .before .before .before .before .before .before .before .before .before .before .args in let d = a .left in let s = a .s .now in let l = c .before .before .before .before .before .before .before .before .before .loop in let g = pathsAt d s (a .c .at) in
-    loop-goes (λ x. x) 16 nowhere d s (asked-reads d s) g (l .inv) (sym (c .before .before .before .before .before .before .before .before .item-at .ensures) ∙ c .before .before .before .before .before .before .item .given .1) (asked-some (askedOn d s _) (sym (c .before .before .before .before .asked-of .ensures) ∙ c .before .before .t .given .1)) (c .keep-path .ensures)
+    loop-goes (λ x. x) 16 nowhere d s (asked-reads d s) g (l .inv) (sym (c .before .before .before .before .before .before .before .before .item-at .ensures) ∙ c .before .before .before .before .before .before .item2 .given .1) (asked-some (askedOn d s _) (sym (c .before .before .before .before .asked-of .ensures) ∙ c .before .before .t .given .1)) (c .keep-path .ensures)
 
 pub paths-from-spec : {M : Type 1} → statement M
 paths-from-spec =
@@ -85,15 +84,15 @@ paths-from-spec =
     loop-holds
     item-at-requires
     enum-told
-    no-paths-requires
+    no-path-list-requires
     returns
-    enum-told-2
-    returns-2
     enum-known-item
+    returns-2
+    enum-known-item-2
     asked-of-requires
     enum-known-t
-    enum-told-3
-    no-paths-requires-2
+    enum-told-2
+    no-path-list-requires-2
     returns-3
     keep-path-requires
     add-count

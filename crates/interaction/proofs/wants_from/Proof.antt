@@ -1,11 +1,11 @@
-use mathlib.Core.Path.{_≡_, refl, sym, ap, _∙_}
+use mathlib.Core.Path.{refl, sym, ap, _∙_}
 use mathlib.Core.Bool.{true}
 use Prim.Native.Nat.{_-_}
 use native.Mathlib.Omega.{arith}
 use lib.ListN.{length}
 use Rattle.interaction.specs.Message.{firstOf}
 use borrow.Author.Needs.{needs}
-use Rattle.interaction.specs.Read.{unwanted, wantsAt, wantsFrom, wantsStruct, wantsEnd, wantedOn}
+use Rattle.interaction.specs.Read.{unwanted, wantsAt, wantsFrom, wantsEnd, wantedOn}
 use Rattle.interaction.proofs.LoopLaws.{map-same, Loop, loop-starts, loop-bad, loop-ends, loop-refuses, loop-nearer, loop-room, loop-goes}
 use Rattle.interaction.proofs.ReadLaws.{wanted-reads, wanted-none, wanted-some}
 use Rattle.interaction.proofs.wants_from.Statement.{statement}
@@ -27,12 +27,12 @@ item-at-requires c κs = search needs
 enum-told : tie.Need-enum-told Inv-loop μ-loop
 enum-told c = search needs
 
-no-list-requires : tie.Need-no-list-requires Inv-loop μ-loop
-no-list-requires c κs = search needs
+no-want-list-requires : tie.Need-no-want-list-requires Inv-loop μ-loop
+no-want-list-requires c κs = search needs
 
 returns : tie.Need-returns Inv-loop μ-loop
 returns c = let a = c .before .before .before .before .before .before .args in let d = a .left in let s = a .s .now in let l = c .before .before .before .before .loop in let g = wantsAt d s (a .c .at) in
-    c .no-list .ensures ∙ ap wantsEnd (sym (loop-bad (λ x. x) 32 unwanted d s (wanted-reads d s) g (l .inv) (sym (c .before .before .before .item-at .ensures) ∙ c .before .enum-told .given .1)))
+    c .no-want-list .ensures ∙ ap wantsEnd (sym (loop-bad (λ x. x) 32 unwanted d s (wanted-reads d s) g (l .inv) (sym (c .before .before .before .item-at .ensures) ∙ c .before .enum-told .given .1)))
 
 enum-known-item : tie.Need-enum-known-item Inv-loop μ-loop
 enum-known-item c = search needs
@@ -53,12 +53,12 @@ enum-known-t c = search needs
 enum-told-2 : tie.Need-enum-told-2 Inv-loop μ-loop
 enum-told-2 c = search needs
 
-no-list-requires-2 : tie.Need-no-list-requires-2 Inv-loop μ-loop
-no-list-requires-2 c κs = search needs
+no-want-list-requires-2 : tie.Need-no-want-list-requires-2 Inv-loop μ-loop
+no-want-list-requires-2 c κs = search needs
 
 returns-3 : tie.Need-returns-3 Inv-loop μ-loop
 returns-3 c = let a = c .before .before .before .before .before .before .before .before .before .before .args in let d = a .left in let s = a .s .now in let l = c .before .before .before .before .before .before .before .before .loop in let g = wantsAt d s (a .c .at) in
-    c .no-list2 .ensures ∙ ap wantsEnd (sym (loop-refuses (λ x. x) 32 unwanted d s (wanted-reads d s) g (l .inv) (sym (c .before .before .before .before .before .before .before .item-at .ensures) ∙ c .before .before .before .before .before .item2 .given .1) (wanted-none (wantedOn d s _) (sym (c .before .before .before .wanted-at .ensures) ∙ c .before .enum-told2 .given .1))))
+    c .no-want-list2 .ensures ∙ ap wantsEnd (sym (loop-refuses (λ x. x) 32 unwanted d s (wanted-reads d s) g (l .inv) (sym (c .before .before .before .before .before .before .before .item-at .ensures) ∙ c .before .before .before .before .before .item2 .given .1) (wanted-none (wantedOn d s _) (sym (c .before .before .before .wanted-at .ensures) ∙ c .before .enum-told2 .given .1))))
 
 keep-filter-requires : tie.Need-keep-filter-requires Inv-loop μ-loop
 keep-filter-requires c κs = search needs
@@ -84,7 +84,7 @@ wants-from-spec =
     loop-holds
     item-at-requires
     enum-told
-    no-list-requires
+    no-want-list-requires
     returns
     enum-known-item
     returns-2
@@ -92,7 +92,7 @@ wants-from-spec =
     wanted-at-requires
     enum-known-t
     enum-told-2
-    no-list-requires-2
+    no-want-list-requires-2
     returns-3
     keep-filter-requires
     add-count

@@ -2,7 +2,7 @@ use mathlib.Core.Path.{sym, ap, _∙_}
 use borrow.Author.Tests.{not-true, not-false}
 use Rattle.blocks.specs.Status.{answerOn}
 use Rattle.blocks.proofs.OnLaws.{answer-reads}
-use Rattle.interaction_answer.specs.Answered.{oneRead}
+use Rattle.interaction_answer.specs.Answered.{onlyRead}
 use Rattle.interaction_answer.proofs.OneLaws.{answer-lacks, answer-has, one-none, one-ends, one-barred, one-breaks, one-cut, one-there, one-more}
 use borrow.Author.Needs.{needs}
 use Rattle.interaction_answer.proofs.one_from.Statement.{statement}
@@ -22,7 +22,7 @@ returns c =
     let a = c .before .before .before .before .args in
     let s = a .s .now in
     let p = a .c .at in
-    sym (ap oneRead (one-none (a .left) s p (sym (c .before .before .head .ensures) ∙ c .enum-told .given .1)))
+    sym (ap onlyRead (one-none (a .left) s p (sym (c .before .before .head .ensures) ∙ c .enum-told .given .1)))
 
 returns-2 : tie.Need-returns-2
 returns-2 c =
@@ -30,7 +30,7 @@ returns-2 c =
     let s = a .s .now in
     let p = a .c .at in
     let h = sym (c .before .before .before .before .before .head .ensures) ∙ c .before .before .before .e .given .1 in
-    sym (ap oneRead (one-ends (a .left) s p h (c .if1 .taken)))
+    sym (ap onlyRead (one-ends (a .left) s p h (c .if1 .taken)))
 
 allowed-requires : tie.Need-allowed-requires
 allowed-requires c κs = search needs
@@ -42,7 +42,7 @@ returns-3 c =
     let p = a .c .at in
     let h = sym (c .before .before .before .before .before .before .before .head .ensures) ∙ c .before .before .before .before .before .e .given .1 in
     let q = c .before .before .if1 .left in
-    sym (ap oneRead (one-barred (a .left) s p h q (sym (c .before .allowed .ensures) ∙ not-true _ (c .if2 .taken))))
+    sym (ap onlyRead (one-barred (a .left) s p h q (sym (c .before .allowed .ensures) ∙ not-true _ (c .if2 .taken))))
 
 answer-of-requires : tie.Need-answer-of-requires
 answer-of-requires c κs = search needs
@@ -61,7 +61,7 @@ returns-4 c =
     let h = sym (c .before .before .before .before .before .before .before .before .before .before .head .ensures) ∙ c .before .before .before .before .before .before .before .before .e .given .1 in
     let q = c .before .before .before .before .before .if1 .left in
     let b = sym (c .before .before .before .before .allowed .ensures) ∙ not-false _ (c .before .before .before .if2 .left) in
-    sym (ap oneRead (one-breaks (a .left) s p h q b (answer-reads (a .left) s .here p _ h ∙ answer-lacks (answerOn (a .left) s _) (sym (c .before .before .answer-of .ensures) ∙ c .enum-told2 .given .1))))
+    sym (ap onlyRead (one-breaks (a .left) s p h q b (answer-reads (a .left) s .here p _ h ∙ answer-lacks (answerOn (a .left) s _) (sym (c .before .before .answer-of .ensures) ∙ c .enum-told2 .given .1))))
 
 head-requires-2 : tie.Need-head-requires-2
 head-requires-2 c κs = search needs
@@ -81,18 +81,18 @@ returns-5 c =
     let q = c .before .before .before .before .before .before .before .before .before .if1 .left in
     let b = sym (c .before .before .before .before .before .before .before .before .allowed .ensures) ∙ not-false _ (c .before .before .before .before .before .before .before .if2 .left) in
     let w = answer-reads (a .left) s .here p _ h ∙ answer-has (answerOn (a .left) s _) (sym (c .before .before .before .before .before .before .answer-of .ensures) ∙ c .before .before .before .before .x .given .1) in
-    sym (ap oneRead (one-cut (a .left) s p h q b w (sym (c .before .before .head2 .ensures) ∙ c .enum-told3 .given .1)))
+    sym (ap onlyRead (one-cut (a .left) s p h q b w (sym (c .before .before .head2 .ensures) ∙ c .enum-told3 .given .1)))
 
 returns-6 : tie.Need-returns-6
 returns-6 c =
-    let a = c .before .before .before .before .before .before .before .before .before .before .before .before .before .before .before .before .before .before .before .args in
+    let a = c .before .before .before .before .before .before .before .before .before .before .before .before .before .before .before .before .before .before .before .before .args in
     let s = a .s .now in
     let p = a .c .at in
-    let h = sym (c .before .before .before .before .before .before .before .before .before .before .before .before .before .before .before .before .before .head .ensures) ∙ c .before .before .before .before .before .before .before .before .before .before .before .before .before .before .before .e .given .1 in
-    let q = c .before .before .before .before .before .before .before .before .before .before .before .before .if1 .left in
-    let b = sym (c .before .before .before .before .before .before .before .before .before .before .before .allowed .ensures) ∙ not-false _ (c .before .before .before .before .before .before .before .before .before .before .if2 .left) in
-    let w = answer-reads (a .left) s .here p _ h ∙ answer-has (answerOn (a .left) s _) (sym (c .before .before .before .before .before .before .before .before .before .answer-of .ensures) ∙ c .before .before .before .before .before .before .before .x .given .1) in
-    sym (ap oneRead (one-there (a .left) s p h q b w (sym (c .before .before .before .before .before .head2 .ensures) ∙ c .before .before .before .f .given .1) (c .if3 .taken)))
+    let h = sym (c .before .before .before .before .before .before .before .before .before .before .before .before .before .before .before .before .before .before .head .ensures) ∙ c .before .before .before .before .before .before .before .before .before .before .before .before .before .before .before .before .e .given .1 in
+    let q = c .before .before .before .before .before .before .before .before .before .before .before .before .before .if1 .left in
+    let b = sym (c .before .before .before .before .before .before .before .before .before .before .before .before .allowed .ensures) ∙ not-false _ (c .before .before .before .before .before .before .before .before .before .before .before .if2 .left) in
+    let w = answer-reads (a .left) s .here p _ h ∙ answer-has (answerOn (a .left) s _) (sym (c .before .before .before .before .before .before .before .before .before .before .answer-of .ensures) ∙ c .before .before .before .before .before .before .before .before .x .given .1) in
+    sym (ap onlyRead (one-there (a .left) s p h q b w (sym (c .before .before .before .before .before .before .head2 .ensures) ∙ c .before .before .before .before .f .given .1) (c .before .if3 .taken)))
 
 returns-7 : tie.Need-returns-7
 returns-7 c =
@@ -103,7 +103,7 @@ returns-7 c =
     let q = c .before .before .before .before .before .before .before .before .before .before .before .before .if1 .left in
     let b = sym (c .before .before .before .before .before .before .before .before .before .before .before .allowed .ensures) ∙ not-false _ (c .before .before .before .before .before .before .before .before .before .before .if2 .left) in
     let w = answer-reads (a .left) s .here p _ h ∙ answer-has (answerOn (a .left) s _) (sym (c .before .before .before .before .before .before .before .before .before .answer-of .ensures) ∙ c .before .before .before .before .before .before .before .x .given .1) in
-    sym (ap oneRead (one-more (a .left) s p h q b w (sym (c .before .before .before .before .before .head2 .ensures) ∙ c .before .before .before .f .given .1) (c .if3 .left)))
+    sym (ap onlyRead (one-more (a .left) s p h q b w (sym (c .before .before .before .before .before .head2 .ensures) ∙ c .before .before .before .f .given .1) (c .if3 .left)))
 
 pub one-from-spec : {M : Type 1} → statement M
 one-from-spec =

@@ -1,13 +1,12 @@
-use mathlib.Core.Path.{_≡_, refl, sym, ap, _∙_}
+use mathlib.Core.Path.{refl, sym, ap, _∙_}
 use mathlib.Core.Bool.{true}
-use mathlib.Core.List.{List}
 use Prim.Native.Nat.{_-_}
 use native.Mathlib.Omega.{arith}
 use lib.ListN.{length}
 use borrow.Author.Needs.{needs}
 use Rattle.interaction.specs.Message.{keepOf}
 use Rattle.interaction_write.specs.declared.Entry.{Entry}
-use Rattle.interaction_write.specs.Write.{noEntry, entriesAt, entriesFrom, entriesStruct, entriesRead, entryOn, entryStruct}
+use Rattle.interaction_write.specs.Write.{noEntry, entryStruct, entriesAt, entriesFrom, entriesEnd, entryOn}
 use Rattle.interaction.proofs.LoopLaws.{Loop, loop-starts, loop-bad, loop-ends, loop-refuses, loop-nearer, loop-room, loop-goes}
 use Rattle.interaction_write.proofs.EntryLaws.{entry-reads, entry-none, entry-some}
 use Rattle.interaction_write.proofs.entries_from.Statement.{statement}
@@ -29,23 +28,22 @@ item-at-requires c κs = search needs
 enum-told : tie.Need-enum-told Inv-loop μ-loop
 enum-told c = search needs
 
-no-entries-requires : tie.Need-no-entries-requires Inv-loop μ-loop
-no-entries-requires c κs = search needs
+no-list-requires : tie.Need-no-list-requires Inv-loop μ-loop
+no-list-requires c κs = search needs
 
 returns : tie.Need-returns Inv-loop μ-loop
 returns c = let a = c .before .before .before .before .before .before .args in let d = a .left in let s = a .s .now in let l = c .before .before .before .before .loop in let g = entriesAt d s (a .c .at) in
-    c .no-entries .ensures ∙ ap entriesRead (sym (loop-bad entryStruct 16 noEntry d s (entry-reads d s) g (l .inv) (sym (c .before .before .before .item-at .ensures) ∙ c .before .enum-told .given .1)))
-
-enum-told-2 : tie.Need-enum-told-2 Inv-loop μ-loop
-enum-told-2 c = search needs
-
-returns-2 : tie.Need-returns-2 Inv-loop μ-loop
-returns-2 c = let a = c .before .before .before .before .before .args in let d = a .left in let s = a .s .now in let l = c .before .before .before .loop in let g = entriesAt d s (a .c .at) in
-    let made : record { good = true; count = l .count; kept = l .kept } ≡ entriesStruct (l .inv .list) = λ j. record { good = true; count = l .inv .counted j; kept = l .inv .kept j } in
-    made ∙ ap entriesRead (sym (loop-ends entryStruct 16 noEntry d s (entry-reads d s) g (l .inv) (sym (c .before .before .item-at .ensures) ∙ c .enum-told2 .given .1)))
+    c .no-list .ensures ∙ ap entriesEnd (sym (loop-bad entryStruct 16 noEntry d s (entry-reads d s) g (l .inv) (sym (c .before .before .before .item-at .ensures) ∙ c .before .enum-told .given .1)))
 
 enum-known-item : tie.Need-enum-known-item Inv-loop μ-loop
 enum-known-item c = search needs
+
+returns-2 : tie.Need-returns-2 Inv-loop μ-loop
+returns-2 c = let a = c .before .before .before .before .before .before .args in let d = a .left in let s = a .s .now in let l = c .before .before .before .before .loop in let g = entriesAt d s (a .c .at) in
+    (λ j. record { entries = record { good = true; count = l .inv .counted j; kept = l .inv .kept j }; next = c .before .item .given .0 .0 }) ∙ ap entriesEnd (sym (loop-ends entryStruct 16 noEntry d s (entry-reads d s) g (l .inv) (sym (c .before .before .before .item-at .ensures) ∙ c .before .item .given .1)))
+
+enum-known-item-2 : tie.Need-enum-known-item-2 Inv-loop μ-loop
+enum-known-item-2 c = search needs
 
 entry-at-requires : tie.Need-entry-at-requires Inv-loop μ-loop
 entry-at-requires c κs = search needs
@@ -53,30 +51,30 @@ entry-at-requires c κs = search needs
 enum-known-t : tie.Need-enum-known-t Inv-loop μ-loop
 enum-known-t c = search needs
 
-enum-told-3 : tie.Need-enum-told-3 Inv-loop μ-loop
-enum-told-3 c = search needs
+enum-told-2 : tie.Need-enum-told-2 Inv-loop μ-loop
+enum-told-2 c = search needs
 
-no-entries-requires-2 : tie.Need-no-entries-requires-2 Inv-loop μ-loop
-no-entries-requires-2 c κs = search needs
+no-list-requires-2 : tie.Need-no-list-requires-2 Inv-loop μ-loop
+no-list-requires-2 c κs = search needs
 
 returns-3 : tie.Need-returns-3 Inv-loop μ-loop
 returns-3 c = let a = c .before .before .before .before .before .before .before .before .before .before .args in let d = a .left in let s = a .s .now in let l = c .before .before .before .before .before .before .before .before .loop in let g = entriesAt d s (a .c .at) in
-    c .no-entries2 .ensures ∙ ap entriesRead (sym (loop-refuses entryStruct 16 noEntry d s (entry-reads d s) g (l .inv) (sym (c .before .before .before .before .before .before .before .item-at .ensures) ∙ c .before .before .before .before .before .item .given .1) (entry-none (entryOn d s _) (sym (c .before .before .before .entry-at .ensures) ∙ c .before .enum-told3 .given .1))))
+    c .no-list2 .ensures ∙ ap entriesEnd (sym (loop-refuses entryStruct 16 noEntry d s (entry-reads d s) g (l .inv) (sym (c .before .before .before .before .before .before .before .item-at .ensures) ∙ c .before .before .before .before .before .item2 .given .1) (entry-none (entryOn d s _) (sym (c .before .before .before .entry-at .ensures) ∙ c .before .enum-told2 .given .1))))
 
 keep-entry-requires : tie.Need-keep-entry-requires Inv-loop μ-loop
 keep-entry-requires c κs = search needs
 
 add-count : tie.Need-add-count Inv-loop μ-loop
 add-count c = let a = c .before .before .before .before .before .before .before .before .before .before .before .args in let d = a .left in let s = a .s .now in let l = c .before .before .before .before .before .before .before .before .before .loop in let g = entriesAt d s (a .c .at) in let x = entry-some (entryOn d s _) (sym (c .before .before .before .before .entry-at .ensures) ∙ c .before .before .t .given .1) in
-    let r = loop-room entryStruct 16 noEntry d s (entry-reads d s) g (l .inv) (sym (c .before .before .before .before .before .before .before .before .item-at .ensures) ∙ c .before .before .before .before .before .before .item .given .1) (x .found) in omega arith
+    let r = loop-room entryStruct 16 noEntry d s (entry-reads d s) g (l .inv) (sym (c .before .before .before .before .before .before .before .before .item-at .ensures) ∙ c .before .before .before .before .before .before .item2 .given .1) (x .found) in omega arith
 
 loop-less : tie.Need-loop-less Inv-loop μ-loop
 loop-less c = let a = c .before .before .before .before .before .before .before .before .before .before .before .args in let d = a .left in let s = a .s .now in let l = c .before .before .before .before .before .before .before .before .before .loop in let g = entriesAt d s (a .c .at) in let x = entry-some (entryOn d s _) (sym (c .before .before .before .before .entry-at .ensures) ∙ c .before .before .t .given .1) in
-    loop-nearer entryStruct 16 noEntry d s (entry-reads d s) g (l .inv) (sym (c .before .before .before .before .before .before .before .before .item-at .ensures) ∙ c .before .before .before .before .before .before .item .given .1) (x .found)
+    loop-nearer entryStruct 16 noEntry d s (entry-reads d s) g (l .inv) (sym (c .before .before .before .before .before .before .before .before .item-at .ensures) ∙ c .before .before .before .before .before .before .item2 .given .1) (x .found)
 
 loop-again : tie.Need-loop-again Inv-loop μ-loop
 loop-again c = let a = c .before .before .before .before .before .before .before .before .before .before .before .args in let d = a .left in let s = a .s .now in let l = c .before .before .before .before .before .before .before .before .before .loop in let g = entriesAt d s (a .c .at) in let x = entry-some (entryOn d s _) (sym (c .before .before .before .before .entry-at .ensures) ∙ c .before .before .t .given .1) in
-    loop-goes entryStruct 16 noEntry d s (entry-reads d s) g (l .inv) (sym (c .before .before .before .before .before .before .before .before .item-at .ensures) ∙ c .before .before .before .before .before .before .item .given .1) (x .found) (c .keep-entry .ensures ∙ ap (λ (y : Entry). keepOf 16 (l .kept) (l .count) y) (x .is))
+    loop-goes entryStruct 16 noEntry d s (entry-reads d s) g (l .inv) (sym (c .before .before .before .before .before .before .before .before .item-at .ensures) ∙ c .before .before .before .before .before .before .item2 .given .1) (x .found) (c .keep-entry .ensures ∙ ap (λ (y : Entry). keepOf 16 (l .kept) (l .count) y) (x .is))
 
 pub entries-from-spec : {M : Type 1} → statement M
 entries-from-spec =
@@ -87,15 +85,15 @@ entries-from-spec =
     loop-holds
     item-at-requires
     enum-told
-    no-entries-requires
+    no-list-requires
     returns
-    enum-told-2
-    returns-2
     enum-known-item
+    returns-2
+    enum-known-item-2
     entry-at-requires
     enum-known-t
-    enum-told-3
-    no-entries-requires-2
+    enum-told-2
+    no-list-requires-2
     returns-3
     keep-entry-requires
     add-count

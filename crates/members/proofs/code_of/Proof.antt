@@ -3,8 +3,6 @@ use Rattle.members.specs.Pass.{codeOf}
 use borrow.Author.Needs.{needs}
 use Rattle.members.proofs.code_of.Statement.{statement}
 use Rattle.members.proofs.code_of.Tie as tie
-use Rattle.members.proofs.code_of.Reads as reads
-use Rattle.members.proofs.code_of.Lts as lts
 
 -- src/lib.rt:226:9
 returns : tie.Need-returns

@@ -2,8 +2,6 @@ use borrow.Author.Tests.{eq-eqb, ne-eqb}
 use Rattle.members.specs.Pass.{flagBy}
 use Rattle.members.proofs.flag_by.Statement.{statement}
 use Rattle.members.proofs.flag_by.Tie as tie
-use Rattle.members.proofs.flag_by.Reads as reads
-use Rattle.members.proofs.flag_by.Lts as lts
 
 -- src/lib.rt:345:9
 returns : tie.Need-returns

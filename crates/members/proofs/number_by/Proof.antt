@@ -3,8 +3,6 @@ use Rattle.members.specs.Pass.{numberBy}
 use borrow.Author.Needs.{needs}
 use Rattle.members.proofs.number_by.Statement.{statement}
 use Rattle.members.proofs.number_by.Tie as tie
-use Rattle.members.proofs.number_by.Reads as reads
-use Rattle.members.proofs.number_by.Lts as lts
 
 -- src/lib.rt:323:19
 sub-if2 : tie.Need-sub-if2

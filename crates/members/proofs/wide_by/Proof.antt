@@ -2,8 +2,6 @@ use borrow.Author.Tests.{eq-eqb, ne-eqb, lt-ltb, le-ltb}
 use Rattle.members.specs.Pass.{wideBy}
 use Rattle.members.proofs.wide_by.Statement.{statement}
 use Rattle.members.proofs.wide_by.Tie as tie
-use Rattle.members.proofs.wide_by.Reads as reads
-use Rattle.members.proofs.wide_by.Lts as lts
 
 -- src/lib.rt:361:9
 returns : tie.Need-returns
