@@ -1,9 +1,23 @@
 //! The functions of the static libraries, as C sees them: a slice is its address and its length.
 
-pub const WORDS: usize = 1348;
 pub const ATTRIBUTES: usize = 256;
 pub const CLUSTERS: usize = 32;
 pub const TEXT_SIZE: usize = 200;
+
+// The schema's words (crates/schema/src/lib.rt): a header, then columns.
+pub const CLUSTER_COUNT_WORD: usize = 0;
+pub const ATTRIBUTE_COUNT_WORD: usize = 1;
+pub const SUBJECT_WORD: usize = 2;
+pub const SPARE: usize = 3;
+pub const PATH: usize = 16;
+pub const VERSION: usize = PATH + CLUSTERS;
+pub const KEY: usize = VERSION + CLUSTERS;
+pub const TRAITS: usize = KEY + ATTRIBUTES;
+pub const LOW: usize = TRAITS + ATTRIBUTES;
+pub const HIGH: usize = LOW + ATTRIBUTES;
+pub const FIRST: usize = HIGH + ATTRIBUTES;
+pub const WORDS: usize = FIRST + ATTRIBUTES;
+
 pub const PAYLOAD: usize = 1024;
 pub const MESSAGE: usize = 1032;
 

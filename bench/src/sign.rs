@@ -5,23 +5,15 @@ use std::cell::RefCell;
 use reference::paths::Path;
 
 use crate::library::{
-    sign_part, sign_run, sign_valid, Last, Part, ATTRIBUTES, CLUSTERS, MESSAGE, PAYLOAD, TEXT_SIZE,
-    WORDS,
+    sign_part, sign_run, sign_valid, Last, Part, ATTRIBUTES, ATTRIBUTE_COUNT_WORD, CLUSTERS,
+    CLUSTER_COUNT_WORD, FIRST, HIGH, KEY, LOW, MESSAGE, PATH, PAYLOAD, SPARE, SUBJECT_WORD,
+    TEXT_SIZE, TRAITS, VERSION, WORDS,
 };
 use crate::messages::Messages;
 
 pub const SUBJECT: u64 = 1;
 pub const ATTRIBUTES_EACH: usize = 8;
 pub const FIRST_VERSION: u32 = 0x1000_0000;
-
-// Where the columns of the schema start (crates/schema/src/lib.rt).
-const PATH: usize = 4;
-const VERSION: usize = PATH + CLUSTERS;
-const KEY: usize = VERSION + CLUSTERS;
-const TRAITS: usize = KEY + ATTRIBUTES;
-const LOW: usize = TRAITS + ATTRIBUTES;
-const HIGH: usize = LOW + ATTRIBUTES;
-const FIRST: usize = HIGH + ATTRIBUTES;
 
 /// One attribute: its kind, limits and first value.
 pub enum Kind {
@@ -66,9 +58,9 @@ impl Sign {
             defaults: Vec::new(),
             edits: RefCell::new(Vec::new()),
         };
-        sign.schema[0] = (kinds.len() / ATTRIBUTES_EACH) as u64;
-        sign.schema[1] = kinds.len() as u64;
-        sign.schema[2] = SUBJECT;
+        sign.schema[CLUSTER_COUNT_WORD] = (kinds.len() / ATTRIBUTES_EACH) as u64;
+        sign.schema[ATTRIBUTE_COUNT_WORD] = kinds.len() as u64;
+        sign.schema[SUBJECT_WORD] = SUBJECT;
         for k in 0..kinds.len() / ATTRIBUTES_EACH {
             let place = path(k * ATTRIBUTES_EACH);
             sign.schema[PATH + k] = u64::from(place.endpoint) << 32 | u64::from(place.cluster);
@@ -130,7 +122,7 @@ impl Sign {
 
     /// The schema is broken where it is looked at first: every call is refused at once.
     pub fn break_first(&mut self) {
-        self.schema[3] = 1;
+        self.schema[SPARE] = 1;
     }
 
     /// The test of refusal 2: whether schema, values and pages keep the rules.

@@ -2,11 +2,11 @@
 use mathlib.Core.Path.{_≡_, refl}
 use mathlib.Core.List.{List, [], _∷_, _++_}
 use Prim.Native.Nat.{ℕ, _+_, _*_, _-_, _^_}
-use lib.ListN.{replicate}
 use lib.Ieee.{ofBits, le}
 use Rattle.utf8.specs.WellFormed.{wellFormed, completes, trailing, after, table, within}
 use Rattle.kinds.specs.Float.{rangeOk}
-use Rattle.schema.specs.Rows.{rowsFrom}
+use Rattle.schema.specs.Layout.{headerSize, clusterLimit, attributeLimit}
+use Rattle.schema.specs.Rows.{column, rowsFrom}
 use Rattle.schema.specs.Check as Schema
 use Rattle.schema.specs.Check.{every, count, rises, changes}
 use Rattle.node.specs.Check.{floatRight, numberRight, factoryRight, textRight, numbersRight, textsRight, accepted, checked}
@@ -14,9 +14,12 @@ use Rattle.node.specs.Check.{floatRight, numberRight, factoryRight, text
 -- endpoint 1, cluster 6 at version 5, attribute 0, of this kind, lowest, highest and first word
 abbrev one : ℕ → ℕ → ℕ → ℕ → List ℕ
 one kind low high first =
-    1 ∷ 1 ∷ 7 ∷ 0 ∷ (2 ^ 32 + 6) ∷
-    (replicate 31 0 ++ (5 ∷ (replicate (31 + 256) 0 ++ ((kind + 2 ^ 16 + 2 ^ 24 * 3) ∷
-    (replicate 255 0 ++ (low ∷ (replicate 255 0 ++ (high ∷ (replicate 255 0 ++ (first ∷ []))))))))))
+    column headerSize (1 ∷ 1 ∷ 7 ∷ [])
+    ++ (column clusterLimit ((2 ^ 32 + 6) ∷ [])
+    ++ (column clusterLimit (5 ∷ [])
+    ++ (column attributeLimit []
+    ++ (column attributeLimit ((kind + 2 ^ 16 + 2 ^ 24 * 3) ∷ [])
+    ++ (column attributeLimit (low ∷ []) ++ (column attributeLimit (high ∷ []) ++ column attributeLimit (first ∷ [])))))))
 
 -- a boolean: true, and 2; unsigned to 10: 10, and 11; signed from -1 to 1: 0, and 2; a float from 0.0 to 100.0: 100.0, and the next float
 numbers :

@@ -3,17 +3,18 @@ use mathlib.Core.Path.{_≡_}
 use mathlib.Core.Bool.{true}
 use mathlib.Core.List.{List}
 use Prim.Native.Nat.{ℕ, _*_, _^_, _≤_, _<_}
-use borrow.Author.Tests.{leb-true, le-leb, eqb-true, eq-eqb, ltb-true, lt-ltb}
-use lib.Dec.{eqb, ltb, leb}
+use native.Mathlib.Omega.{arith}
+use borrow.Author.Tests.{leb-true, le-leb, ltb-true, lt-ltb}
+use lib.Dec.{ltb, leb}
 use lib.ListN.{getD}
-use Rattle.schema.specs.Layout.{endpointLimit, clusterLimit, attributeLimit, clusterCountWord, attributeCountWord, spareWord, pathColumn, versionColumn, keyColumn, traitsColumn, half}
+use Rattle.schema.specs.Layout.{endpointLimit, clusterLimit, attributeLimit, clusterCountWord, attributeCountWord, spareColumn, spareCount, pathColumn, versionColumn, keyColumn, traitsColumn, half}
 use Rattle.schema.specs.Rows.{word, clusterCount, attributeCount}
 use Rattle.schema.specs.Check.{rises, allBelow, endpointChanges, traitsRight, allTraits, rankRight, allRanks, clustersRight, attributesRight, columnsRight, wellFormed}
 use Rattle.schema.proofs.BoolLaws.{both, left, right}
 use Rattle.schema.proofs.CheckLaws.{every-at, every-all, rises-below, rises-order, rises-all}
 
 pub record ByIndex (w : List ℕ) : Type 0 where
-  pub spare : getD w spareWord 0 ≡ 0
+  pub spare : (i : ℕ) → i < spareCount → word w spareColumn i ≡ 0
   pub clusterNumber : getD w clusterCountWord 0 ≤ clusterLimit
   pub attributeNumber : getD w attributeCountWord 0 ≤ attributeLimit
   pub pathBelow : (i : ℕ) → i < clusterCount w → word w pathColumn i < 2 ^ 48
@@ -38,13 +39,13 @@ module _ (w : List ℕ) where
   unfolding wellFormed
   to-index h =
       let h0 = left (columnsRight w) (allRanks w (attributeCount w)) h in
-      let h1 = right (eqb (getD w spareWord 0) 0) _ h0 in
+      let h1 = right (allBelow w spareColumn spareCount 1) _ h0 in
       let h2 = right (leb (getD w clusterCountWord 0) clusterLimit) _ h1 in
       let h3 = right (leb (getD w attributeCountWord 0) attributeLimit) _ h2 in
       let cs = clusters-index (left _ _ h3) in
       let bs = attributes-index (right (clustersRight w (clusterCount w)) _ h3) in
       record {
-        spare = eqb-true _ _ (left _ _ h0);
+        spare = λ i l. omega (arith, ltb-true (word w spareColumn i) 1 (every-at (λ k. ltb (word w spareColumn k) 1) spareCount (left _ _ h0) i l));
         clusterNumber = leb-true _ _ (left _ _ h1);
         attributeNumber = leb-true _ _ (left _ _ h2);
         pathBelow = rises-below w pathColumn (clusterCount w) (2 ^ 48) (cs .0);
@@ -61,7 +62,7 @@ module _ (w : List ℕ) where
   unfolding wellFormed
   from-index x =
       both _ _
-      (both _ _ (eq-eqb _ _ (x .spare))
+      (both _ _ (every-all (λ k. ltb (word w spareColumn k) 1) spareCount (λ i l. lt-ltb (word w spareColumn i) 1 (omega (arith, x .spare i l))))
       (both _ _ (le-leb _ _ (x .clusterNumber))
       (both _ _ (le-leb _ _ (x .attributeNumber))
       (both _ _

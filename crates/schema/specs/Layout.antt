@@ -1,5 +1,5 @@
 -- The limits, and where the schema's words lie. The code has constants of the same names; the contracts hold the two together.
-use Prim.Native.Nat.{ℕ, _+_, _^_}
+use Prim.Native.Nat.{ℕ, _+_, _-_, _^_}
 
 -- document 01, A sign's plan: "At most 8 endpoints, 32 clusters, 256 attributes"
 abbrev pub endpointLimit : ℕ
@@ -32,12 +32,19 @@ attributeCountWord = 1
 abbrev pub subjectWord : ℕ
 subjectWord = 2
 
-abbrev pub spareWord : ℕ
-spareWord = 3
+-- the header has 16 words; those from spareColumn on are for later use
+abbrev pub headerSize : ℕ
+headerSize = 16
 
--- where each column starts
+abbrev pub spareColumn : ℕ
+spareColumn = 3
+
+abbrev pub spareCount : ℕ
+spareCount = headerSize - spareColumn
+
+-- where each column starts: behind the header, a new one behind the last
 abbrev pub pathColumn : ℕ
-pathColumn = 4
+pathColumn = headerSize
 
 abbrev pub versionColumn : ℕ
 versionColumn = pathColumn + clusterLimit

@@ -3,12 +3,16 @@ use Prim.Native.Nat.{ℕ, zero, suc, _+_, _-_, _/_, _%_, _^_, min}
 use mathlib.Core.List.{List, [], _∷_, _++_}
 use mathlib.Core.Bool.{Bool}
 use lib.Dec.{eqb}
-use lib.ListN.{getD, replicate}
+use lib.ListN.{getD, length, replicate}
 use Rattle.schema.specs.Layout.{clusterLimit, attributeLimit, clusterCountWord, attributeCountWord, pathColumn, versionColumn, keyColumn, traitsColumn, lowColumn, highColumn, firstColumn, half, textKind}
 
 -- word i of a column
 abbrev pub word : List ℕ → ℕ → ℕ → ℕ
 word w column i = getD w (column + i) 0
+
+-- a column of n words that starts with these, filled up with 0: how a schema is laid out as words
+abbrev pub column : ℕ → List ℕ → List ℕ
+column n l = l ++ replicate (n - length l) 0
 
 -- a cluster on an endpoint, with the data version that it starts with
 pub record ClusterRow : Type 0 where

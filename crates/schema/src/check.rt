@@ -16,7 +16,8 @@ use super::KEY;
 use super::NULLABLE_PART;
 use super::PATH;
 use super::READ_PART;
-use super::SPARE_WORD;
+use super::SPARE;
+use super::SPARES;
 use super::TEXT;
 use super::TRAITS;
 use super::VERSION;
@@ -170,7 +171,7 @@ fn attributes_right(w: &[u64; WORDS], n: usize, m: usize) -> bool
 pub fn columns_right(w: &[u64; WORDS]) -> bool
     ensures { λ r. ⌜ r ≡ columnsRight (now (w .entry)) ⌝ }
 {
-    if w[SPARE_WORD] != 0 {
+    if !all_below(w, SPARE, SPARES, 1) {
         return false;
     }
     if w[CLUSTER_COUNT_WORD] > CLUSTERS as u64 {

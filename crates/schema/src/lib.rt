@@ -27,10 +27,15 @@ pub const ATTRIBUTE_COUNT_WORD: usize = 1;
 
 pub const SUBJECT_WORD: usize = 2;
 
-pub const SPARE_WORD: usize = 3;
+// The header has 16 words; those from SPARE on are for later use.
+pub const HEADER: usize = 16;
 
-// Where each column starts. A new column is one line here and one in specs/Layout.antt.
-pub const PATH: usize = 4;
+pub const SPARE: usize = 3;
+
+pub const SPARES: usize = HEADER - SPARE;
+
+// Where each column starts. A new column comes behind the last: one line here and one in specs/Layout.antt.
+pub const PATH: usize = HEADER;
 
 pub const VERSION: usize = PATH + CLUSTERS;
 
