@@ -2,6 +2,7 @@
 
 pub const ATTRIBUTES: usize = 256;
 pub const CLUSTERS: usize = 32;
+pub const TEXTS: usize = 256;
 pub const TEXT_SIZE: usize = 200;
 
 // The schema's words (crates/schema/src/lib.rt): a header, then columns.
@@ -16,7 +17,8 @@ pub const TRAITS: usize = KEY + ATTRIBUTES;
 pub const LOW: usize = TRAITS + ATTRIBUTES;
 pub const HIGH: usize = LOW + ATTRIBUTES;
 pub const FIRST: usize = HIGH + ATTRIBUTES;
-pub const WORDS: usize = FIRST + ATTRIBUTES;
+pub const FACTORY: usize = FIRST + ATTRIBUTES;
+pub const WORDS: usize = FACTORY + TEXTS;
 
 pub const PAYLOAD: usize = 1024;
 pub const MESSAGE: usize = 1032;

@@ -6,8 +6,8 @@ use reference::paths::Path;
 
 use crate::library::{
     sign_part, sign_run, sign_valid, Last, Part, ATTRIBUTES, ATTRIBUTE_COUNT_WORD, CLUSTERS,
-    CLUSTER_COUNT_WORD, FIRST, HIGH, KEY, LOW, MESSAGE, PATH, PAYLOAD, SPARE, SUBJECT_WORD,
-    TEXT_SIZE, TRAITS, VERSION, WORDS,
+    CLUSTER_COUNT_WORD, FACTORY, FIRST, HIGH, KEY, LOW, MESSAGE, PATH, PAYLOAD, SPARE,
+    SUBJECT_WORD, TEXT_SIZE, TRAITS, VERSION, WORDS,
 };
 use crate::messages::Messages;
 
@@ -88,7 +88,8 @@ impl Sign {
                 let edits = self.edits.get_mut();
                 let rank = edits.len() / TEXT_SIZE;
                 edits.resize(edits.len() + TEXT_SIZE, 0);
-                (4, start, text.len() as u64, rank as u64)
+                self.schema[FACTORY + rank] = start << 32 | text.len() as u64;
+                (4, 0, 0, rank as u64)
             }
         };
         let w = &mut self.schema;
@@ -98,16 +99,20 @@ impl Sign {
         w[LOW + i] = low;
         w[HIGH + i] = high;
         w[FIRST + i] = first;
-        self.words[i] = if code == 4 { high } else { first };
+        self.words[i] = match kind {
+            Kind::Text(text) => text.len() as u64,
+            _ => first,
+        };
     }
 
     /// Every text changed once: shown from the page of edits from then on.
     pub fn edit_all(&mut self) {
         for i in 0..ATTRIBUTES {
             if self.schema[TRAITS + i] % 256 == 4 {
-                let start = self.schema[LOW + i] as usize;
-                let len = self.schema[HIGH + i] as usize;
-                let place = TEXT_SIZE * self.schema[FIRST + i] as usize;
+                let rank = self.schema[FIRST + i] as usize;
+                let start = (self.schema[FACTORY + rank] >> 32) as usize;
+                let len = self.schema[FACTORY + rank] as u32 as usize;
+                let place = TEXT_SIZE * rank;
                 self.edits.get_mut()[place..place + len]
                     .copy_from_slice(&self.defaults[start..start + len]);
                 self.edited[i] = true;

@@ -4,7 +4,7 @@ use mathlib.Core.List.{List, [], _∷_}
 use Prim.Native.Nat.{ℕ, zero, suc, _+_, _*_, _/_, _%_, _^_}
 use lib.Dec.{eqb, ltb, leb}
 use lib.ListN.{getD}
-use Rattle.schema.specs.Layout.{endpointLimit, clusterLimit, attributeLimit, clusterCountWord, attributeCountWord, spareColumn, spareCount, pathColumn, versionColumn, keyColumn, traitsColumn, half, textKind, administer}
+use Rattle.schema.specs.Layout.{endpointLimit, clusterLimit, attributeLimit, textLimit, clusterCountWord, attributeCountWord, spareColumn, spareCount, pathColumn, versionColumn, keyColumn, traitsColumn, half, textKind, administer}
 use Rattle.schema.specs.Rows.{word, clusterRow, attributeRow, clusterCount, attributeCount, isText, rowsFrom}
 
 -- p holds at each index below n
@@ -76,8 +76,12 @@ columnsRight w =
     && (leb (getD w attributeCountWord 0) attributeLimit
     && (clustersRight w (clusterCount w) && attributesRight w (clusterCount w) (attributeCount w))))
 
+-- the ranks of the first n attributes, and how many of them are texts
+abbrev pub ranked : List ℕ → ℕ → Bool
+ranked w n = allRanks w n && leb (rank w n) textLimit
+
 abbrev pub ranksRight : List ℕ → Bool
-ranksRight w = allRanks w (attributeCount w)
+ranksRight w = ranked w (attributeCount w)
 
 unfoldable pub wellFormed : List ℕ → Bool
 wellFormed w = columnsRight w && ranksRight w

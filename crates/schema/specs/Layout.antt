@@ -15,6 +15,10 @@ attributeLimit = 256
 abbrev pub textSize : ℕ
 textSize = 200
 
+-- how many texts a schema may have: as many as attributes, so that document 01 is not narrowed
+abbrev pub textLimit : ℕ
+textLimit = 256
+
 -- the last of the five kinds, which is text, and the highest of the four privileges
 abbrev pub textKind : ℕ
 textKind = 4
@@ -64,9 +68,13 @@ highColumn = lowColumn + attributeLimit
 abbrev pub firstColumn : ℕ
 firstColumn = highColumn + attributeLimit
 
-abbrev pub wordCount : ℕ
-wordCount = firstColumn + attributeLimit
+-- the factory texts, by rank
+abbrev pub factoryColumn : ℕ
+factoryColumn = firstColumn + attributeLimit
 
--- a path (endpoint, cluster) and a key (index of the cluster's row, attribute) are two halves of 32 bits
+abbrev pub wordCount : ℕ
+wordCount = factoryColumn + textLimit
+
+-- a path (endpoint, cluster), a key (index of the cluster's row, attribute) and a factory text (start, length) are two halves of 32 bits
 abbrev pub half : ℕ
 half = 2 ^ 32

@@ -3,7 +3,7 @@ use mathlib.Core.Bool.{true, false}
 use mathlib.Core.List.{List, [], _∷_, _++_}
 use Prim.Native.Nat.{ℕ, _+_, _*_, _-_, _^_}
 use lib.ListN.{replicate}
-use Rattle.schema.specs.Layout.{headerSize, clusterLimit, attributeLimit, half, textSize}
+use Rattle.schema.specs.Layout.{headerSize, clusterLimit, attributeLimit, half, textLimit, textSize}
 use Rattle.schema.specs.Rows.{column}
 use Rattle.acl.specs.declared.Entry.{Entry}
 use Rattle.values.specs.Fresh.{freshValues}
@@ -17,6 +17,10 @@ traits kind = kind + 1 * 2 ^ 16 + 2 * 2 ^ 24
 -- attribute `id` of the cluster at a place of the list of clusters
 abbrev key : ℕ → ℕ → ℕ
 key place id = place * half + id
+
+-- the factory text of a rank
+abbrev factory : ℕ → ℕ → ℕ
+factory start len = start * half + len
 
 -- a negative number of 64 bits
 abbrev minus : ℕ → ℕ
@@ -32,8 +36,9 @@ words =
     ++ (column attributeLimit (key 0 0 ∷ key 0 1 ∷ key 0 0xFFFD ∷ key 1 0 ∷ key 1 1 ∷ key 1 0xFFFD ∷ [])
     ++ (column attributeLimit (traits 0 ∷ traits 2 ∷ traits 1 ∷ traits 3 ∷ traits 4 ∷ traits 1 ∷ [])
     ++ (column attributeLimit (0 ∷ minus 1000 ∷ 0 ∷ 0 ∷ 0 ∷ 0 ∷ [])
-    ++ (column attributeLimit (0 ∷ 1000 ∷ 0xFFFF ∷ 0x42C8_0000 ∷ 6 ∷ 0xFFFF ∷ [])
-    ++ column attributeLimit (1 ∷ minus 128 ∷ 4 ∷ 0 ∷ 0 ∷ 6 ∷ [])))))))
+    ++ (column attributeLimit (0 ∷ 1000 ∷ 0xFFFF ∷ 0x42C8_0000 ∷ 0 ∷ 0xFFFF ∷ [])
+    ++ (column attributeLimit (1 ∷ minus 128 ∷ 4 ∷ 0 ∷ 0 ∷ 6 ∷ [])
+    ++ column textLimit (factory 0 6 ∷ []))))))))
 
 -- the factory text "BORROW"
 unfoldable pub defaults : List ℕ

@@ -13,6 +13,7 @@ use kinds::TEXT_MAX;
 use node::held::limits_hold;
 use schema::ATTRIBUTES;
 use schema::TEXT_SIZE;
+use schema::TEXTS;
 use schema::WORDS;
 
 // What the texts of a schema take at most: a longer page is not looked at as a whole.
@@ -142,7 +143,13 @@ pub fn all_quick<'a>(
             if schema::first_value(w, i) != rank as u64 {
                 return false;
             }
-            if !is_near(schema::lowest(w, i), words[i], edited[i], len, cap) {
+            if !is_near(
+                schema::factory_start(w, rank) as u64,
+                words[i],
+                edited[i],
+                len,
+                cap,
+            ) {
                 return false;
             }
             rank += 1;
@@ -154,7 +161,7 @@ pub fn all_quick<'a>(
             i += 1;
         }
     }
-    size == TEXT_SIZE * rank
+    (rank <= TEXTS) & (size == TEXT_SIZE * rank)
 }
 
 // The quick test: nulls, then pages that need not be looked at text by text, then the rows.

@@ -1,13 +1,13 @@
 -- `values::quick::all_quick` meets its contract. The invariant: the rows before here pass, and their texts are counted.
 use mathlib.Core.Path.{_≡_, refl, sym, ap, _∙_}
-use mathlib.Core.Bool.{true, false}
+use mathlib.Core.Bool.{true, false, _&&_}
 use Prim.Native.Nat.{ℕ, _*_, _≤_, _-_}
 use native.Mathlib.Omega.{arith}
 use borrow.Author.Needs.{needs}
 use borrow.Author.Tests.{not-true, not-false}
-use lib.Dec.{eqb}
+use lib.Dec.{eqb, leb}
 use lib.ListN.{getD}
-use Rattle.schema.specs.Layout.{textSize}
+use Rattle.schema.specs.Layout.{textLimit, textSize}
 use Rattle.schema.specs.Rows.{attributeCount}
 use Rattle.schema.specs.Check.{every, count, rank as rankOf}
 use Rattle.schema.proofs.CheckLaws.{every-more, rank-more, rank-same}
@@ -46,8 +46,8 @@ returns c =
     quick-wrong (a .w .now) (a .words .now) (a .nulls .now) (a .edited .now) (a .len) (a .size) (l .i) (search needs)
     (quick-rank (a .w .now) (a .words .now) (a .nulls .now) (a .edited .now) (a .len) (l .i) _ (l .inv .3) (sym (c .before .before .before .is-text .ensures) ∙ c .before .before .if1 .taken) (λ q. c .if2 .taken (c .before .first-value .ensures ∙ q)))
 
-lowest-requires : tie.Need-lowest-requires Inv-loop μ-loop
-lowest-requires c κs = search needs
+factory-start-requires : tie.Need-factory-start-requires Inv-loop μ-loop
+factory-start-requires c κs = search needs
 
 mul-is-near : tie.Need-mul-is-near Inv-loop μ-loop
 mul-is-near c = search needs
@@ -66,7 +66,7 @@ returns-2 c =
     let a = c .before .before .before .before .before .before .before .before .before .before .before .before .before .args in
     let l = c .before .before .before .before .before .before .before .before .before .before .loop in
     quick-wrong (a .w .now) (a .words .now) (a .nulls .now) (a .edited .now) (a .len) (a .size) (l .i) (search needs)
-    (sym (quick-text (a .w .now) (a .words .now) (a .nulls .now) (a .edited .now) (a .len) (l .i) _ (l .inv .3) (sym (c .before .before .before .before .before .before .before .before .is-text .ensures) ∙ c .before .before .before .before .before .before .before .if1 .taken) (sym (c .before .before .before .before .before .before .first-value .ensures) ∙ c .before .before .before .before .before .if2 .left)) ∙ ap (λ (k : ℕ). near k (getD (a .words .now) (l .i) 0) (getD (a .edited .now) (l .i) false) (a .len)) (sym (c .before .before .before .before .lowest .ensures)) ∙ sym (c .before .is-near .ensures) ∙ not-true _ (c .if3 .taken))
+    (sym (quick-text (a .w .now) (a .words .now) (a .nulls .now) (a .edited .now) (a .len) (l .i) _ (l .inv .3) (sym (c .before .before .before .before .before .before .before .before .is-text .ensures) ∙ c .before .before .before .before .before .before .before .if1 .taken) (sym (c .before .before .before .before .before .before .first-value .ensures) ∙ c .before .before .before .before .before .if2 .left)) ∙ ap (λ (k : ℕ). near k (getD (a .words .now) (l .i) 0) (getD (a .edited .now) (l .i) false) (a .len)) (sym (c .before .before .before .before .factory-start .ensures)) ∙ sym (c .before .is-near .ensures) ∙ not-true _ (c .if3 .taken))
 
 add-rank : tie.Need-add-rank Inv-loop μ-loop
 add-rank c = search needs
@@ -86,7 +86,7 @@ loop-again c =
       l .inv .2,
       rank-more (a .w .now) (l .i) _ (l .inv .3) (sym (c .before .before .before .before .before .before .before .before .is-text .ensures) ∙ c .before .before .before .before .before .before .before .if1 .taken),
       every-more (quickAt (a .w .now) (a .words .now) (a .nulls .now) (a .edited .now) (a .len)) (l .i) (l .inv .4)
-          (sym (quick-text (a .w .now) (a .words .now) (a .nulls .now) (a .edited .now) (a .len) (l .i) _ (l .inv .3) (sym (c .before .before .before .before .before .before .before .before .is-text .ensures) ∙ c .before .before .before .before .before .before .before .if1 .taken) (sym (c .before .before .before .before .before .before .first-value .ensures) ∙ c .before .before .before .before .before .if2 .left)) ∙ ap (λ (k : ℕ). near k (getD (a .words .now) (l .i) 0) (getD (a .edited .now) (l .i) false) (a .len)) (sym (c .before .before .before .before .lowest .ensures)) ∙ sym (c .before .is-near .ensures) ∙ not-false _ (c .if3 .left)),
+          (sym (quick-text (a .w .now) (a .words .now) (a .nulls .now) (a .edited .now) (a .len) (l .i) _ (l .inv .3) (sym (c .before .before .before .before .before .before .before .before .is-text .ensures) ∙ c .before .before .before .before .before .before .before .if1 .taken) (sym (c .before .before .before .before .before .before .first-value .ensures) ∙ c .before .before .before .before .before .if2 .left)) ∙ ap (λ (k : ℕ). near k (getD (a .words .now) (l .i) 0) (getD (a .edited .now) (l .i) false) (a .len)) (sym (c .before .before .before .before .factory-start .ensures)) ∙ sym (c .before .is-near .ensures) ∙ not-false _ (c .if3 .left)),
     )
 
 mul-limits-hold : tie.Need-mul-limits-hold Inv-loop μ-loop
@@ -134,7 +134,7 @@ returns-4 c =
     let a = c .before .before .before .before .args in
     let l = c .before .loop in
     let e : l .i ≡ attributeCount (a .w .now) = omega (arith, l .inv .2) in
-    ap (λ (k : ℕ). eqb (a .size) (textSize * k)) (l .inv .3 ∙ ap (rankOf (a .w .now)) e)
+    ap (λ (k : ℕ). leb k textLimit && eqb (a .size) (textSize * k)) (l .inv .3 ∙ ap (rankOf (a .w .now)) e)
     ∙ quick-done (a .w .now) (a .words .now) (a .nulls .now) (a .edited .now) (a .len) (a .size) (sym (ap (every (quickAt (a .w .now) (a .words .now) (a .nulls .now) (a .edited .now) (a .len))) e) ∙ l .inv .4)
 
 pub all-quick-spec : {M : Type 1} → statement M
@@ -149,7 +149,7 @@ all-quick-spec =
     is-text-requires
     first-value-requires
     returns
-    lowest-requires
+    factory-start-requires
     mul-is-near
     element-copy-out-is-near
     element-copy-out-is-near-2
