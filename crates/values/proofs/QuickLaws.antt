@@ -122,9 +122,16 @@ module _ (w words : List ℕ) (nulls edited : List Bool) (len : ℕ) where
   unfolding allQuick
   quick-wrong size i l t = fails _ _ (sym (every-fails (quickAt w words nulls edited len) (attributeCount w) i l t))
 
-  pub quick-done : (size : ℕ) → every (quickAt w words nulls edited len) (attributeCount w) ≡ true → (leb (textCount w) textLimit && eqb size (textSize * textCount w)) ≡ allQuick w words nulls edited len size
+  -- a text too many
+  pub quick-many : (size i : ℕ) → i < attributeCount w → isText (attributeRow w i) ≡ true → textLimit ≤ rank w i → false ≡ allQuick w words nulls edited len size
   unfolding allQuick
-  quick-done size h = past _ _ h
+  quick-many size i l t m =
+      let c = lt-leb (textCount w) textLimit (omega (arith, count-past (λ j. isText (attributeRow w j)) (attributeCount w) i l t, m)) in
+      by-test (every (quickAt w words nulls edited len) (attributeCount w)) (λ h. rw (h, c)) (λ h. rw h)
+
+  pub quick-done : (size : ℕ) → every (quickAt w words nulls edited len) (attributeCount w) ≡ true → textCount w ≤ textLimit → eqb size (textSize * textCount w) ≡ allQuick w words nulls edited len size
+  unfolding allQuick
+  quick-done size h m = past _ _ (le-leb (textCount w) textLimit m) ∙ past _ _ h
 
 -- where a text is shown from, the page has it
 inside : (low first word : ℕ) (edited : Bool) (defaults edits : List ℕ) → near low word edited (length defaults) ≡ true → textSize * (first + 1) ≤ length edits → word ≤ length (shownIn defaults edits edited) - shownFrom low first edited

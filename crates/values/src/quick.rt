@@ -143,6 +143,9 @@ pub fn all_quick<'a>(
             if schema::first_value(w, i) != rank as u64 {
                 return false;
             }
+            if TEXTS <= rank {
+                return false;
+            }
             if !is_near(
                 schema::factory_start(w, rank) as u64,
                 words[i],
@@ -161,7 +164,7 @@ pub fn all_quick<'a>(
             i += 1;
         }
     }
-    (rank <= TEXTS) & (size == TEXT_SIZE * rank)
+    size == TEXT_SIZE * rank
 }
 
 // The quick test: nulls, then pages that need not be looked at text by text, then the rows.
