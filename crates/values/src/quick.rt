@@ -146,13 +146,8 @@ pub fn all_quick<'a>(
             if TEXTS <= rank {
                 return false;
             }
-            if !is_near(
-                schema::factory_start(w, rank) as u64,
-                words[i],
-                edited[i],
-                len,
-                cap,
-            ) {
+            let start = schema::factory_start(w, rank) as u64;
+            if !is_near(start, words[i], edited[i], len, cap) {
                 return false;
             }
             rank += 1;
