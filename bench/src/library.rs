@@ -15,16 +15,21 @@ use crate::setup::{rows, word, Row, Setup, ATTRIBUTES, CLUSTERS, MESSAGE};
 pub const CALLS: bool = false;
 
 pub const PAYLOAD: usize = 1024;
-const WORDS: usize = 1348;
 
-// Where the columns of the schema start (crates/schema/src/lib.rt).
-const PATH: usize = 4;
+// The schema's words (crates/schema/src/lib.rt): a header, then columns.
+const CLUSTER_COUNT_WORD: usize = 0;
+const ATTRIBUTE_COUNT_WORD: usize = 1;
+const SUBJECT_WORD: usize = 2;
+const SPARE: usize = 3;
+const PATH: usize = 16;
 const VERSION: usize = PATH + CLUSTERS;
 const KEY: usize = VERSION + CLUSTERS;
 const TRAITS: usize = KEY + ATTRIBUTES;
 const LOW: usize = TRAITS + ATTRIBUTES;
 const HIGH: usize = LOW + ATTRIBUTES;
 const FIRST: usize = HIGH + ATTRIBUTES;
+const FACTORY: usize = FIRST + ATTRIBUTES;
+const WORDS: usize = FACTORY + ATTRIBUTES;
 
 /// What `sign_part` answers.
 #[repr(C)]
@@ -88,9 +93,9 @@ extern "C" {
 fn words_of(setup: &Setup) -> Box<[u64; WORDS]> {
     let mut w = Box::new([0; WORDS]);
     let schema = &setup.schema;
-    w[0] = schema.clusters.len() as u64;
-    w[1] = schema.attributes.len() as u64;
-    w[2] = schema.subject;
+    w[CLUSTER_COUNT_WORD] = schema.clusters.len() as u64;
+    w[ATTRIBUTE_COUNT_WORD] = schema.attributes.len() as u64;
+    w[SUBJECT_WORD] = schema.subject;
     for (k, cluster) in schema.clusters.iter().enumerate().take(CLUSTERS) {
         w[PATH + k] = u64::from(cluster.place.0) << 32 | u64::from(cluster.place.1);
         w[VERSION + k] = cluster.version.into();
@@ -102,7 +107,7 @@ fn words_of(setup: &Setup) -> Box<[u64; WORDS]> {
             Kind::Unsigned { lowest, highest } => (1, lowest, highest),
             Kind::Signed { lowest, highest } => (2, lowest as u64, highest as u64),
             Kind::Float { lowest, highest } => (3, lowest.into(), highest.into()),
-            Kind::Text => (4, *start as u64, word(&attribute.first)),
+            Kind::Text => (4, 0, 0),
         };
         let is_text = matches!(attribute.first, Value::Text(_));
         // A cluster that is not there is one past all rows.
@@ -115,6 +120,9 @@ fn words_of(setup: &Setup) -> Box<[u64; WORDS]> {
         w[LOW + i] = low;
         w[HIGH + i] = high;
         w[FIRST + i] = if is_text { *rank as u64 } else { word(&attribute.first) };
+        if is_text {
+            w[FACTORY + rank] = (*start as u64) << 32 | word(&attribute.first);
+        }
     }
     w
 }
@@ -131,7 +139,7 @@ pub struct Sign {
 impl Sign {
     /// The schema is broken where it is looked at first: every call is refused at once.
     pub fn break_first(&mut self) {
-        self.schema[3] = 1;
+        self.schema[SPARE] = 1;
     }
 
     /// The test of refusal 2: whether schema, values and pages keep the rules.
@@ -189,7 +197,7 @@ impl Sign {
 
     /// The messages given to the sign as it was set up, one after the other, each by a whole call: the last reply.
     pub fn run(&self, messages: &Messages, out: &mut [u8]) -> Last {
-        self.run_as(self.schema[2], messages, out)
+        self.run_as(self.schema[SUBJECT_WORD], messages, out)
     }
 
     /// The reply to each of these messages, given one after the other.
@@ -257,7 +265,7 @@ impl Called for Sign {
     /// has one of each, so such a message is run alone.
     fn receive(&mut self, subject: u64, message: &[u8], out: &mut [u8]) -> Last {
         self.fresh_page();
-        if subject != self.schema[2] || out.len() < MESSAGE {
+        if subject != self.schema[SUBJECT_WORD] || out.len() < MESSAGE {
             return self.run_as(subject, &Messages::of(&[message.to_vec()]), out);
         }
         let (mut before, mut after) = ([0; MESSAGE], [0; MESSAGE]);

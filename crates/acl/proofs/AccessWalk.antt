@@ -8,13 +8,14 @@ use denote.Array.{Array}
 use denote.Builtin.{u64}
 use denote.Steps.{only}
 use denote.Struct.Laws as LL
+use Rattle.schema.specs.Layout.{wordCount}
 use Rattle.acl.specs.declared.table.Access.{Access}
 use Rattle.acl.proofs.table.Access as X
 use Rattle.acl.proofs.table.Access.Laws as X′
 
 -- the schema's words
 abbrev pub Words : RattleType
-Words = Array u64 1348
+Words = Array u64 wordCount
 
 -- an answer's machine value
 abbrev pub val : Access → Val

@@ -4,7 +4,8 @@ use mathlib.Core.Bool.{Bool, true, false}
 use mathlib.Core.List.{List, [], _∷_, _++_, map}
 use Prim.Native.Nat.{ℕ, _+_, _^_}
 use lib.ListN.{take, replicate}
-use Rattle.schema.specs.Rows.{rowsFrom}
+use Rattle.schema.specs.Layout.{headerSize}
+use Rattle.schema.specs.Rows.{column, rowsFrom}
 use Rattle.acl.specs.declared.Entry.{Entry}
 use Rattle.acl.specs.Access.{coversPlace, coversE, granted, givenBy, levelOf, grantsOf, privilegeOk, privilegesOk, tableOk}
 use Rattle.acl.specs.Table.{tableRight, searched}
@@ -46,7 +47,7 @@ answers = refl
 
 -- a schema of two clusters, 6 and 8 on endpoint 1
 words : List ℕ
-words = 2 ∷ (0 ∷ (7 ∷ (0 ∷ ((2 ^ 32 + 6) ∷ ((2 ^ 32 + 8) ∷ [])))))
+words = column headerSize (2 ∷ 0 ∷ 7 ∷ []) ++ ((2 ^ 32 + 6) ∷ (2 ^ 32 + 8) ∷ [])
 
 levels : take 4 (grantsOf list 7 words .level) ≡ 3 ∷ (1 ∷ (0 ∷ (0 ∷ [])))
 unfolding manage7 view1 list words grantsOf levelOf givenBy coversPlace rowsFrom

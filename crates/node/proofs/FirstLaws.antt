@@ -13,10 +13,10 @@ use Rattle.kinds.specs.Limits.{textMax}
 use Rattle.kinds.specs.Stored.{held}
 use Rattle.kinds.proofs.FloatLaws.{floatOf-finite, first-in-range}
 use Rattle.schema.specs.Layout.{half}
-use Rattle.schema.specs.Rows.{AttributeRow, isText}
+use Rattle.schema.specs.Rows.{AttributeRow, factoryLength}
 use Rattle.schema.proofs.BoolLaws.{both, left, right, by-test}
 use Rattle.node.specs.Attributes.{floatCode, kindOf, typed}
-use Rattle.node.specs.Check.{floatRight, numberRight, factoryRight, textRight}
+use Rattle.node.specs.Check.{floatRight, numberRight, factoryRight}
 use Rattle.node.specs.Rules.{FirstAllowed, FloatRules, FactoryRules}
 use Rattle.node.proofs.KindLaws.{other-code, kind-unsigned, kind-signed, kind-float, kind-text, kind-boolean}
 
@@ -72,18 +72,18 @@ module _ (a : AttributeRow) where
   to-float-rules h e = to-floats (rw e at h)
 
   -- a number that the check passed is one that the limits allow
-  pub to-allowed : numberRight a ≡ true → (a .kind ≡ 4 → a .high ≤ textMax) → FirstAllowed (typed a)
+  pub to-allowed : (w : List ℕ) → numberRight a ≡ true → (a .kind ≡ 4 → factoryLength w (a .first) ≤ textMax) → FirstAllowed (typed w a)
   unfolding numberRight typed held
-  to-allowed h t =
+  to-allowed w h t =
       by-code (a .kind) (λ e. rw (kind-unsigned a e, e) (rw e at h)) (λ e. rw (kind-signed a e, e) (rw e at h))
       (λ e. let r = to-floats (rw e at h) in rw (kind-float a e, e) (both _ _ (lt-ltb (a .first) half (r .first)) (float-first r)))
-      (λ e. rw (kind-text a e, e) (le-leb (a .high) textMax (t e)))
+      (λ e. rw (kind-text a e, e) (le-leb (factoryLength w (a .first)) textMax (t e)))
       (λ h₁ h₂ h₃ h₄. let n : eqb (a .kind) 4 ≡ false = ne-eqb _ _ h₄ in
       rw (kind-boolean a h₁ h₂ h₃ h₄, n) (sym (other-code _ _ _ _ _ (a .kind) h₁ h₂ h₃ h₄) ∙ h))
 
-  pub from-allowed : FirstAllowed (typed a) → (a .kind ≡ floatCode → FloatRules a) → numberRight a ≡ true
+  pub from-allowed : (w : List ℕ) → FirstAllowed (typed w a) → (a .kind ≡ floatCode → FloatRules a) → numberRight a ≡ true
   unfolding numberRight typed held
-  from-allowed h f =
+  from-allowed w h f =
       by-code (a .kind) (λ e. rw e (rw (kind-unsigned a e, e) at h)) (λ e. rw e (rw (kind-signed a e, e) at h)) (λ e. rw e (from-floats (f e)))
       (λ e. rw e)
       (λ h₁ h₂ h₃ h₄. let n : eqb (a .kind) 4 ≡ false = ne-eqb _ _ h₄ in
@@ -101,34 +101,17 @@ module _ (a : AttributeRow) where
 
 -- ---- factory texts
 
-module _ (page : List ℕ) (a : AttributeRow) where
-  to-factory : a .kind ≡ 4 → factoryRight page (a .low) (a .high) ≡ true → FactoryRules page (typed a)
-  unfolding factoryRight typed
-  to-factory e h =
-      let h₁ = right (leb (a .high) textMax) _ h in
-      rw e
-      (record {
-        inside = omega (arith, leb-true (a .low + a .high) (length page) (left _ _ h₁));
-        size = leb-true (a .high) textMax (left _ _ h);
-        valid = right (leb (a .low + a .high) (length page)) _ h₁;
-      })
+module _ (page : List ℕ) (start len : ℕ) where
+  pub to-factory : factoryRight page start len ≡ true → FactoryRules page start len
+  unfolding factoryRight
+  to-factory h =
+      let h₁ = right (leb len textMax) _ h in
+      record {
+        inside = leb-true (start + len) (length page) (left _ _ h₁);
+        size = leb-true len textMax (left _ _ h);
+        valid = right (leb (start + len) (length page)) _ h₁;
+      }
 
-  pub to-texts : textRight page a ≡ true → typed a .kind ≡ Text → FactoryRules page (typed a)
-  unfolding textRight typed
-  to-texts h k = let e = text-code a k in to-factory e (rw e at h)
-
-  pub text-size : textRight page a ≡ true → a .kind ≡ 4 → a .high ≤ textMax
-  unfolding textRight factoryRight
-  text-size h e = leb-true (a .high) textMax (left _ _ (rw e at h))
-
-  from-factory : a .kind ≡ 4 → FactoryRules page (typed a) → factoryRight page (a .low) (a .high) ≡ true
-  unfolding factoryRight typed
-  from-factory e r =
-      let q : FactoryRules page (typed a) = r in
-      both _ _ (le-leb (a .high) textMax (rw e at (q .size)))
-      (both _ _ (le-leb (a .low + a .high) (length page) (omega (arith, rw e at (q .inside)))) (rw e at (q .valid)))
-
-  pub from-texts : (typed a .kind ≡ Text → FactoryRules page (typed a)) → textRight page a ≡ true
-  unfolding textRight typed
-  from-texts f =
-      by-test (isText a) (λ t. let e = eqb-true (a .kind) 4 t in rw t (from-factory e (f (kind-text a e)))) (λ t. rw t)
+  pub from-factory : FactoryRules page start len → factoryRight page start len ≡ true
+  unfolding factoryRight
+  from-factory r = both _ _ (le-leb len textMax (r .size)) (both _ _ (le-leb (start + len) (length page) (r .inside)) (r .valid))

@@ -7,16 +7,18 @@ use Prim.Native.Nat.{ℕ, _<_}
 use native.Mathlib.Omega.{arith}
 use Rattle.tlv.specs.Octet.{pick}
 use Rattle.kinds.specs.declared.Kind.the-variants.{Text}
-use Rattle.schema.specs.Rows.{attributeRow, attributeCount}
+use Rattle.schema.specs.Rows.{attributeRow, attributeCount, factoryStart, factoryLength}
 use Rattle.schema.specs.Check as Schema
+use Rattle.schema.specs.Rules.{Rules}
 use Rattle.schema.proofs.BoolLaws.{both, left, right, by-test}
 use Rattle.schema.proofs.CheckLaws.{every-at, every-all}
 use Rattle.schema.proofs.RowLaws.{each-of, each-all}
 use Rattle.schema.proofs.RulesLaws.{well-formed-rules}
-use Rattle.node.specs.Attributes.{floatCode, attributeOf}
-use Rattle.node.specs.Check.{numberRight, textRight, numbersRight, textsRight, accepted, done, schemaRefused, checked}
+use Rattle.schema.proofs.TextLaws.{text-inside}
+use Rattle.node.specs.Attributes.{floatCode, typed, attributeOf}
+use Rattle.node.specs.Check.{numberRight, factoryRight, numbersRight, textsRight, accepted, done, schemaRefused, checked}
 use Rattle.node.specs.Rules.{FirstAllowed, FloatRules, FactoryRules, SchemaRules}
-use Rattle.node.proofs.FirstLaws.{to-float-rules, to-allowed, from-allowed, to-texts, from-texts, text-size}
+use Rattle.node.proofs.FirstLaws.{text-code, to-float-rules, to-allowed, from-allowed, to-factory, from-factory}
 
 module _ (w page : List ℕ) where
   -- the rules of attribute i
@@ -29,23 +31,28 @@ module _ (w page : List ℕ) where
     float-rules =
         each-of (attributeRow w) (λ a. a .kind ≡ floatCode → FloatRules a) (attributeCount w) 0 (rules .floats) i (omega arith) (omega arith)
 
-    pub factory-rules : attributeOf w i .kind ≡ Text → FactoryRules page (attributeOf w i)
-    factory-rules =
-        each-of (attributeOf w) (λ x. x .kind ≡ Text → FactoryRules page x) (attributeCount w) 0 (rules .texts) i (omega arith) (omega arith)
+    -- of a text, by its rank
+    pub factory-rules : attributeOf w i .kind ≡ Text → FactoryRules page (attributeOf w i .text) (attributeOf w i .len)
+    unfolding typed
+    factory-rules k =
+        let e = text-code (attributeRow w i) k in
+        rw e (rules .texts (attributeRow w i .first) (text-inside w (rules .structure) i below (rw e)))
 
   to-schema-rules : accepted w page ≡ true → SchemaRules w page
   unfolding accepted numbersRight textsRight
   to-schema-rules h =
       let h₁ = right (Schema.wellFormed w) _ h in
       let m = attributeCount w in
+      let structure : Rules w = well-formed-rules w .0 (left _ _ h) in
       let number = every-at (λ i. numberRight (attributeRow w i)) m (left _ _ h₁) in
-      let text = every-at (λ i. textRight page (attributeRow w i)) m (right (numbersRight w) _ h₁) in
+      let text = every-at (λ r. factoryRight page (factoryStart w r) (factoryLength w r)) (Schema.textCount w) (right (numbersRight w) _ h₁) in
+      let factory : (r : ℕ) → r < Schema.textCount w → FactoryRules page (factoryStart w r) (factoryLength w r) = λ r l. to-factory page _ _ (text r l) in
       record {
-        structure = well-formed-rules w .0 (left _ _ h);
+        structure = structure;
         firsts = each-all (attributeOf w) FirstAllowed m 0
-            (λ i l u. to-allowed (attributeRow w i) (number i (omega arith)) (text-size page (attributeRow w i) (text i (omega arith))));
+            (λ i l u. to-allowed (attributeRow w i) w (number i (omega arith)) (λ e. factory (attributeRow w i .first) (text-inside w structure i (omega arith) (rw e)) .size));
         floats = each-all (attributeRow w) (λ a. a .kind ≡ floatCode → FloatRules a) m 0 (λ i l u. to-float-rules (attributeRow w i) (number i (omega arith)));
-        texts = each-all (attributeOf w) (λ x. x .kind ≡ Text → FactoryRules page x) m 0 (λ i l u. to-texts page (attributeRow w i) (text i (omega arith)));
+        texts = factory;
       }
 
   from-schema-rules : SchemaRules w page → accepted w page ≡ true
@@ -54,8 +61,8 @@ module _ (w page : List ℕ) where
       let m = attributeCount w in
       both _ _ (well-formed-rules w .1 (r .structure))
       (both _ _
-      (every-all (λ i. numberRight (attributeRow w i)) m (λ i l. from-allowed (attributeRow w i) (first-held r i l) (float-rules r i l)))
-      (every-all (λ i. textRight page (attributeRow w i)) m (λ i l. from-texts page (attributeRow w i) (factory-rules r i l))))
+      (every-all (λ i. numberRight (attributeRow w i)) m (λ i l. from-allowed (attributeRow w i) w (first-held r i l) (float-rules r i l)))
+      (every-all (λ k. factoryRight page (factoryStart w k) (factoryLength w k)) (Schema.textCount w) (λ k l. from-factory page _ _ (r .texts k l))))
 
   answer-done : (b : Bool) → pick b done schemaRefused ≡ done → b ≡ true
   answer-done true h = refl

@@ -11,7 +11,7 @@ use Rattle.kinds.specs.declared.Kind.{Kind}
 use Rattle.kinds.specs.declared.Kind.the-variants.{Boolean, Unsigned, Signed, Float, Text}
 use Rattle.kinds.specs.Float.{rangeOf}
 use Rattle.schema.specs.Layout.{half}
-use Rattle.schema.specs.Rows.{AttributeRow, attributeRow, attributeCount, rowsFrom, isText}
+use Rattle.schema.specs.Rows.{AttributeRow, attributeRow, attributeCount, rowsFrom, isText, factoryStart, factoryLength}
 use Rattle.node.specs.declared.Attribute.{Attribute}
 
 -- one answer for each kind code: 0 boolean, 1 unsigned, 2 signed, 3 float, 4 text. A code that there is not counts as boolean; the check refuses it
@@ -31,13 +31,13 @@ kindOf a =
 abbrev pub ofText : Bool → ℕ → ℕ
 ofText text x = pick text x 0
 
--- the first value as it is stored: a text's is its length
-abbrev pub firstWord : AttributeRow → ℕ
-firstWord a = pick (isText a) (a .high) (a .first)
+-- the first value as it is stored: a text's is the length of the factory text of its rank
+abbrev pub firstWord : List ℕ → AttributeRow → ℕ
+firstWord w a = pick (isText a) (factoryLength w (a .first)) (a .first)
 
-unfoldable pub typed : AttributeRow → Attribute
+unfoldable pub typed : List ℕ → AttributeRow → Attribute
 unfolding kindOf
-typed a =
+typed w a =
     record {
       cluster = a .clusterIndex;
       id = a .id;
@@ -45,14 +45,14 @@ typed a =
       nullable = eqb (a .nullable) 1;
       read = a .read;
       write = a .write;
-      first = firstWord a;
-      text = ofText (isText a) (a .low);
-      len = ofText (isText a) (a .high);
+      first = firstWord w a;
+      text = ofText (isText a) (factoryStart w (a .first));
+      len = ofText (isText a) (factoryLength w (a .first));
     }
 
 -- attribute i of the schema
 abbrev pub attributeOf : List ℕ → ℕ → Attribute
-attributeOf w i = typed (attributeRow w i)
+attributeOf w i = typed w (attributeRow w i)
 
 -- the schema's attributes, in order
 abbrev pub attributesOf : List ℕ → List Attribute

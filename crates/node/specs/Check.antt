@@ -11,8 +11,8 @@ use Rattle.utf8.specs.WellFormed.{wellFormed}
 use Rattle.kinds.specs.Float.{rangeOk}
 use Rattle.kinds.specs.Limits.{textMax, between, betweenZ}
 use Rattle.schema.specs.Layout.{half}
-use Rattle.schema.specs.Rows.{AttributeRow, attributeRow, attributeCount, isText}
-use Rattle.schema.specs.Check.{every}
+use Rattle.schema.specs.Rows.{AttributeRow, attributeRow, attributeCount, factoryStart, factoryLength}
+use Rattle.schema.specs.Check.{every, textCount}
 use Rattle.schema.specs.Check as Schema
 use Rattle.node.specs.Attributes.{byCode}
 
@@ -30,18 +30,14 @@ numberRight a =
 unfoldable pub factoryRight : List ℕ → ℕ → ℕ → Bool
 factoryRight page start len = leb len textMax && (leb (start + len) (length page) && wellFormed (take len (drop start page)))
 
--- a text's row says where its factory text starts, and its length
-unfoldable pub textRight : List ℕ → AttributeRow → Bool
-unfolding factoryRight
-textRight page a = pick (isText a) (factoryRight page (a .low) (a .high)) true
-
 unfoldable pub numbersRight : List ℕ → Bool
 unfolding numberRight
 numbersRight w = every (λ i. numberRight (attributeRow w i)) (attributeCount w)
 
+-- the factory text of each rank
 unfoldable pub textsRight : List ℕ → List ℕ → Bool
-unfolding textRight
-textsRight w page = every (λ i. textRight page (attributeRow w i)) (attributeCount w)
+unfolding factoryRight
+textsRight w page = every (λ r. factoryRight page (factoryStart w r) (factoryLength w r)) (textCount w)
 
 unfoldable pub accepted : List ℕ → List ℕ → Bool
 accepted w page = Schema.wellFormed w && (numbersRight w && textsRight w page)

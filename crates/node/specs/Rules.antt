@@ -5,11 +5,11 @@ use mathlib.Core.List.{List}
 use Prim.Native.Nat.{ℕ, _+_, _^_, _≤_, _<_}
 use lib.ListN.{length, take, drop}
 use Rattle.utf8.specs.WellFormed.{wellFormed}
-use Rattle.kinds.specs.declared.Kind.the-variants.{Text}
 use Rattle.kinds.specs.Float.{rangeOk}
 use Rattle.kinds.specs.Limits.{textMax}
 use Rattle.kinds.specs.Stored.{held}
-use Rattle.schema.specs.Rows.{AttributeRow, attributes}
+use Rattle.schema.specs.Rows.{AttributeRow, attributes, factoryStart, factoryLength}
+use Rattle.schema.specs.Check.{textCount}
 use Rattle.schema.specs.Rules.{Each, Rules}
 use Rattle.node.specs.declared.Attribute.{Attribute}
 use Rattle.node.specs.Attributes.{floatCode, attributesOf}
@@ -27,14 +27,15 @@ pub record FloatRules (a : AttributeRow) : Type 0 where
   pub range : rangeOk (a .low) (a .high) (a .first) ≡ true
 
 -- "a text's is its factory text", in the factory page; "text of up to 200 bytes of valid UTF-8"
-pub record FactoryRules (page : List ℕ) (x : Attribute) : Type 0 where
-  pub inside : x .text + x .len ≤ length page
-  pub size : x .len ≤ textMax
-  pub valid : wellFormed (take (x .len) (drop (x .text) page)) ≡ true
+pub record FactoryRules (page : List ℕ) (start len : ℕ) : Type 0 where
+  pub inside : start + len ≤ length page
+  pub size : len ≤ textMax
+  pub valid : wellFormed (take len (drop start page)) ≡ true
 
 pub record SchemaRules (w page : List ℕ) : Type 0 where
   -- counts, order, widths, kinds and privileges
   pub structure : Rules w
   pub firsts : Each FirstAllowed (attributesOf w)
   pub floats : Each (λ a. a .kind ≡ floatCode → FloatRules a) (attributes w)
-  pub texts : Each (λ x. x .kind ≡ Text → FactoryRules page x) (attributesOf w)
+  -- of each rank, and so of each text (proofs/RulesLaws: factory-rules)
+  pub texts : (r : ℕ) → r < textCount w → FactoryRules page (factoryStart w r) (factoryLength w r)

@@ -45,21 +45,22 @@ pub fn kind_of(w: &[u64; WORDS], i: usize) -> Kind
 }
 
 // A word that only a text has.
-fn of_text(text: bool, x: u64) -> usize
+fn of_text(text: bool, x: usize) -> usize
     ensures { λ r. ⌜ r ≡ ofText text x ⌝ }
 {
-    if text { x as usize } else { 0 }
+    if text { x } else { 0 }
 }
 
-// The first value as it is stored.
+// The first value as it is stored: of a text the length of the factory text of its rank.
 pub fn first_word(w: &[u64; WORDS], i: usize) -> u64
     requires { ⌜ i < attributeLimit ⌝ }
-    ensures { λ r. ⌜ r ≡ firstWord (attributeRow (now (w .entry)) i) ⌝ }
+    ensures { λ r. ⌜ r ≡ firstWord (now (w .entry)) (attributeRow (now (w .entry)) i) ⌝ }
 {
+    let first = schema::first_value(w, i);
     if schema::is_text(w, i) {
-        schema::highest(w, i)
+        schema::factory_length(w, first as usize) as u64
     } else {
-        schema::first_value(w, i)
+        first
     }
 }
 
@@ -68,6 +69,7 @@ pub fn attribute(w: &[u64; WORDS], i: usize) -> Attribute
     ensures { λ r. ⌜ r ≡ attributeOf (now (w .entry)) i ⌝ }
 {
     let text = schema::is_text(w, i);
+    let rank = schema::first_value(w, i) as usize;
     Attribute {
         cluster: schema::attribute_cluster(w, i),
         id: schema::attribute_id(w, i),
@@ -76,7 +78,7 @@ pub fn attribute(w: &[u64; WORDS], i: usize) -> Attribute
         read: schema::read_privilege(w, i),
         write: schema::write_privilege(w, i),
         first: first_word(w, i),
-        text: of_text(text, schema::lowest(w, i)),
-        len: of_text(text, schema::highest(w, i)),
+        text: of_text(text, schema::factory_start(w, rank)),
+        len: of_text(text, schema::factory_length(w, rank)),
     }
 }

@@ -16,7 +16,7 @@ ghost use mir.Val.{toZ};
 ghost use Rattle.kinds.specs.Limits.{between, betweenZ};
 ghost use Rattle.schema.specs.Layout.{attributeLimit};
 ghost use Rattle.schema.specs.Rows.{attributeRow};
-ghost use Rattle.node.specs.Check.{floatRight, numberRight, factoryRight, textRight, numbersRight, textsRight};
+ghost use Rattle.node.specs.Check.{floatRight, numberRight, factoryRight, numbersRight, textsRight};
 
 pub fn unsigned_within(low: u64, n: u64, high: u64) -> bool
     ensures { λ r. ⌜ r ≡ between low n high ⌝ }
@@ -87,21 +87,6 @@ pub fn factory_ok(defaults: &[u8], start: usize, len: usize) -> bool
     utf8::valid(&defaults[start..start + len])
 }
 
-// Whether attribute i, if it is a text, has a factory text that the limits allow.
-pub fn text_ok(w: &[u64; WORDS], i: usize, defaults: &[u8]) -> bool
-    requires { ⌜ i < attributeLimit ⌝ }
-    ensures { λ r. ⌜ r ≡ textRight (now (defaults .entry)) (attributeRow (now (w .entry)) i) ⌝ }
-{
-    if !schema::is_text(w, i) {
-        return true;
-    }
-    factory_ok(
-        defaults,
-        schema::lowest(w, i) as usize,
-        schema::highest(w, i) as usize,
-    )
-}
-
 // Every first value that is no text.
 pub fn numbers_ok(w: &[u64; WORDS]) -> bool
     ensures { λ r. ⌜ r ≡ numbersRight (now (w .entry)) ⌝ }
@@ -121,13 +106,15 @@ pub fn numbers_ok(w: &[u64; WORDS]) -> bool
 pub fn texts_ok(w: &[u64; WORDS], defaults: &[u8]) -> bool
     ensures { λ r. ⌜ r ≡ textsRight (now (w .entry)) (now (defaults .entry)) ⌝ }
 {
-    let n = schema::attribute_count(w);
-    let mut i = 0;
-    while i < n {
-        if !text_ok(w, i, defaults) {
+    let n = schema::texts::text_count(w);
+    let mut rank = 0;
+    while rank < n {
+        let start = schema::factory_start(w, rank);
+        let len = schema::factory_length(w, rank);
+        if !factory_ok(defaults, start, len) {
             return false;
         }
-        i += 1;
+        rank += 1;
     }
     true
 }

@@ -1,16 +1,13 @@
 -- The sign and the panel of the run: a schema of five texts in two clusters, so that a part of a report has room for four of them.
 use mathlib.Core.Bool.{true, false}
 use mathlib.Core.List.{List, [], _∷_, _++_}
-use Prim.Native.Nat.{ℕ, _+_, _*_, _-_, _^_}
-use lib.ListN.{length, replicate}
-use Rattle.schema.specs.Layout.{clusterLimit, attributeLimit, half, textSize}
+use Prim.Native.Nat.{ℕ, _+_, _*_, _^_}
+use lib.ListN.{replicate}
+use Rattle.schema.specs.Layout.{headerSize, clusterLimit, attributeLimit, half, textLimit, textSize}
+use Rattle.schema.specs.Rows.{column}
 use Rattle.acl.specs.declared.Entry.{Entry}
 use Rattle.cached.specs.Limits.{pageSize}
 use Rattle.promises.specs.World.{Plan}
-
--- a column of the schema, filled up with 0
-abbrev column : ℕ → List ℕ → List ℕ
-column n l = l ++ replicate (n - length l) 0
 
 -- attribute `id` of the cluster at a place of the list of clusters
 abbrev pub key : ℕ → ℕ → ℕ
@@ -20,6 +17,10 @@ key place id = place * half + id
 abbrev traits : ℕ
 traits = 4 + 1 * 2 ^ 16
 
+-- the factory text of a rank, one after the other
+abbrev factory : ℕ → ℕ
+factory rank = textSize * rank * half + textSize
+
 -- the word of a cluster on endpoint 1
 abbrev pub path : ℕ → ℕ
 path cluster = 1 * half + cluster
@@ -27,14 +28,15 @@ path cluster = 1 * half + cluster
 -- subject 1. Endpoint 1 has clusters 6 and 8, at versions 5 and FFFFFFFF, with two and with three texts of 200 bytes
 unfoldable pub words : List ℕ
 words =
-    (2 ∷ 5 ∷ 1 ∷ 0 ∷ [])
+    column headerSize (2 ∷ 5 ∷ 1 ∷ [])
     ++ (column clusterLimit (path 6 ∷ path 8 ∷ [])
     ++ (column clusterLimit (5 ∷ 0xFFFF_FFFF ∷ [])
     ++ (column attributeLimit (key 0 0 ∷ key 0 1 ∷ key 1 0 ∷ key 1 1 ∷ key 1 2 ∷ [])
     ++ (column attributeLimit (replicate 5 traits)
-    ++ (column attributeLimit (0 ∷ 200 ∷ 400 ∷ 600 ∷ 800 ∷ [])
-    ++ (column attributeLimit (replicate 5 200)
-    ++ column attributeLimit (0 ∷ 1 ∷ 2 ∷ 3 ∷ 4 ∷ [])))))))
+    ++ (column attributeLimit []
+    ++ (column attributeLimit []
+    ++ (column attributeLimit (0 ∷ 1 ∷ 2 ∷ 3 ∷ 4 ∷ [])
+    ++ column textLimit (factory 0 ∷ factory 1 ∷ factory 2 ∷ factory 3 ∷ factory 4 ∷ []))))))))
 
 -- 200 times the same byte
 abbrev pub text : ℕ → List ℕ

@@ -3,8 +3,8 @@ use mathlib.Core.Path.{_≡_, refl}
 use mathlib.Core.Bool.{true, false}
 use mathlib.Core.List.{List, [], _∷_, _++_}
 use Prim.Native.Nat.{ℕ, _+_, _*_, _^_}
-use lib.ListN.{replicate}
-use Rattle.schema.specs.Rows.{rowsFrom}
+use Rattle.schema.specs.Layout.{headerSize, clusterLimit, attributeLimit}
+use Rattle.schema.specs.Rows.{column, rowsFrom}
 use Rattle.schema.specs.Check.{every, count, rises, changes, wellFormed}
 use Rattle.schema.specs.Rules.{path, pathAt}
 use Rattle.schema.specs.Search.{first}
@@ -14,7 +14,9 @@ use Rattle.schema.specs.declared.Found.the-variants.{At, Nothing}
 -- read by View, written by Manage
 abbrev s1 : List ℕ
 s1 =
-    1 ∷ (1 ∷ (7 ∷ (0 ∷ ((2 ^ 32 + 6) ∷ (replicate 31 0 ++ (5 ∷ (replicate (31 + 256) 0 ++ ((2 ^ 16 + 2 ^ 24 * 3) ∷ []))))))))
+    column headerSize (1 ∷ 1 ∷ 7 ∷ [])
+    ++ (column clusterLimit ((2 ^ 32 + 6) ∷ [])
+    ++ (column clusterLimit (5 ∷ []) ++ (column attributeLimit [] ++ column attributeLimit ((2 ^ 16 + 2 ^ 24 * 3) ∷ []))))
 
 s1-well-formed : wellFormed s1 ≡ true
 unfolding wellFormed rises every count changes rowsFrom

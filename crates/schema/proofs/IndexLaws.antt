@@ -3,17 +3,18 @@ use mathlib.Core.Path.{_≡_}
 use mathlib.Core.Bool.{true}
 use mathlib.Core.List.{List}
 use Prim.Native.Nat.{ℕ, _*_, _^_, _≤_, _<_}
-use borrow.Author.Tests.{leb-true, le-leb, eqb-true, eq-eqb, ltb-true, lt-ltb}
-use lib.Dec.{eqb, ltb, leb}
+use native.Mathlib.Omega.{arith}
+use borrow.Author.Tests.{leb-true, le-leb, ltb-true, lt-ltb}
+use lib.Dec.{ltb, leb}
 use lib.ListN.{getD}
-use Rattle.schema.specs.Layout.{endpointLimit, clusterLimit, attributeLimit, clusterCountWord, attributeCountWord, spareWord, pathColumn, versionColumn, keyColumn, traitsColumn, half}
+use Rattle.schema.specs.Layout.{endpointLimit, clusterLimit, attributeLimit, textLimit, clusterCountWord, attributeCountWord, spareColumn, spareCount, pathColumn, versionColumn, keyColumn, traitsColumn, half}
 use Rattle.schema.specs.Rows.{word, clusterCount, attributeCount}
-use Rattle.schema.specs.Check.{rises, allBelow, endpointChanges, traitsRight, allTraits, rankRight, allRanks, clustersRight, attributesRight, columnsRight, wellFormed}
+use Rattle.schema.specs.Check.{rises, allBelow, endpointChanges, traitsRight, allTraits, rankRight, allRanks, ranksRight, textCount, clustersRight, attributesRight, columnsRight, wellFormed}
 use Rattle.schema.proofs.BoolLaws.{both, left, right}
 use Rattle.schema.proofs.CheckLaws.{every-at, every-all, rises-below, rises-order, rises-all}
 
 pub record ByIndex (w : List ℕ) : Type 0 where
-  pub spare : getD w spareWord 0 ≡ 0
+  pub spare : (i : ℕ) → i < spareCount → word w spareColumn i ≡ 0
   pub clusterNumber : getD w clusterCountWord 0 ≤ clusterLimit
   pub attributeNumber : getD w attributeCountWord 0 ≤ attributeLimit
   pub pathBelow : (i : ℕ) → i < clusterCount w → word w pathColumn i < 2 ^ 48
@@ -24,6 +25,7 @@ pub record ByIndex (w : List ℕ) : Type 0 where
   pub keyOrder : (j : ℕ) → j < attributeCount w → (i : ℕ) → i < j → word w keyColumn i < word w keyColumn j
   pub traits : (i : ℕ) → i < attributeCount w → traitsRight (word w traitsColumn i) ≡ true
   pub ranks : (i : ℕ) → i < attributeCount w → rankRight w i ≡ true
+  pub textNumber : textCount w ≤ textLimit
 
 module _ (w : List ℕ) where
   clusters-index : clustersRight w (clusterCount w) ≡ true → (rises w pathColumn (clusterCount w) (2 ^ 48) ≡ true) × (allBelow w versionColumn (clusterCount w) half ≡ true) × (endpointChanges w (clusterCount w) ≤ endpointLimit)
@@ -37,14 +39,15 @@ module _ (w : List ℕ) where
   pub to-index : wellFormed w ≡ true → ByIndex w
   unfolding wellFormed
   to-index h =
-      let h0 = left (columnsRight w) (allRanks w (attributeCount w)) h in
-      let h1 = right (eqb (getD w spareWord 0) 0) _ h0 in
+      let h0 = left (columnsRight w) (ranksRight w) h in
+      let h1 = right (allBelow w spareColumn spareCount 1) _ h0 in
       let h2 = right (leb (getD w clusterCountWord 0) clusterLimit) _ h1 in
       let h3 = right (leb (getD w attributeCountWord 0) attributeLimit) _ h2 in
+      let h4 = right (columnsRight w) (ranksRight w) h in
       let cs = clusters-index (left _ _ h3) in
       let bs = attributes-index (right (clustersRight w (clusterCount w)) _ h3) in
       record {
-        spare = eqb-true _ _ (left _ _ h0);
+        spare = λ i l. omega (arith, ltb-true (word w spareColumn i) 1 (every-at (λ k. ltb (word w spareColumn k) 1) spareCount (left _ _ h0) i l));
         clusterNumber = leb-true _ _ (left _ _ h1);
         attributeNumber = leb-true _ _ (left _ _ h2);
         pathBelow = rises-below w pathColumn (clusterCount w) (2 ^ 48) (cs .0);
@@ -54,14 +57,15 @@ module _ (w : List ℕ) where
         keyBelow = rises-below w keyColumn (attributeCount w) (clusterCount w * half) (bs .0);
         keyOrder = rises-order w keyColumn (attributeCount w) (clusterCount w * half) (bs .0);
         traits = every-at (λ k. traitsRight (word w traitsColumn k)) (attributeCount w) (bs .1);
-        ranks = every-at (rankRight w) (attributeCount w) (right (columnsRight w) _ h);
+        ranks = every-at (rankRight w) (attributeCount w) (left _ _ h4);
+        textNumber = leb-true (textCount w) textLimit (right (allRanks w (attributeCount w)) _ h4);
       }
 
   pub from-index : ByIndex w → wellFormed w ≡ true
   unfolding wellFormed
   from-index x =
       both _ _
-      (both _ _ (eq-eqb _ _ (x .spare))
+      (both _ _ (every-all (λ k. ltb (word w spareColumn k) 1) spareCount (λ i l. lt-ltb (word w spareColumn i) 1 (omega (arith, x .spare i l))))
       (both _ _ (le-leb _ _ (x .clusterNumber))
       (both _ _ (le-leb _ _ (x .attributeNumber))
       (both _ _
@@ -70,4 +74,4 @@ module _ (w : List ℕ) where
       (le-leb _ _ (x .endpoints))))
       (both _ _ (rises-all w keyColumn (attributeCount w) (clusterCount w * half) (x .keyBelow) (x .keyOrder))
       (every-all (λ k. traitsRight (word w traitsColumn k)) (attributeCount w) (x .traits)))))))
-      (every-all (rankRight w) (attributeCount w) (x .ranks))
+      (both _ _ (every-all (rankRight w) (attributeCount w) (x .ranks)) (le-leb (textCount w) textLimit (x .textNumber)))

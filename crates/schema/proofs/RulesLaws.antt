@@ -103,6 +103,7 @@ module _ (w : List ℕ) where
             (λ i l u. let t = to-traits _ (x .traits i (omega arith)) in
             record { cluster = inside i (omega arith); id = omega arith; kind = t .kind; nullable = t .nullable; read = t .read; write = t .write }));
         ranks = to-ranks w (x .ranks);
+        textNumber = x .textNumber;
         spare = x .spare;
       }
 
@@ -139,6 +140,7 @@ module _ (w : List ℕ) where
             (rising-of (pathAt w) PathBefore m 0 before i j (omega arith) u (omega arith));
         traits = λ i l. let a = ar i l in from-traits _ (record { kind = a .kind; nullable = a .nullable; read = a .read; write = a .write });
         ranks = from-ranks w (r .ranks);
+        textNumber = r .textNumber;
       }
 
   -- the theorem: the check and the rules agree, for any words

@@ -4,7 +4,7 @@ use mathlib.Core.List.{List, [], _∷_}
 use Prim.Native.Nat.{ℕ, zero, suc, _+_, _*_, _/_, _%_, _^_}
 use lib.Dec.{eqb, ltb, leb}
 use lib.ListN.{getD}
-use Rattle.schema.specs.Layout.{endpointLimit, clusterLimit, attributeLimit, clusterCountWord, attributeCountWord, spareWord, pathColumn, versionColumn, keyColumn, traitsColumn, half, textKind, administer}
+use Rattle.schema.specs.Layout.{endpointLimit, clusterLimit, attributeLimit, textLimit, clusterCountWord, attributeCountWord, spareColumn, spareCount, pathColumn, versionColumn, keyColumn, traitsColumn, half, textKind, administer}
 use Rattle.schema.specs.Rows.{word, clusterRow, attributeRow, clusterCount, attributeCount, isText, rowsFrom}
 
 -- p holds at each index below n
@@ -71,13 +71,17 @@ attributesRight w n m = rises w keyColumn m (n * half) && allTraits w m
 -- every rule but that of the ranks
 abbrev pub columnsRight : List ℕ → Bool
 columnsRight w =
-    eqb (getD w spareWord 0) 0
+    allBelow w spareColumn spareCount 1
     && (leb (getD w clusterCountWord 0) clusterLimit
     && (leb (getD w attributeCountWord 0) attributeLimit
     && (clustersRight w (clusterCount w) && attributesRight w (clusterCount w) (attributeCount w))))
 
+-- the ranks of the first n attributes, and how many of them are texts
+abbrev pub ranked : List ℕ → ℕ → Bool
+ranked w n = allRanks w n && leb (rank w n) textLimit
+
 abbrev pub ranksRight : List ℕ → Bool
-ranksRight w = allRanks w (attributeCount w)
+ranksRight w = ranked w (attributeCount w)
 
 unfoldable pub wellFormed : List ℕ → Bool
 wellFormed w = columnsRight w && ranksRight w

@@ -1,5 +1,5 @@
 -- The limits, and where the schema's words lie. The code has constants of the same names; the contracts hold the two together.
-use Prim.Native.Nat.{ℕ, _+_, _^_}
+use Prim.Native.Nat.{ℕ, _+_, _-_, _^_}
 
 -- document 01, A sign's plan: "At most 8 endpoints, 32 clusters, 256 attributes"
 abbrev pub endpointLimit : ℕ
@@ -14,6 +14,10 @@ attributeLimit = 256
 -- "text of up to 200 bytes": what one text takes in the page of edits
 abbrev pub textSize : ℕ
 textSize = 200
+
+-- how many texts a schema may have: as many as attributes, so that document 01 is not narrowed
+abbrev pub textLimit : ℕ
+textLimit = 256
 
 -- the last of the five kinds, which is text, and the highest of the four privileges
 abbrev pub textKind : ℕ
@@ -32,12 +36,19 @@ attributeCountWord = 1
 abbrev pub subjectWord : ℕ
 subjectWord = 2
 
-abbrev pub spareWord : ℕ
-spareWord = 3
+-- the header has 16 words; those from spareColumn on are for later use
+abbrev pub headerSize : ℕ
+headerSize = 16
 
--- where each column starts
+abbrev pub spareColumn : ℕ
+spareColumn = 3
+
+abbrev pub spareCount : ℕ
+spareCount = headerSize - spareColumn
+
+-- where each column starts: behind the header, a new one behind the last
 abbrev pub pathColumn : ℕ
-pathColumn = 4
+pathColumn = headerSize
 
 abbrev pub versionColumn : ℕ
 versionColumn = pathColumn + clusterLimit
@@ -57,9 +68,13 @@ highColumn = lowColumn + attributeLimit
 abbrev pub firstColumn : ℕ
 firstColumn = highColumn + attributeLimit
 
-abbrev pub wordCount : ℕ
-wordCount = firstColumn + attributeLimit
+-- the factory texts, by rank
+abbrev pub factoryColumn : ℕ
+factoryColumn = firstColumn + attributeLimit
 
--- a path (endpoint, cluster) and a key (index of the cluster's row, attribute) are two halves of 32 bits
+abbrev pub wordCount : ℕ
+wordCount = factoryColumn + textLimit
+
+-- a path (endpoint, cluster), a key (index of the cluster's row, attribute) and a factory text (start, length) are two halves of 32 bits
 abbrev pub half : ℕ
 half = 2 ^ 32

@@ -1,14 +1,18 @@
 -- The schema as lists of typed rows, decoded from its words (document 01, A sign's plan). Nothing of a word is lost: two words that decode alike are equal.
 use Prim.Native.Nat.{ℕ, zero, suc, _+_, _-_, _/_, _%_, _^_, min}
 use mathlib.Core.List.{List, [], _∷_, _++_}
-use mathlib.Core.Bool.{Bool}
-use lib.Dec.{eqb}
-use lib.ListN.{getD, replicate}
-use Rattle.schema.specs.Layout.{clusterLimit, attributeLimit, clusterCountWord, attributeCountWord, pathColumn, versionColumn, keyColumn, traitsColumn, lowColumn, highColumn, firstColumn, half, textKind}
+use mathlib.Core.Bool.{Bool, cond}
+use lib.Dec.{eqb, ltb}
+use lib.ListN.{getD, length, replicate}
+use Rattle.schema.specs.Layout.{clusterLimit, attributeLimit, textLimit, clusterCountWord, attributeCountWord, pathColumn, versionColumn, keyColumn, traitsColumn, lowColumn, highColumn, firstColumn, factoryColumn, half, textKind}
 
 -- word i of a column
 abbrev pub word : List ℕ → ℕ → ℕ → ℕ
 word w column i = getD w (column + i) 0
+
+-- a column of n words that starts with these, filled up with 0: how a schema is laid out as words
+abbrev pub column : ℕ → List ℕ → List ℕ
+column n l = l ++ replicate (n - length l) 0
 
 -- a cluster on an endpoint, with the data version that it starts with
 pub record ClusterRow : Type 0 where
@@ -27,7 +31,7 @@ pub record AttributeRow : Type 0 where
   -- 0 not readable (not writable), 1 View, 2 Operate, 3 Manage, 4 Administer
   pub read : ℕ
   pub write : ℕ
-  -- by kind: lowest, highest and first value; of a text where its factory text starts, its length, and the text's rank
+  -- by kind: lowest, highest and first value; of a text the first is its rank, and the others are not looked at
   pub low : ℕ
   pub high : ℕ
   pub first : ℕ
@@ -78,3 +82,13 @@ attributes w = rowsFrom (attributeRow w) (attributeCount w) 0
 
 abbrev pub isText : AttributeRow → Bool
 isText a = eqb (a .kind) textKind
+
+-- the factory text of a rank: where it starts in the page of defaults, and its length. Both are 0 where no text has the rank by the limit
+abbrev pub factoryWord : List ℕ → ℕ → ℕ
+factoryWord w r = cond (ltb r textLimit) (word w factoryColumn r) 0
+
+abbrev pub factoryStart : List ℕ → ℕ → ℕ
+factoryStart w r = factoryWord w r / half
+
+abbrev pub factoryLength : List ℕ → ℕ → ℕ
+factoryLength w r = factoryWord w r % half

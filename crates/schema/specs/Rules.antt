@@ -6,9 +6,9 @@ use mathlib.Core.Logic.{_⊎_}
 use Prim.Native.Nat.{ℕ, suc, _+_, _^_, _<_, _≤_}
 use lib.Dec.{eqb}
 use lib.ListN.{getD, length}
-use Rattle.schema.specs.Layout.{endpointLimit, clusterLimit, attributeLimit, clusterCountWord, attributeCountWord, spareWord, textKind, administer}
-use Rattle.schema.specs.Rows.{ClusterRow, AttributeRow, attributeRow, clusters, attributes, isText}
-use Rattle.schema.specs.Check.{one}
+use Rattle.schema.specs.Layout.{endpointLimit, clusterLimit, attributeLimit, textLimit, clusterCountWord, attributeCountWord, spareColumn, spareCount, textKind, administer}
+use Rattle.schema.specs.Rows.{word, ClusterRow, AttributeRow, attributeRow, clusters, attributes, isText}
+use Rattle.schema.specs.Check.{one, textCount}
 
 -- P holds of each element
 abbrev pub Each : {A : Type 0} → (A → Type 0) → List A → Type 0
@@ -103,5 +103,6 @@ pub record Rules (w : List ℕ) : Type 0 where
   pub clusterRules : Each ClusterRules (clusters w)
   pub attributeRules : Each (AttributeRules (length (clusters w))) (attributes w)
   pub ranks : Ranked 0 (attributes w)
-  -- a word for later use
-  pub spare : getD w spareWord 0 ≡ 0
+  pub textNumber : textCount w ≤ textLimit
+  -- the words for later use
+  pub spare : (i : ℕ) → i < spareCount → word w spareColumn i ≡ 0

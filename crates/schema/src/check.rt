@@ -3,7 +3,7 @@
 ghost use mathlib.Core.Path.{_≡_};
 ghost use Prim.Native.Nat.{_+_, _^_, _≤_};
 ghost use Rattle.schema.specs.Layout.{clusterLimit, attributeLimit, wordCount};
-ghost use Rattle.schema.specs.Check.{rises, allBelow, endpointChanges, topBitsClear, allTraits, allRanks, clustersRight, attributesRight, columnsRight, wellFormed};
+ghost use Rattle.schema.specs.Check.{rises, allBelow, endpointChanges, topBitsClear, allTraits, ranked, clustersRight, attributesRight, columnsRight, wellFormed};
 use super::ADMINISTER;
 use super::ATTRIBUTE_COUNT_WORD;
 use super::ATTRIBUTES;
@@ -16,8 +16,10 @@ use super::KEY;
 use super::NULLABLE_PART;
 use super::PATH;
 use super::READ_PART;
-use super::SPARE_WORD;
+use super::SPARE;
+use super::SPARES;
 use super::TEXT;
+use super::TEXTS;
 use super::TRAITS;
 use super::VERSION;
 use super::WORDS;
@@ -122,10 +124,10 @@ fn all_traits(w: &[u64; WORDS], n: usize) -> bool
     top_bits_clear(bits)
 }
 
-// The first word of each text is its rank: how many texts stand before it.
+// The first word of each text is its rank: how many texts stand before it. And there are not too many.
 fn all_ranks(w: &[u64; WORDS], n: usize) -> bool
     requires { ⌜ n ≤ attributeLimit ⌝ }
-    ensures { λ r. ⌜ r ≡ allRanks (now (w .entry)) n ⌝ }
+    ensures { λ r. ⌜ r ≡ ranked (now (w .entry)) n ⌝ }
 {
     let mut rank: u64 = 0;
     let mut i = 0;
@@ -140,7 +142,7 @@ fn all_ranks(w: &[u64; WORDS], n: usize) -> bool
             i += 1;
         }
     }
-    true
+    rank <= TEXTS as u64
 }
 
 fn clusters_right(w: &[u64; WORDS], n: usize) -> bool
@@ -170,7 +172,7 @@ fn attributes_right(w: &[u64; WORDS], n: usize, m: usize) -> bool
 pub fn columns_right(w: &[u64; WORDS]) -> bool
     ensures { λ r. ⌜ r ≡ columnsRight (now (w .entry)) ⌝ }
 {
-    if w[SPARE_WORD] != 0 {
+    if !all_below(w, SPARE, SPARES, 1) {
         return false;
     }
     if w[CLUSTER_COUNT_WORD] > CLUSTERS as u64 {

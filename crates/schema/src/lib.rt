@@ -5,7 +5,7 @@ ghost use Prim.Native.Nat.{_<_};
 ghost use lib.ListN.{getD};
 ghost use lib.Dec.{eqb};
 ghost use Rattle.schema.specs.Layout.{clusterLimit, attributeLimit, subjectWord};
-ghost use Rattle.schema.specs.Rows.{clusterCount, attributeCount, clusterRow, attributeRow, isText};
+ghost use Rattle.schema.specs.Rows.{clusterCount, attributeCount, clusterRow, attributeRow, isText, factoryWord, factoryStart, factoryLength};
 
 pub mod check;
 pub mod find;
@@ -18,6 +18,8 @@ pub const CLUSTERS: usize = 32;
 
 pub const ATTRIBUTES: usize = 256;
 
+pub const TEXTS: usize = 256;
+
 pub const TEXT_SIZE: usize = 200;
 
 // The header's words.
@@ -27,10 +29,15 @@ pub const ATTRIBUTE_COUNT_WORD: usize = 1;
 
 pub const SUBJECT_WORD: usize = 2;
 
-pub const SPARE_WORD: usize = 3;
+// The header has 16 words; those from SPARE on are for later use.
+pub const HEADER: usize = 16;
 
-// Where each column starts. A new column is one line here and one in specs/Layout.antt.
-pub const PATH: usize = 4;
+pub const SPARE: usize = 3;
+
+pub const SPARES: usize = HEADER - SPARE;
+
+// Where each column starts. A new column comes behind the last: one line here and one in specs/Layout.antt.
+pub const PATH: usize = HEADER;
 
 pub const VERSION: usize = PATH + CLUSTERS;
 
@@ -44,9 +51,11 @@ pub const HIGH: usize = LOW + ATTRIBUTES;
 
 pub const FIRST: usize = HIGH + ATTRIBUTES;
 
-pub const WORDS: usize = FIRST + ATTRIBUTES;
+pub const FACTORY: usize = FIRST + ATTRIBUTES;
 
-// A path (endpoint, cluster) and a key (index of the cluster's row, attribute) are two halves of 32 bits.
+pub const WORDS: usize = FACTORY + TEXTS;
+
+// A path (endpoint, cluster), a key (index of the cluster's row, attribute) and a factory text (start, length) are two halves of 32 bits.
 pub const HALF: u64 = 4_294_967_296;
 
 // The traits are four bytes: kind, nullable, read, write.
@@ -189,4 +198,24 @@ pub fn is_text(w: &[u64; WORDS], i: usize) -> bool
     ensures { λ r. ⌜ r ≡ isText (attributeRow (now (w .entry)) i) ⌝ }
 {
     w[TRAITS + i] % BYTE == TEXT
+}
+
+// The factory text of a rank. A rank that no text may have is none of the column's.
+fn factory_word(w: &[u64; WORDS], rank: usize) -> u64
+    ensures { λ r. ⌜ r ≡ factoryWord (now (w .entry)) rank ⌝ }
+{
+    if rank < TEXTS { w[FACTORY + rank] } else { 0 }
+}
+
+// Where it starts in the page of defaults.
+pub fn factory_start(w: &[u64; WORDS], rank: usize) -> usize
+    ensures { λ r. ⌜ r ≡ factoryStart (now (w .entry)) rank ⌝ }
+{
+    (factory_word(w, rank) / HALF) as usize
+}
+
+pub fn factory_length(w: &[u64; WORDS], rank: usize) -> usize
+    ensures { λ r. ⌜ r ≡ factoryLength (now (w .entry)) rank ⌝ }
+{
+    (factory_word(w, rank) % HALF) as usize
 }

@@ -1,5 +1,6 @@
 // The setup line of an attribute: its row of the schema's words, and its factory text.
 ghost use Prim.Native.Nat.{_≤_, _<_};
+ghost use Rattle.schema.specs.Layout.{attributeLimit};
 use super::PAGE;
 use super::PATHS;
 use super::SETUP;
@@ -35,7 +36,7 @@ use script::number::read_signed;
 use script::path::read_path;
 use script::sizes::clip;
 
-// A kind with its limits and first value, as words of the schema; of a text its length as the highest.
+// A kind with its limits and first value, as words of the schema; of a text its length as the highest, until its rank is known.
 struct Limits {
     code: u64,
     low: u64,
@@ -190,11 +191,11 @@ fn read_row(line: &[u8], s: Scan, bytes: &mut [u8]) -> Row {
 
 // The row that the next attribute takes; ATTRIBUTES where there is none left.
 fn next_row(setup: &mut [u64; SETUP]) -> usize
-    ensures { λ r. ⌜ r ≤ 256 ⌝ }
+    ensures { λ r. ⌜ r ≤ attributeLimit ⌝ }
 {
     let n = setup[ATTRIBUTE_COUNT_WORD];
-    setup[ATTRIBUTE_COUNT_WORD] = count_up(n, 257);
-    if n < 256 {
+    setup[ATTRIBUTE_COUNT_WORD] = count_up(n, ATTRIBUTES as u64 + 1);
+    if n < ATTRIBUTES as u64 {
         return n as usize;
     }
     ATTRIBUTES
@@ -202,7 +203,7 @@ fn next_row(setup: &mut [u64; SETUP]) -> usize
 
 // The words of a row.
 fn set_row(setup: &mut [u64; SETUP], i: usize, row: Row)
-    requires { ⌜ i < 256 ⌝ }
+    requires { ⌜ i < attributeLimit ⌝ }
 {
     let limits = row.limits;
     setup[PATHS + i] = row.path;
@@ -215,7 +216,7 @@ fn set_row(setup: &mut [u64; SETUP], i: usize, row: Row)
 
 // A factory text goes to the place of its row. An overlong one is not kept: its length alone has the schema refused.
 fn set_text(setup: &mut [u64; SETUP], texts: &mut [u8], i: usize, bytes: &[u8])
-    requires { ⌜ i < 256 ⌝ }
+    requires { ⌜ i < attributeLimit ⌝ }
 {
     let at = TEXT_SIZE * i;
     setup[LOW + i] = at as u64;

@@ -3,6 +3,7 @@
 use kinds::stored::same_bytes;
 use schema::ATTRIBUTES;
 use schema::CLUSTER_COUNT_WORD;
+use schema::CLUSTERS;
 use schema::HALF;
 use schema::PATH;
 use schema::SUBJECT_WORD;
@@ -44,8 +45,8 @@ fn subject_line(line: &[u8], s: Scan, setup: &mut [u64; SETUP]) -> bool {
 
 fn add_cluster(setup: &mut [u64; SETUP], path: u64, version: u64) {
     let n = setup[CLUSTER_COUNT_WORD];
-    setup[CLUSTER_COUNT_WORD] = count_up(n, 33);
-    if n < 32 {
+    setup[CLUSTER_COUNT_WORD] = count_up(n, CLUSTERS as u64 + 1);
+    if n < CLUSTERS as u64 {
         let i = n as usize;
         setup[PATH + i] = path;
         setup[VERSION + i] = version;

@@ -1,13 +1,18 @@
 // The schema of all lines so far.
 ghost use Prim.Native.Nat.{_≤_, _<_, _+_};
+ghost use Rattle.schema.specs.Layout.{clusterLimit, attributeLimit};
 use super::PATHS;
 use super::SETUP;
 use schema::ATTRIBUTES;
 use schema::CLUSTERS;
+use schema::FACTORY;
 use schema::FIRST;
 use schema::Found;
 use schema::HALF;
+use schema::HIGH;
 use schema::KEY;
+use schema::LOW;
+use schema::TEXTS;
 use schema::WORDS;
 use schema::find::find_cluster;
 use schema::is_text;
@@ -15,7 +20,7 @@ use script::sizes::least;
 
 // Where the cluster of a path stands among the rows; past the last row where it has none, so that the schema is refused.
 fn row_of(words: &[u64; WORDS], path: u64) -> u64
-    ensures { λ r. ⌜ r ≤ 32 ⌝ }
+    ensures { λ r. ⌜ r ≤ clusterLimit ⌝ }
 {
     let Found::At(i) = find_cluster(words, (path / HALF % 65_536) as u16, (path % HALF) as u32)
     else {
@@ -24,9 +29,18 @@ fn row_of(words: &[u64; WORDS], path: u64) -> u64
     least(i, CLUSTERS) as u64
 }
 
-// The key of an attribute, and of a text its rank; answers how many texts there are so far.
+// The factory text of a rank, whose start and length its row has as lowest and highest. One past the limit is not kept: the schema is then refused.
+fn set_factory(words: &mut [u64; WORDS], i: usize, rank: usize)
+    requires { ⌜ i < attributeLimit ⌝ }
+{
+    if rank < TEXTS {
+        words[FACTORY + rank] = words[LOW + i] % HALF * HALF + words[HIGH + i] % HALF;
+    }
+}
+
+// The key of an attribute, and of a text its rank and factory text; answers how many texts there are so far.
 fn set_key(words: &mut [u64; WORDS], i: usize, path: u64, rank: u64) -> u64
-    requires { ⌜ (i < 256) × (rank ≤ i) ⌝ }
+    requires { ⌜ (i < attributeLimit) × (rank ≤ i) ⌝ }
     ensures { λ r. ⌜ r ≤ i + 1 ⌝ }
 {
     let row = row_of(words, path);
@@ -34,6 +48,7 @@ fn set_key(words: &mut [u64; WORDS], i: usize, path: u64, rank: u64) -> u64
     words[KEY + i] = row * HALF + id;
     if is_text(words, i) {
         words[FIRST + i] = rank;
+        set_factory(words, i, rank as usize);
         return rank + 1;
     }
     rank
@@ -48,7 +63,7 @@ fn set_words(setup: &[u64; SETUP], words: &mut [u64; WORDS]) {
     }
 }
 
-// All clusters are known now: the keys of all attributes, and the ranks of all texts.
+// All clusters are known now: the keys of all attributes, and the ranks and factory texts of all texts.
 fn set_keys(setup: &[u64; SETUP], words: &mut [u64; WORDS]) {
     let n = least(schema::attribute_count(words), ATTRIBUTES);
     let mut rank = 0;

@@ -2,16 +2,13 @@
 use mathlib.Core.Bool.{true, false}
 use mathlib.Core.List.{List, [], _∷_, _++_}
 use Prim.Native.Nat.{ℕ, _+_, _*_, _-_, _^_}
-use lib.ListN.{length, replicate}
-use Rattle.schema.specs.Layout.{clusterLimit, attributeLimit, half}
+use lib.ListN.{replicate}
+use Rattle.schema.specs.Layout.{headerSize, clusterLimit, attributeLimit, half, textLimit, textSize}
+use Rattle.schema.specs.Rows.{column}
 use Rattle.acl.specs.declared.Entry.{Entry}
 use Rattle.values.specs.Fresh.{freshValues}
 use Rattle.server.specs.declared.State.{State}
 use Rattle.server.specs.Start.{freshRow}
-
--- a column of the schema, filled up with 0
-abbrev column : ℕ → List ℕ → List ℕ
-column n l = l ++ replicate (n - length l) 0
 
 -- readable with View, writable with Operate: the traits of a kind, 0 boolean, 1 unsigned, 2 signed, 3 float, 4 text
 abbrev traits : ℕ → ℕ
@@ -21,6 +18,10 @@ traits kind = kind + 1 * 2 ^ 16 + 2 * 2 ^ 24
 abbrev key : ℕ → ℕ → ℕ
 key place id = place * half + id
 
+-- the factory text of a rank
+abbrev factory : ℕ → ℕ → ℕ
+factory start len = start * half + len
+
 -- a negative number of 64 bits
 abbrev minus : ℕ → ℕ
 minus n = 2 ^ 64 - n
@@ -29,14 +30,15 @@ minus n = 2 ^ 64 - n
 -- Cluster 8: a float from 0.0 to 100.0, 0.0; a text, the 6 bytes of the page of defaults; FFFD, 6
 unfoldable pub words : List ℕ
 words =
-    (2 ∷ 6 ∷ 1 ∷ 0 ∷ [])
+    column headerSize (2 ∷ 6 ∷ 1 ∷ [])
     ++ (column clusterLimit ((1 * half + 6) ∷ (1 * half + 8) ∷ [])
     ++ (column clusterLimit (5 ∷ 0xFFFF_FFFF ∷ [])
     ++ (column attributeLimit (key 0 0 ∷ key 0 1 ∷ key 0 0xFFFD ∷ key 1 0 ∷ key 1 1 ∷ key 1 0xFFFD ∷ [])
     ++ (column attributeLimit (traits 0 ∷ traits 2 ∷ traits 1 ∷ traits 3 ∷ traits 4 ∷ traits 1 ∷ [])
     ++ (column attributeLimit (0 ∷ minus 1000 ∷ 0 ∷ 0 ∷ 0 ∷ 0 ∷ [])
-    ++ (column attributeLimit (0 ∷ 1000 ∷ 0xFFFF ∷ 0x42C8_0000 ∷ 6 ∷ 0xFFFF ∷ [])
-    ++ column attributeLimit (1 ∷ minus 128 ∷ 4 ∷ 0 ∷ 0 ∷ 6 ∷ [])))))))
+    ++ (column attributeLimit (0 ∷ 1000 ∷ 0xFFFF ∷ 0x42C8_0000 ∷ 0 ∷ 0xFFFF ∷ [])
+    ++ (column attributeLimit (1 ∷ minus 128 ∷ 4 ∷ 0 ∷ 0 ∷ 6 ∷ [])
+    ++ column textLimit (factory 0 6 ∷ []))))))))
 
 -- the factory text "BORROW"
 unfoldable pub defaults : List ℕ
@@ -44,7 +46,7 @@ defaults = 0x42 ∷ 0x4F ∷ 0x52 ∷ 0x52 ∷ 0x4F ∷ 0x57 ∷ []
 
 -- a page for the edits of one text
 unfoldable pub edits : List ℕ
-edits = replicate 200 0
+edits = replicate textSize 0
 
 -- subject 1 may operate every cluster of endpoint 1
 abbrev operator : Entry

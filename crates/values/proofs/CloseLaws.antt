@@ -10,9 +10,9 @@ use lib.ListN.{length, getD, replicate, getD-replicate}
 use Rattle.tlv.specs.Octet.{pick}
 use Rattle.kinds.specs.Limits.{textMax}
 use Rattle.kinds.specs.Stored.{held}
-use Rattle.schema.specs.Layout.{attributeLimit, textSize}
-use Rattle.schema.specs.Rows.{attributeRow, attributeCount, isText}
-use Rattle.schema.specs.Check.{every, rank, rankRight, ranksRight, textCount}
+use Rattle.schema.specs.Layout.{attributeLimit, textLimit, textSize}
+use Rattle.schema.specs.Rows.{attributeRow, attributeCount, isText, factoryStart}
+use Rattle.schema.specs.Check.{every, rank, rankRight, allRanks, ranksRight, textCount}
 use Rattle.schema.proofs.BoolLaws.{both, left, right, by-test, same}
 use Rattle.schema.proofs.CheckLaws.{every-at, every-all, no-text}
 use Rattle.node.specs.Check.{numberRight, numbersRight}
@@ -29,7 +29,7 @@ module _ (w defaults edits words : List ℕ) (nulls edited : List Bool) (i : ℕ
   shown = shownAt w defaults edits i (getD words i 0) (getD nulls i false) (getD edited i false)
 
   -- then nothing but its length is compared
-  near-all : near (attributeRow w i .low) (getD words i 0) (getD all i false) textMax ≡ leb (getD words i 0) textMax
+  near-all : near (factoryStart w (attributeRow w i .first)) (getD words i 0) (getD all i false) textMax ≡ leb (getD words i 0) textMax
   near-all =
       let e : getD all i false ≡ true = getD-replicate attributeLimit i true false (omega arith) in
       rw e (sym (and-true (leb (getD words i 0) textMax)))
@@ -69,7 +69,7 @@ module _ (w defaults edits words : List ℕ) (nulls edited : List Bool) (i : ℕ
 
     open-quick : quickAt w words nulls all textMax i ≡ true
     open-quick =
-        by-test (isText (attributeRow w i)) (λ t. rw t (both (eqb (attributeRow w i .first) (rank w i)) (near (attributeRow w i .low) (getD words i 0) (getD all i false) textMax) (rw t at r) (near-all ∙ limits-to t (getD nulls i false) limits)))
+        by-test (isText (attributeRow w i)) (λ t. rw t (both (eqb (attributeRow w i .first) (rank w i)) (near (factoryStart w (attributeRow w i .first)) (getD words i 0) (getD all i false) textMax) (rw t at r) (near-all ∙ limits-to t (getD nulls i false) limits)))
         (λ t. rw t (both (numberRight (attributeRow w i)) (withinLimits w i (getD words i 0) (getD nulls i false)) (left (numberRight (attributeRow w i)) _ h) limits))
 
     open-shown : shown ≡ true
@@ -92,20 +92,22 @@ module _ (w defaults edits words : List ℕ) (nulls edited : List Bool) where
       let q = left (allQuick w words nulls all textMax (length edits)) _ t in
       let row = every-at (quickAt w words nulls all textMax) (attributeCount w) (left _ _ q) in
       let s = every-at (λ k. shownAt w defaults edits k (getD words k 0) (getD nulls k false) (getD edited k false)) (attributeCount w) (right (allQuick w words nulls all textMax (length edits)) _ t) in
-      let size = eqb-true (length edits) (textSize * textCount w) (right (every (quickAt w words nulls all textMax) (attributeCount w)) _ q) in
-      both (ranksRight w) _ (every-all (rankRight w) (attributeCount w) (λ i l. close-rank w defaults edits words nulls edited i l (row i l)))
+      let counted = right (every (quickAt w words nulls all textMax) (attributeCount w)) (leb (textCount w) textLimit && eqb (length edits) (textSize * textCount w)) q in
+      let size = eqb-true (length edits) (textSize * textCount w) (right (leb (textCount w) textLimit) _ counted) in
+      both (ranksRight w) _ (both _ _ (every-all (rankRight w) (attributeCount w) (λ i l. close-rank w defaults edits words nulls edited i l (row i l))) (left _ _ counted))
       (sym (right-done w defaults edits (heldOf words nulls edited) size (every-all (bothAt w defaults edits (heldOf words nulls edited)) (attributeCount w) (λ i l. close-both w defaults edits words nulls edited i l (n i l) (row i l) (s i l)))))
 
   close-from : right-all ≡ true → closely ≡ true
   unfolding valuesRight allQuick
   close-from h =
-      let r = every-at (rankRight w) (attributeCount w) (left _ _ h) in
+      let ranks = left (ranksRight w) _ h in
+      let r = every-at (rankRight w) (attributeCount w) (left _ _ ranks) in
       let k = right (ranksRight w) _ h in
       let b = at-each w defaults edits (heldOf words nulls edited) k in
       let size = edits-size w defaults edits (heldOf words nulls edited) (right (numbersRight w) _ k) in
       both _ _ (every-all (nullAt w words nulls) (attributeCount w) (λ i l. open-null w defaults edits words nulls edited i l (r i l) (b i l)))
       (both _ _
-      (both _ _ (every-all (quickAt w words nulls all textMax) (attributeCount w) (λ i l. open-quick w defaults edits words nulls edited i l (r i l) (b i l))) (eq-eqb _ _ size))
+      (both _ _ (every-all (quickAt w words nulls all textMax) (attributeCount w) (λ i l. open-quick w defaults edits words nulls edited i l (r i l) (b i l))) (both _ _ (right (allRanks w (attributeCount w)) _ ranks) (eq-eqb _ _ size)))
       (every-all (λ k. shownAt w defaults edits k (getD words k 0) (getD nulls k false) (getD edited k false)) (attributeCount w) (λ i l. open-shown w defaults edits words nulls edited i l (r i l) (b i l))))
 
   -- THE CLOSE LOOK IS EXACT

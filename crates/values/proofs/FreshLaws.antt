@@ -4,18 +4,18 @@ use mathlib.Core.List.{List}
 use mathlib.Core.Bool.{true, false}
 use Prim.Native.Nat.{ℕ, _+_, _*_, _-_, _≤_, _<_}
 use native.Mathlib.Omega.{arith}
-use borrow.Author.Tests.{eqb-true, eq-eqb}
+use borrow.Author.Tests.{eq-eqb}
 use lib.ListN.{length, getD, set, take, drop, getD-replicate, replicate, length-replicate, length-append}
 use Rattle.schema.specs.Layout.{clusterLimit, attributeLimit, textSize}
-use Rattle.schema.specs.Rows.{clusterRow, attributeRow, clusterCount, attributeCount, isText, rowsFrom, filled}
+use Rattle.schema.specs.Rows.{clusterRow, attributeRow, clusterCount, attributeCount, isText, factoryStart, factoryLength, rowsFrom, filled}
 use Rattle.schema.specs.Check.{textCount}
 use Rattle.schema.proofs.BoolLaws.{both, by-test}
 use Rattle.schema.proofs.RowLaws.{rows-length, fill-step, filled-at}
+use Rattle.schema.proofs.TextLaws.{text-inside}
 use Rattle.node.specs.Attributes.{firstWord, typed}
 use Rattle.node.specs.Pages.{shownText}
 use Rattle.node.specs.Rules.{FactoryRules, SchemaRules}
-use Rattle.node.proofs.KindLaws.{kind-text}
-use Rattle.node.proofs.RulesLaws.{first-held, factory-rules}
+use Rattle.node.proofs.RulesLaws.{first-held}
 use Rattle.values.specs.Values.{textAt}
 use Rattle.values.specs.Fresh.{freshValues}
 use Rattle.values.specs.Valid.{shownRight, valuesRight}
@@ -33,9 +33,9 @@ module _ (f : ℕ → ℕ) (n : ℕ) (l : List ℕ) (i : ℕ) (filling : l ≡ f
 
 module _ (w page : List ℕ) (rules : SchemaRules w page) (edits : List ℕ) where
   module _ (i : ℕ) (below : i < attributeCount w) where
-    fresh-word : getD (freshValues w .words) i 0 ≡ firstWord (attributeRow w i)
+    fresh-word : getD (freshValues w .words) i 0 ≡ firstWord w (attributeRow w i)
     unfolding freshValues
-    fresh-word = filled-at 0 (λ k. firstWord (attributeRow w k)) attributeLimit (attributeCount w) i 0 below
+    fresh-word = filled-at 0 (λ k. firstWord w (attributeRow w k)) attributeLimit (attributeCount w) i 0 below
 
     fresh-null : getD (freshValues w .nulls) i false ≡ false
     unfolding freshValues
@@ -45,25 +45,26 @@ module _ (w page : List ℕ) (rules : SchemaRules w page) (edits : List ℕ) whe
     unfolding freshValues
     fresh-edited = getD-replicate attributeLimit i false false (omega (arith, below))
 
-    first-within : withinLimits w i (firstWord (attributeRow w i)) false ≡ true
+    first-within : withinLimits w i (firstWord w (attributeRow w i)) false ≡ true
     unfolding typed
     first-within = first-held w page rules i below
 
     -- a factory text is shown whole
-    factory-right : isText (attributeRow w i) ≡ true → shownRight (textAt w page edits i (firstWord (attributeRow w i)) false) (firstWord (attributeRow w i)) ≡ true
-    unfolding typed textAt shownText shownRight
+    factory-right : isText (attributeRow w i) ≡ true → shownRight (textAt w page edits i (firstWord w (attributeRow w i)) false) (firstWord w (attributeRow w i)) ≡ true
+    unfolding textAt shownText shownRight
     factory-right t =
         let a = attributeRow w i in
-        let r : FactoryRules page (typed a) = factory-rules w page rules i below (kind-text a (eqb-true _ _ t)) in
-        let l : a .low + a .high ≤ length page = rw t at (r .inside) in
-        rw t (both _ _ (eq-eqb (length (take (a .high) (drop (a .low) page))) (a .high) (part-length page (a .low) (a .high) l)) (rw t at (r .valid)))
+        let start = factoryStart w (a .first) in
+        let len = factoryLength w (a .first) in
+        let r : FactoryRules page start len = rules .texts (a .first) (text-inside w (rules .structure) i below t) in
+        rw t (both _ _ (eq-eqb (length (take len (drop start page))) len (part-length page start len (r .inside))) (r .valid))
 
     fresh-right-at : rightAt w page edits (freshValues w) i ≡ true
     fresh-right-at =
         rw (fresh-word, fresh-null, fresh-edited)
         (by-test (isText (attributeRow w i))
-        (λ t. sym (text-right w page edits i (firstWord (attributeRow w i)) false false first-within refl t) ∙ factory-right t)
-        (λ t. sym (number-right w page edits i (firstWord (attributeRow w i)) false false first-within refl t)))
+        (λ t. sym (text-right w page edits i (firstWord w (attributeRow w i)) false false first-within refl t) ∙ factory-right t)
+        (λ t. sym (number-right w page edits i (firstWord w (attributeRow w i)) false false first-within refl t)))
 
   -- a fresh sign keeps the rules, whatever its page of edits has
   pub fresh-right : length edits ≡ textSize * textCount w → valuesRight w page edits (freshValues w) ≡ true
@@ -77,7 +78,7 @@ pub fresh-whole : (w : List ℕ) → Whole (freshValues w)
 unfolding freshValues
 fresh-whole w =
     record {
-      words = filled-length (λ i. firstWord (attributeRow w i)) attributeLimit (attributeCount w) (omega arith);
+      words = filled-length (λ i. firstWord w (attributeRow w i)) attributeLimit (attributeCount w) (omega arith);
       nulls = length-replicate attributeLimit false;
       edited = length-replicate attributeLimit false;
       versions = filled-length (λ i. clusterRow w i .version) clusterLimit (clusterCount w) (omega arith);

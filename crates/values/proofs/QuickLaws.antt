@@ -11,8 +11,8 @@ use Rattle.tlv.specs.Octet.{pick}
 use Rattle.utf8.specs.Bytewise.{allBelow}
 use Rattle.utf8.proofs.Below.{ascii-formed, below-part}
 use Rattle.kinds.specs.Limits.{textMax}
-use Rattle.schema.specs.Layout.{attributeLimit, textSize}
-use Rattle.schema.specs.Rows.{attributeRow, attributeCount, isText}
+use Rattle.schema.specs.Layout.{attributeLimit, textLimit, textSize}
+use Rattle.schema.specs.Rows.{attributeRow, attributeCount, isText, factoryStart}
 use Rattle.schema.specs.Check.{every, rank, rankRight, ranksRight, textCount}
 use Rattle.schema.proofs.BoolLaws.{both, left, right, past, fails, by-test}
 use Rattle.schema.proofs.CheckLaws.{every-next, every-at, every-all, every-fails, no-text}
@@ -75,7 +75,7 @@ plain-text : (w defaults edits : List ℕ) (i word : ℕ) (edited : Bool) → al
 unfolding textAt shownText allBelow
 plain-text w defaults edits i word edited h =
     by-test (isText (attributeRow w i))
-    (λ t. rw t (below-part 128 word (shownFrom (attributeRow w i .low) (attributeRow w i .first) edited) (shownIn defaults edits edited) h))
+    (λ t. rw t (below-part 128 word (shownFrom (factoryStart w (attributeRow w i .first)) (attributeRow w i .first) edited) (shownIn defaults edits edited) h))
     (λ t. rw t)
 
 -- so nothing but its length is left to judge
@@ -111,8 +111,9 @@ module _ (w words : List ℕ) (nulls edited : List Bool) (len : ℕ) where
   pub quick-rank : (i k : ℕ) → k ≡ rank w i → isText (attributeRow w i) ≡ true → (attributeRow w i .first ≡ k → ⊥) → quickAt w words nulls edited len i ≡ false
   quick-rank i k e t n = rw (t, ne-eqb (attributeRow w i .first) (rank w i) (λ q. n (q ∙ sym e)))
 
-  pub quick-text : (i k : ℕ) → k ≡ rank w i → isText (attributeRow w i) ≡ true → attributeRow w i .first ≡ k → near (attributeRow w i .low) (getD words i 0) (getD edited i false) len ≡ quickAt w words nulls edited len i
-  quick-text i k e t q = rw (t, eq-eqb (attributeRow w i .first) (rank w i) (q ∙ e))
+  pub quick-text : (i k : ℕ) → k ≡ rank w i → isText (attributeRow w i) ≡ true → attributeRow w i .first ≡ k → near (factoryStart w k) (getD words i 0) (getD edited i false) len ≡ quickAt w words nulls edited len i
+  quick-text i k e t q =
+      ap (λ (r : ℕ). near (factoryStart w r) (getD words i 0) (getD edited i false) len) (sym q) ∙ rw (t, eq-eqb (attributeRow w i .first) (rank w i) (q ∙ e))
 
   pub quick-number : (i : ℕ) → isText (attributeRow w i) ≡ false → (numberRight (attributeRow w i) && withinLimits w i (getD words i 0) (getD nulls i false)) ≡ quickAt w words nulls edited len i
   quick-number i t = rw t
@@ -121,9 +122,16 @@ module _ (w words : List ℕ) (nulls edited : List Bool) (len : ℕ) where
   unfolding allQuick
   quick-wrong size i l t = fails _ _ (sym (every-fails (quickAt w words nulls edited len) (attributeCount w) i l t))
 
-  pub quick-done : (size : ℕ) → every (quickAt w words nulls edited len) (attributeCount w) ≡ true → eqb size (textSize * textCount w) ≡ allQuick w words nulls edited len size
+  -- a text too many
+  pub quick-many : (size i : ℕ) → i < attributeCount w → isText (attributeRow w i) ≡ true → textLimit ≤ rank w i → false ≡ allQuick w words nulls edited len size
   unfolding allQuick
-  quick-done size h = past _ _ h
+  quick-many size i l t m =
+      let c = lt-leb (textCount w) textLimit (omega (arith, count-past (λ j. isText (attributeRow w j)) (attributeCount w) i l t, m)) in
+      by-test (every (quickAt w words nulls edited len) (attributeCount w)) (λ h. rw (h, c)) (λ h. rw h)
+
+  pub quick-done : (size : ℕ) → every (quickAt w words nulls edited len) (attributeCount w) ≡ true → textCount w ≤ textLimit → eqb size (textSize * textCount w) ≡ allQuick w words nulls edited len size
+  unfolding allQuick
+  quick-done size h m = past _ _ (le-leb (textCount w) textLimit m) ∙ past _ _ h
 
 -- where a text is shown from, the page has it
 inside : (low first word : ℕ) (edited : Bool) (defaults edits : List ℕ) → near low word edited (length defaults) ≡ true → textSize * (first + 1) ≤ length edits → word ≤ length (shownIn defaults edits edited) - shownFrom low first edited
@@ -141,14 +149,14 @@ module _ (w defaults edits words : List ℕ) (nulls edited : List Bool) where
   page-below d e i l false q = plain-below defaults edited false (attributeCount w) (marked edited false (attributeCount w) i l q) d
 
   -- its text is there, whole
-  text-there : (i word : ℕ) (b : Bool) → isText (attributeRow w i) ≡ true → near (attributeRow w i .low) word b (length defaults) ≡ true → textSize * (attributeRow w i .first + 1) ≤ length edits → eqb (length (textAt w defaults edits i word b)) word ≡ true
+  text-there : (i word : ℕ) (b : Bool) → isText (attributeRow w i) ≡ true → near (factoryStart w (attributeRow w i .first)) word b (length defaults) ≡ true → textSize * (attributeRow w i .first + 1) ≤ length edits → eqb (length (textAt w defaults edits i word b)) word ≡ true
   unfolding textAt shownText
   text-there i word b t h s =
       rw t
-      (sym (part-whole word (shownFrom (attributeRow w i .low) (attributeRow w i .first) b) (shownIn defaults edits b))
-      ∙ le-leb _ _ (inside (attributeRow w i .low) (attributeRow w i .first) word b defaults edits h s))
+      (sym (part-whole word (shownFrom (factoryStart w (attributeRow w i .first)) (attributeRow w i .first) b) (shownIn defaults edits b))
+      ∙ le-leb _ _ (inside (factoryStart w (attributeRow w i .first)) (attributeRow w i .first) word b defaults edits h s))
 
-  text-quick-right : (i word : ℕ) (isNull b : Bool) → isText (attributeRow w i) ≡ true → allBelow 128 (shownIn defaults edits b) ≡ true → textSize * (attributeRow w i .first + 1) ≤ length edits → pick isNull (eqb (attributeRow w i .nullable) 1 && eqb word 0) true ≡ true → near (attributeRow w i .low) word b (length defaults) ≡ true → valueRight w defaults edits i word isNull b ≡ true
+  text-quick-right : (i word : ℕ) (isNull b : Bool) → isText (attributeRow w i) ≡ true → allBelow 128 (shownIn defaults edits b) ≡ true → textSize * (attributeRow w i .first + 1) ≤ length edits → pick isNull (eqb (attributeRow w i .nullable) 1 && eqb word 0) true ≡ true → near (factoryStart w (attributeRow w i .first)) word b (length defaults) ≡ true → valueRight w defaults edits i word isNull b ≡ true
   text-quick-right i word true b t p s n h =
       sym (null-text w defaults edits i word true b t refl) ∙ n
   text-quick-right i word false b t p s n h =
@@ -172,16 +180,19 @@ module _ (w defaults edits words : List ℕ) (nulls edited : List Bool) where
     passed : allQuick w words nulls edited (length defaults) (length edits) ≡ true
     passed = right (plainPage edits edited true (attributeCount w)) _ rest
 
-    size : length edits ≡ textSize * textCount w
+    counted : (leb (textCount w) textLimit && eqb (length edits) (textSize * textCount w)) ≡ true
     unfolding allQuick
-    size = eqb-true _ _ (right (every (quickAt w words nulls edited (length defaults)) (attributeCount w)) _ passed)
+    counted = right (every (quickAt w words nulls edited (length defaults)) (attributeCount w)) _ passed
+
+    size : length edits ≡ textSize * textCount w
+    size = eqb-true _ _ (right (leb (textCount w) textLimit) _ counted)
 
     row : (i : ℕ) → i < attributeCount w → quickAt w words nulls edited (length defaults) i ≡ true
     unfolding allQuick
     row = every-at (quickAt w words nulls edited (length defaults)) (attributeCount w) (left _ _ passed)
 
     module _ (i : ℕ) (l : i < attributeCount w) where
-      row-text : isText (attributeRow w i) ≡ true → (eqb (attributeRow w i .first) (rank w i) && near (attributeRow w i .low) (getD words i 0) (getD edited i false) (length defaults)) ≡ true
+      row-text : isText (attributeRow w i) ≡ true → (eqb (attributeRow w i .first) (rank w i) && near (factoryStart w (attributeRow w i .first)) (getD words i 0) (getD edited i false) (length defaults)) ≡ true
       row-text t = rw t at (row i l)
 
       row-rank : rankRight w i ≡ true
@@ -205,5 +216,5 @@ module _ (w defaults edits words : List ℕ) (nulls edited : List Bool) where
     pub quick-right : true ≡ (ranksRight w && (numbersRight w && heldRight w defaults edits words nulls edited))
     unfolding valuesRight
     quick-right =
-        sym (both (ranksRight w) _ (every-all (rankRight w) (attributeCount w) row-rank)
+        sym (both (ranksRight w) _ (both _ _ (every-all (rankRight w) (attributeCount w) row-rank) (left _ _ counted))
         (sym (right-done w defaults edits (heldOf words nulls edited) size (every-all (bothAt w defaults edits (heldOf words nulls edited)) (attributeCount w) row-right))))

@@ -14,7 +14,7 @@ use Rattle.tlv.specs.Value.{Datum}
 use Rattle.kinds.specs.Limits.{isNull, textMax}
 use Rattle.kinds.specs.Stored.{held, nextVersion}
 use Rattle.schema.specs.Layout.{clusterLimit, textSize}
-use Rattle.schema.specs.Rows.{AttributeRow, attributeRow, attributeCount}
+use Rattle.schema.specs.Rows.{AttributeRow, attributeRow, attributeCount, factoryStart}
 use Rattle.schema.specs.Rows as rows
 use Rattle.schema.specs.Rules.{Rules}
 use Rattle.schema.proofs.BoolLaws.{both, right, by-test}
@@ -76,7 +76,7 @@ module _ (w defaults edits : List ℕ) (v : Values) (i : ℕ) (d : Datum) (s : S
   pub shown-set : isText d ≡ true → shownOf w defaults (editsSet w edits i d) (setAt w v i d) i ≡ textOf d
   unfolding textAt editsSet
   shown-set t =
-      rw (word-set, edited-set t, text-goes t, sym (text-word d t)) (stored-shown defaults edits (attributeRow w i .first) (textOf d) (store-room t) (attributeRow w i .low))
+      rw (word-set, edited-set t, text-goes t, sym (text-word d t)) (stored-shown defaults edits (attributeRow w i .first) (textOf d) (store-room t) (factoryStart w (attributeRow w i .first)))
 
   -- ---- every other attribute
 
@@ -99,7 +99,7 @@ module _ (w defaults edits : List ℕ) (v : Values) (i : ℕ) (d : Datum) (s : S
     text-kept word edited l short =
         by-test (rows.isText (attributeRow w j))
         (λ t. by-test (isText d)
-        (λ u. rw t (text-stays w (s .rules) defaults edits (textOf d) i j (attributeRow w j .low) word edited (s .there, text-goes u) (l, t) other (s .accepted .size) (short t)))
+        (λ u. rw t (text-stays w (s .rules) defaults edits (textOf d) i j (factoryStart w (attributeRow w j .first)) word edited (s .there, text-goes u) (l, t) other (s .accepted .size) (short t)))
         (λ u. rw (no-bytes d u)))
         (λ t. rw t)
 

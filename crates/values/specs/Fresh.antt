@@ -9,7 +9,7 @@ use Rattle.node.specs.Attributes.{firstWord}
 use Rattle.values.specs.declared.Values.{Values}
 
 abbrev pub firstWords : List ℕ → List ℕ
-firstWords w = filled 0 (λ i. firstWord (attributeRow w i)) attributeLimit (attributeCount w)
+firstWords w = filled 0 (λ i. firstWord w (attributeRow w i)) attributeLimit (attributeCount w)
 
 abbrev pub firstVersions : List ℕ → List ℕ
 firstVersions w = filled 0 (λ i. clusterRow w i .version) clusterLimit (clusterCount w)

@@ -9,8 +9,8 @@ use Rattle.tlv.specs.Octet.{pick}
 use Rattle.utf8.specs.Bytewise.{allBelow}
 use Rattle.kinds.specs.Limits.{textMax}
 use Rattle.kinds.specs.Stored.{held}
-use Rattle.schema.specs.Layout.{attributeLimit, textSize}
-use Rattle.schema.specs.Rows.{attributeRow, attributeCount, isText}
+use Rattle.schema.specs.Layout.{attributeLimit, textLimit, textSize}
+use Rattle.schema.specs.Rows.{attributeRow, attributeCount, isText, factoryStart}
 use Rattle.schema.specs.Check.{every, rank, textCount}
 use Rattle.node.specs.Attributes.{kindOf}
 use Rattle.node.specs.Check.{numberRight}
@@ -36,12 +36,12 @@ nullAt w words nulls i = pick (getD nulls i false) (eqb (attributeRow w i .nulla
 abbrev pub quickAt : List ℕ → List ℕ → List Bool → List Bool → ℕ → ℕ → Bool
 quickAt w words nulls edited len i =
     pick (isText (attributeRow w i))
-    (eqb (attributeRow w i .first) (rank w i) && near (attributeRow w i .low) (getD words i 0) (getD edited i false) len)
+    (eqb (attributeRow w i .first) (rank w i) && near (factoryStart w (attributeRow w i .first)) (getD words i 0) (getD edited i false) len)
     (numberRight (attributeRow w i) && held (kindOf (attributeRow w i)) (eqb (attributeRow w i .nullable) 1) (getD words i 0) (getD nulls i false))
 
--- every attribute, where the factory page has len bytes and the page of edits size
+-- every attribute, where the factory page has len bytes and the page of edits size; and not too many texts
 unfoldable pub allQuick : List ℕ → List ℕ → List Bool → List Bool → ℕ → ℕ → Bool
-allQuick w words nulls edited len size = every (quickAt w words nulls edited len) (attributeCount w) && eqb size (textSize * textCount w)
+allQuick w words nulls edited len size = every (quickAt w words nulls edited len) (attributeCount w) && (leb (textCount w) textLimit && eqb size (textSize * textCount w))
 
 -- THE QUICK TEST
 unfoldable pub quickRight : List ℕ → List ℕ → List ℕ → List ℕ → List Bool → List Bool → Bool

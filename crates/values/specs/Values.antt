@@ -13,7 +13,7 @@ use Rattle.kinds.specs.declared.Kind.{Kind}
 use Rattle.kinds.specs.Limits.{byKind}
 use Rattle.kinds.specs.Stored.{valueFrom}
 use Rattle.schema.specs.Layout.{half}
-use Rattle.schema.specs.Rows.{attributeRow, isText}
+use Rattle.schema.specs.Rows.{attributeRow, isText, factoryStart}
 use Rattle.node.specs.Attributes.{kindOf}
 use Rattle.node.specs.Pages.{shownText}
 use Rattle.values.specs.declared.Values.{Values}
@@ -21,7 +21,7 @@ use Rattle.values.specs.declared.Values.{Values}
 -- the shown text of attribute i, with the length and the mark that it is stored with: "that very part of one page or the other"
 unfoldable pub textAt : List ℕ → List ℕ → List ℕ → ℕ → ℕ → Bool → List ℕ
 textAt w defaults edits i word edited =
-    pick (isText (attributeRow w i)) (shownText defaults edits (attributeRow w i .low) (attributeRow w i .first) word edited) []
+    pick (isText (attributeRow w i)) (shownText defaults edits (factoryStart w (attributeRow w i .first)) (attributeRow w i .first) word edited) []
 
 -- the value that 64 bits and a null mark are, of a kind; a text is what is shown
 unfoldable pub heldDatum : Kind → ℕ → Bool → List ℕ → Datum

@@ -41,8 +41,8 @@ pub fn text_at<'a>(
     if !schema::is_text(w, i) {
         return &defaults[0..0];
     }
-    let start = schema::lowest(w, i) as usize;
     let rank = schema::first_value(w, i) as usize;
+    let start = schema::factory_start(w, rank);
     shown(defaults, edits, start, rank, word as usize, edited)
 }
 

@@ -13,6 +13,7 @@ use kinds::TEXT_MAX;
 use node::held::limits_hold;
 use schema::ATTRIBUTES;
 use schema::TEXT_SIZE;
+use schema::TEXTS;
 use schema::WORDS;
 
 // What the texts of a schema take at most: a longer page is not looked at as a whole.
@@ -142,7 +143,11 @@ pub fn all_quick<'a>(
             if schema::first_value(w, i) != rank as u64 {
                 return false;
             }
-            if !is_near(schema::lowest(w, i), words[i], edited[i], len, cap) {
+            if TEXTS <= rank {
+                return false;
+            }
+            let start = schema::factory_start(w, rank) as u64;
+            if !is_near(start, words[i], edited[i], len, cap) {
                 return false;
             }
             rank += 1;

@@ -23,11 +23,11 @@ returns : tie.Need-returns
 unfolding textAt
 returns c = let t : isText (attributeRow (c .before .before .before .before .before .args .w .now) (c .before .before .before .before .before .args .i)) ≡ false = sym (c .before .before .is-text .ensures) ∙ not-true _ (c .before .if1 .taken) in rw t
 
-lowest-requires : tie.Need-lowest-requires
-lowest-requires c κs = search needs
-
 first-value-requires : tie.Need-first-value-requires
 first-value-requires c κs = search needs
+
+factory-start-requires : tie.Need-factory-start-requires
+factory-start-requires c κs = search needs
 
 shown-requires : tie.Need-shown-requires
 shown-requires c κs = search needs
@@ -35,7 +35,7 @@ shown-requires c κs = search needs
 returns-2 : tie.Need-returns-2
 unfolding textAt
 returns-2 c = let t : isText (attributeRow (c .before .before .before .before .before .before .before .args .w .now) (c .before .before .before .before .before .before .before .args .i)) ≡ true = sym (c .before .before .before .before .is-text .ensures) ∙ not-false _ (c .before .before .before .if1 .left) in
-    rw t (c .shown .ensures ∙ rw (c .before .before .lowest .ensures, c .before .first-value .ensures))
+    rw t (c .shown .ensures ∙ rw (c .before .factory-start .ensures, c .before .before .first-value .ensures))
 
 pub text-at-spec : {M : Type 1} → statement M
 text-at-spec =
@@ -46,7 +46,7 @@ text-at-spec =
     part-result-start
     part-result-end
     returns
-    lowest-requires
     first-value-requires
+    factory-start-requires
     shown-requires
     returns-2)

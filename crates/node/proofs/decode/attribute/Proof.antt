@@ -6,6 +6,9 @@ use Rattle.node.proofs.decode.attribute.Tie as tie
 is-text-requires : tie.Need-is-text-requires
 is-text-requires c κs = search needs
 
+first-value-requires : tie.Need-first-value-requires
+first-value-requires c κs = search needs
+
 attribute-cluster-requires : tie.Need-attribute-cluster-requires
 attribute-cluster-requires c κs = search needs
 
@@ -27,14 +30,14 @@ write-privilege-requires c κs = search needs
 first-word-requires : tie.Need-first-word-requires
 first-word-requires c κs = search needs
 
-lowest-requires : tie.Need-lowest-requires
-lowest-requires c κs = search needs
+factory-start-requires : tie.Need-factory-start-requires
+factory-start-requires c κs = search needs
 
 of-text-requires : tie.Need-of-text-requires
 of-text-requires c κs = search needs
 
-highest-requires : tie.Need-highest-requires
-highest-requires c κs = search needs
+factory-length-requires : tie.Need-factory-length-requires
+factory-length-requires c κs = search needs
 
 of-text-requires-2 : tie.Need-of-text-requires-2
 of-text-requires-2 c κs = search needs
@@ -48,6 +51,7 @@ attribute-spec =
     tie.close
     (tie.spec
     is-text-requires
+    first-value-requires
     attribute-cluster-requires
     attribute-id-requires
     kind-of-requires
@@ -55,8 +59,8 @@ attribute-spec =
     read-privilege-requires
     write-privilege-requires
     first-word-requires
-    lowest-requires
+    factory-start-requires
     of-text-requires
-    highest-requires
+    factory-length-requires
     of-text-requires-2
     returns)

@@ -1,7 +1,11 @@
-use mathlib.Core.Path.{_≡_, refl, sym, _∙_}
+use mathlib.Core.Path.{_≡_, refl, sym, ap, _∙_}
 use mathlib.Core.Bool.{true}
-use Prim.Native.Nat.{_-_, _≤_}
+use Prim.Native.Nat.{ℕ, _-_, _≤_}
+use native.Mathlib.Omega.{arith}
+use lib.Dec.{leb}
+use Rattle.schema.specs.Layout.{textLimit}
 use Rattle.schema.specs.Check.{every, count, rank as rankOf, allRanks}
+use Rattle.schema.proofs.BoolLaws.{past, fails}
 use Rattle.schema.proofs.CheckLaws.{every-more, every-fails, every-done, rank-fails, rank-holds, rank-more, rank-same, no-text}
 use borrow.Author.Needs.{needs}
 use Rattle.schema.proofs.check.all_ranks.Statement.{statement}
@@ -30,7 +34,7 @@ element-copy-out-if2 : tie.Need-element-copy-out-if2 Inv-loop μ-loop
 element-copy-out-if2 c = search needs
 
 returns : tie.Need-returns Inv-loop μ-loop
-returns c = every-fails _ _ (c .before .before .before .before .before .loop .i) (search needs) (rank-fails (c .before .before .before .before .before .before .args .w .now) (c .before .before .before .before .before .loop .i) _ (c .before .before .before .before .before .loop .inv .2) (sym (c .before .before .before .is-text .ensures) ∙ c .before .before .if1 .taken) (c .if2 .taken))
+returns c = fails _ _ (sym (every-fails _ _ (c .before .before .before .before .before .loop .i) (search needs) (rank-fails (c .before .before .before .before .before .before .args .w .now) (c .before .before .before .before .before .loop .i) _ (c .before .before .before .before .before .loop .inv .2) (sym (c .before .before .before .is-text .ensures) ∙ c .before .before .if1 .taken) (c .if2 .taken))))
 
 add-rank : tie.Need-add-rank Inv-loop μ-loop
 add-rank c = search needs
@@ -54,7 +58,12 @@ loop-again-2 : tie.Need-loop-again-2 Inv-loop μ-loop
 loop-again-2 c = (search needs, search needs, rank-same (c .before .before .before .before .args .w .now) (c .before .before .before .loop .i) _ (c .before .before .before .loop .inv .2) (sym (c .before .is-text .ensures) ∙ c .if1 .left), every-more _ _ (c .before .before .before .loop .inv .3) (no-text (c .before .before .before .before .args .w .now) (c .before .before .before .loop .i) (sym (c .before .is-text .ensures) ∙ c .if1 .left)))
 
 returns-2 : tie.Need-returns-2 Inv-loop μ-loop
-returns-2 c = every-done _ _ _ (search needs) (search needs) (c .before .loop .inv .3)
+returns-2 c =
+    let a = c .before .before .args in
+    let l = c .before .loop in
+    let e : l .i ≡ a .n = omega arith in
+    ap (λ (k : ℕ). leb k textLimit) (l .inv .2 ∙ ap (rankOf (a .w .now)) e)
+    ∙ past _ _ (sym (every-done _ _ _ (search needs) (search needs) (l .inv .3)))
 
 pub all-ranks-spec : {M : Type 1} → statement M
 all-ranks-spec =

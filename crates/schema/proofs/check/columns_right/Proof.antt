@@ -1,26 +1,28 @@
 use mathlib.Core.Path.{sym, ap, ap₂, _∙_}
 use native.Mathlib.Omega.{arith}
-use borrow.Author.Tests.{not-true, not-false, eq-eqb, ne-eqb, le-leb, lt-leb}
+use borrow.Author.Tests.{not-true, not-false, le-leb, lt-leb}
 use lib.ListN.{getD}
-use Rattle.schema.specs.Layout.{clusterLimit, attributeLimit, clusterCountWord, attributeCountWord}
-use Rattle.schema.specs.Check.{clustersRight, attributesRight}
+use Rattle.schema.specs.Layout.{clusterLimit, attributeLimit, clusterCountWord, attributeCountWord, spareColumn, spareCount}
+use Rattle.schema.specs.Check.{allBelow, clustersRight, attributesRight}
 use Rattle.schema.proofs.BoolLaws.{past, fails}
 use borrow.Author.Needs.{needs}
 use Rattle.schema.proofs.check.columns_right.Statement.{statement}
 use Rattle.schema.proofs.check.columns_right.Tie as tie
 
-element-copy-out-if1 : tie.Need-element-copy-out-if1
-element-copy-out-if1 c = search needs
+all-below-requires : tie.Need-all-below-requires
+all-below-requires c κs = search needs
 
 returns : tie.Need-returns
-returns c = fails _ _ (ne-eqb _ _ (c .if1 .taken))
+returns c = fails _ _ (sym (c .before .all-below .ensures) ∙ not-true _ (c .if1 .taken))
 
 element-copy-out-if2 : tie.Need-element-copy-out-if2
 element-copy-out-if2 c = search needs
 
 returns-2 : tie.Need-returns-2
 returns-2 c =
-    fails _ _ (lt-leb (getD (c .before .before .before .before .args .w .now) clusterCountWord 0) clusterLimit (omega arith)) ∙ past _ _ (eq-eqb _ _ (c .before .before .if1 .left))
+    let w = c .before .before .before .before .args .w .now in
+    fails _ _ (lt-leb (getD w clusterCountWord 0) clusterLimit (omega arith))
+    ∙ past (allBelow w spareColumn spareCount 1) _ (sym (c .before .before .before .all-below .ensures) ∙ not-false _ (c .before .before .if1 .left))
 
 element-copy-out-if3 : tie.Need-element-copy-out-if3
 element-copy-out-if3 c = search needs
@@ -30,7 +32,7 @@ returns-3 c =
     let w = c .before .before .before .before .before .before .args .w .now in
     fails _ _ (lt-leb (getD w attributeCountWord 0) attributeLimit (omega arith))
     ∙ past _ _ (le-leb (getD w clusterCountWord 0) clusterLimit (omega arith))
-    ∙ past _ _ (eq-eqb _ _ (c .before .before .before .before .if1 .left))
+    ∙ past (allBelow w spareColumn spareCount 1) _ (sym (c .before .before .before .before .before .all-below .ensures) ∙ not-false _ (c .before .before .before .before .if1 .left))
 
 cluster-count-requires : tie.Need-cluster-count-requires
 cluster-count-requires c κs = search needs
@@ -48,7 +50,7 @@ returns-4 c =
     fails _ _ (sym e ∙ not-true _ (c .if4 .taken))
     ∙ past _ _ (le-leb (getD w attributeCountWord 0) attributeLimit (omega arith))
     ∙ past _ _ (le-leb (getD w clusterCountWord 0) clusterLimit (omega arith))
-    ∙ past _ _ (eq-eqb _ _ (c .before .before .before .before .before .before .before .before .if1 .left))
+    ∙ past (allBelow w spareColumn spareCount 1) _ (sym (c .before .before .before .before .before .before .before .before .before .all-below .ensures) ∙ not-false _ (c .before .before .before .before .before .before .before .before .if1 .left))
 
 attributes-right-requires : tie.Need-attributes-right-requires
 attributes-right-requires c κs = search needs
@@ -62,13 +64,13 @@ returns-5 c =
     ∙ past _ _ (sym e ∙ not-false _ (c .before .if4 .left))
     ∙ past _ _ (le-leb (getD w attributeCountWord 0) attributeLimit (omega arith))
     ∙ past _ _ (le-leb (getD w clusterCountWord 0) clusterLimit (omega arith))
-    ∙ past _ _ (eq-eqb _ _ (c .before .before .before .before .before .before .before .before .before .if1 .left))
+    ∙ past (allBelow w spareColumn spareCount 1) _ (sym (c .before .before .before .before .before .before .before .before .before .before .all-below .ensures) ∙ not-false _ (c .before .before .before .before .before .before .before .before .before .if1 .left))
 
 pub columns-right-spec : {M : Type 1} → statement M
 columns-right-spec =
     tie.close
     (tie.spec
-    element-copy-out-if1
+    all-below-requires
     returns
     element-copy-out-if2
     returns-2

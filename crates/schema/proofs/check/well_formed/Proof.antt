@@ -1,6 +1,6 @@
 use mathlib.Core.Path.{sym, ap, _∙_}
 use borrow.Author.Tests.{not-true, not-false}
-use Rattle.schema.specs.Check.{allRanks, wellFormed}
+use Rattle.schema.specs.Check.{ranked, wellFormed}
 use Rattle.schema.proofs.BoolLaws.{past, fails}
 use borrow.Author.Needs.{needs}
 use Rattle.schema.proofs.check.well_formed.Statement.{statement}
@@ -23,7 +23,7 @@ returns-2 : tie.Need-returns-2
 unfolding wellFormed
 returns-2 c =
     c .all-ranks .ensures
-    ∙ ap (allRanks (c .before .before .before .before .args .w .now)) (c .before .attribute-count .ensures)
+    ∙ ap (ranked (c .before .before .before .before .args .w .now)) (c .before .attribute-count .ensures)
     ∙ past _ _ (sym (c .before .before .before .columns-right .ensures) ∙ not-false _ (c .before .before .if1 .left))
 
 pub well-formed-spec : {M : Type 1} → statement M

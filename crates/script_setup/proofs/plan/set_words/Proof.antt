@@ -1,5 +1,6 @@
 use borrow.Author.Needs.{needs}
 use Prim.Native.Nat.{_-_}
+use Rattle.schema.specs.Layout.{wordCount}
 use Rattle.script_setup.proofs.plan.set_words.Statement.{statement}
 use Rattle.script_setup.proofs.plan.set_words.Tie as tie
 
@@ -7,7 +8,7 @@ abbrev Inv-loop : tie.InvT-loop
 Inv-loop setup words₀ i₀ words i = Unit {0}
 
 abbrev μ-loop : tie.MeasureT-loop
-μ-loop setup words₀ i₀ words i = 1348 - i
+μ-loop setup words₀ i₀ words i = wordCount - i
 
 loop-holds : tie.Need-loop-holds Inv-loop μ-loop
 loop-holds c = search needs

@@ -10,7 +10,7 @@ use Rattle.values.proofs.fresh.first_words.Statement.{statement}
 use Rattle.values.proofs.fresh.first_words.Tie as tie
 
 abbrev Inv-loop : tie.InvT-loop
-Inv-loop w n words₀ i₀ words i = (i ≤ n) × (n ≡ attributeCount w) × (words ≡ filled 0 (λ k. firstWord (attributeRow w k)) attributeLimit i)
+Inv-loop w n words₀ i₀ words i = (i ≤ n) × (n ≡ attributeCount w) × (words ≡ filled 0 (λ k. firstWord w (attributeRow w k)) attributeLimit i)
 
 abbrev μ-loop : tie.MeasureT-loop
 μ-loop w n words₀ i₀ words i = n - i
@@ -37,10 +37,10 @@ loop-less : tie.Need-loop-less Inv-loop μ-loop
 loop-less c = search needs
 
 loop-again : tie.Need-loop-again Inv-loop μ-loop
-loop-again c = let l = c .before .before .loop in (search needs, l .inv .1, filled-more (λ k. firstWord (attributeRow (c .before .before .before .before .args .w .now) k)) attributeLimit (l .words) (l .i) (l .inv .2) _ (c .first-word .ensures) (search needs))
+loop-again c = let l = c .before .before .loop in (search needs, l .inv .1, filled-more (λ k. firstWord (c .before .before .before .before .args .w .now) (attributeRow (c .before .before .before .before .args .w .now) k)) attributeLimit (l .words) (l .i) (l .inv .2) _ (c .first-word .ensures) (search needs))
 
 returns : tie.Need-returns Inv-loop μ-loop
-returns c = let l = c .before .loop in filled-whole (λ k. firstWord (attributeRow (c .before .before .before .args .w .now) k)) attributeLimit (l .words) (l .i) (l .inv .2) _ (search needs) (search needs) _ (l .inv .1)
+returns c = let l = c .before .loop in filled-whole (λ k. firstWord (c .before .before .before .args .w .now) (attributeRow (c .before .before .before .args .w .now) k)) attributeLimit (l .words) (l .i) (l .inv .2) _ (search needs) (search needs) _ (l .inv .1)
 
 pub first-words-spec : {M : Type 1} → statement M
 first-words-spec =

@@ -7,18 +7,18 @@ use borrow.Author.Needs.{needs}
 use borrow.Author.Tests.{not-true, not-false}
 use lib.Dec.{eqb}
 use lib.ListN.{getD}
-use Rattle.schema.specs.Layout.{textSize}
+use Rattle.schema.specs.Layout.{textLimit, textSize}
 use Rattle.schema.specs.Rows.{attributeCount}
 use Rattle.schema.specs.Check.{every, count, rank as rankOf}
 use Rattle.schema.proofs.CheckLaws.{every-more, rank-more, rank-same}
 use Rattle.values.specs.Quick.{near, quickAt}
-use Rattle.values.proofs.QuickLaws.{quick-rank, quick-text, quick-number, quick-wrong, quick-done}
+use Rattle.values.proofs.QuickLaws.{quick-rank, quick-many, quick-text, quick-number, quick-wrong, quick-done}
 use Rattle.values.proofs.quick.all_quick.Statement.{statement}
 use Rattle.values.proofs.quick.all_quick.Tie as tie
 
 abbrev Inv-loop : tie.InvT-loop
 Inv-loop w words nulls edited len size n cap rank₀ i₀ rank i =
-    (i ≤ n) × (rank ≤ i) × (n ≡ attributeCount w) × (rank ≡ rankOf w i) × (every (quickAt w words nulls edited len) i ≡ true)
+    (i ≤ n) × (rank ≤ i) × (n ≡ attributeCount w) × (rank ≡ rankOf w i) × (every (quickAt w words nulls edited len) i ≡ true) × (rank ≤ textLimit)
 
 abbrev μ-loop : tie.MeasureT-loop
 μ-loop w words nulls edited len size n cap rank₀ i₀ rank i = n - i
@@ -31,7 +31,7 @@ longest-requires c κs = search needs
 
 loop-holds : tie.Need-loop-holds Inv-loop μ-loop
 unfolding every count
-loop-holds c = (search needs, search needs, c .before .attribute-count .ensures, refl, refl)
+loop-holds c = (search needs, search needs, c .before .attribute-count .ensures, refl, refl, search needs)
 
 is-text-requires : tie.Need-is-text-requires Inv-loop μ-loop
 is-text-requires c κs = search needs
@@ -46,8 +46,15 @@ returns c =
     quick-wrong (a .w .now) (a .words .now) (a .nulls .now) (a .edited .now) (a .len) (a .size) (l .i) (search needs)
     (quick-rank (a .w .now) (a .words .now) (a .nulls .now) (a .edited .now) (a .len) (l .i) _ (l .inv .3) (sym (c .before .before .before .is-text .ensures) ∙ c .before .before .if1 .taken) (λ q. c .if2 .taken (c .before .first-value .ensures ∙ q)))
 
-lowest-requires : tie.Need-lowest-requires Inv-loop μ-loop
-lowest-requires c κs = search needs
+returns-2 : tie.Need-returns-2 Inv-loop μ-loop
+returns-2 c =
+    let a = c .before .before .before .before .before .before .before .before .before .args in
+    let l = c .before .before .before .before .before .before .loop in
+    quick-many (a .w .now) (a .words .now) (a .nulls .now) (a .edited .now) (a .len) (a .size) (l .i) (search needs)
+    (sym (c .before .before .before .before .is-text .ensures) ∙ c .before .before .before .if1 .taken) (omega (arith, l .inv .3, c .if3 .taken))
+
+factory-start-requires : tie.Need-factory-start-requires Inv-loop μ-loop
+factory-start-requires c κs = search needs
 
 mul-is-near : tie.Need-mul-is-near Inv-loop μ-loop
 mul-is-near c = search needs
@@ -59,14 +66,14 @@ element-copy-out-is-near-2 : tie.Need-element-copy-out-is-near-2 Inv-loop μ-loo
 element-copy-out-is-near-2 c = search needs
 
 is-near-requires : tie.Need-is-near-requires Inv-loop μ-loop
-is-near-requires c κs = c .before .before .before .before .before .before .before .before .before .longest .ensures
+is-near-requires c κs = c .before .before .before .before .before .before .before .before .before .before .longest .ensures
 
-returns-2 : tie.Need-returns-2 Inv-loop μ-loop
-returns-2 c =
-    let a = c .before .before .before .before .before .before .before .before .before .before .before .before .before .args in
-    let l = c .before .before .before .before .before .before .before .before .before .before .loop in
+returns-3 : tie.Need-returns-3 Inv-loop μ-loop
+returns-3 c =
+    let a = c .before .before .before .before .before .before .before .before .before .before .before .before .before .before .args in
+    let l = c .before .before .before .before .before .before .before .before .before .before .before .loop in
     quick-wrong (a .w .now) (a .words .now) (a .nulls .now) (a .edited .now) (a .len) (a .size) (l .i) (search needs)
-    (sym (quick-text (a .w .now) (a .words .now) (a .nulls .now) (a .edited .now) (a .len) (l .i) _ (l .inv .3) (sym (c .before .before .before .before .before .before .before .before .is-text .ensures) ∙ c .before .before .before .before .before .before .before .if1 .taken) (sym (c .before .before .before .before .before .before .first-value .ensures) ∙ c .before .before .before .before .before .if2 .left)) ∙ ap (λ (k : ℕ). near k (getD (a .words .now) (l .i) 0) (getD (a .edited .now) (l .i) false) (a .len)) (sym (c .before .before .before .before .lowest .ensures)) ∙ sym (c .before .is-near .ensures) ∙ not-true _ (c .if3 .taken))
+    (sym (quick-text (a .w .now) (a .words .now) (a .nulls .now) (a .edited .now) (a .len) (l .i) _ (l .inv .3) (sym (c .before .before .before .before .before .before .before .before .before .is-text .ensures) ∙ c .before .before .before .before .before .before .before .before .if1 .taken) (sym (c .before .before .before .before .before .before .before .first-value .ensures) ∙ c .before .before .before .before .before .before .if2 .left)) ∙ ap (λ (k : ℕ). near k (getD (a .words .now) (l .i) 0) (getD (a .edited .now) (l .i) false) (a .len)) (sym (c .before .before .before .before .factory-start .ensures)) ∙ sym (c .before .is-near .ensures) ∙ not-true _ (c .if4 .taken))
 
 add-rank : tie.Need-add-rank Inv-loop μ-loop
 add-rank c = search needs
@@ -79,14 +86,15 @@ loop-less c = search needs
 
 loop-again : tie.Need-loop-again Inv-loop μ-loop
 loop-again c =
-    let a = c .before .before .before .before .before .before .before .before .before .before .before .before .before .args in
-    let l = c .before .before .before .before .before .before .before .before .before .before .loop in (
+    let a = c .before .before .before .before .before .before .before .before .before .before .before .before .before .before .args in
+    let l = c .before .before .before .before .before .before .before .before .before .before .before .loop in (
       search needs,
       search needs,
       l .inv .2,
-      rank-more (a .w .now) (l .i) _ (l .inv .3) (sym (c .before .before .before .before .before .before .before .before .is-text .ensures) ∙ c .before .before .before .before .before .before .before .if1 .taken),
+      rank-more (a .w .now) (l .i) _ (l .inv .3) (sym (c .before .before .before .before .before .before .before .before .before .is-text .ensures) ∙ c .before .before .before .before .before .before .before .before .if1 .taken),
       every-more (quickAt (a .w .now) (a .words .now) (a .nulls .now) (a .edited .now) (a .len)) (l .i) (l .inv .4)
-          (sym (quick-text (a .w .now) (a .words .now) (a .nulls .now) (a .edited .now) (a .len) (l .i) _ (l .inv .3) (sym (c .before .before .before .before .before .before .before .before .is-text .ensures) ∙ c .before .before .before .before .before .before .before .if1 .taken) (sym (c .before .before .before .before .before .before .first-value .ensures) ∙ c .before .before .before .before .before .if2 .left)) ∙ ap (λ (k : ℕ). near k (getD (a .words .now) (l .i) 0) (getD (a .edited .now) (l .i) false) (a .len)) (sym (c .before .before .before .before .lowest .ensures)) ∙ sym (c .before .is-near .ensures) ∙ not-false _ (c .if3 .left)),
+          (sym (quick-text (a .w .now) (a .words .now) (a .nulls .now) (a .edited .now) (a .len) (l .i) _ (l .inv .3) (sym (c .before .before .before .before .before .before .before .before .before .is-text .ensures) ∙ c .before .before .before .before .before .before .before .before .if1 .taken) (sym (c .before .before .before .before .before .before .before .first-value .ensures) ∙ c .before .before .before .before .before .before .if2 .left)) ∙ ap (λ (k : ℕ). near k (getD (a .words .now) (l .i) 0) (getD (a .edited .now) (l .i) false) (a .len)) (sym (c .before .before .before .before .factory-start .ensures)) ∙ sym (c .before .is-near .ensures) ∙ not-false _ (c .if4 .left)),
+      search needs,
     )
 
 mul-limits-hold : tie.Need-mul-limits-hold Inv-loop μ-loop
@@ -101,12 +109,12 @@ element-copy-out-limits-hold-2 c = search needs
 limits-hold-requires : tie.Need-limits-hold-requires Inv-loop μ-loop
 limits-hold-requires c κs = search needs
 
-returns-3 : tie.Need-returns-3 Inv-loop μ-loop
-returns-3 c =
+returns-4 : tie.Need-returns-4 Inv-loop μ-loop
+returns-4 c =
     let a = c .before .before .before .before .before .before .before .before .before .before .args in
     let l = c .before .before .before .before .before .before .before .loop in
     quick-wrong (a .w .now) (a .words .now) (a .nulls .now) (a .edited .now) (a .len) (a .size) (l .i) (search needs)
-    (sym (quick-number (a .w .now) (a .words .now) (a .nulls .now) (a .edited .now) (a .len) (l .i) (sym (c .before .before .before .before .before .is-text .ensures) ∙ c .before .before .before .before .if1 .left)) ∙ sym (c .before .limits-hold .ensures) ∙ not-true _ (c .if4 .taken))
+    (sym (quick-number (a .w .now) (a .words .now) (a .nulls .now) (a .edited .now) (a .len) (l .i) (sym (c .before .before .before .before .before .is-text .ensures) ∙ c .before .before .before .before .if1 .left)) ∙ sym (c .before .limits-hold .ensures) ∙ not-true _ (c .if5 .taken))
 
 add-i-2 : tie.Need-add-i-2 Inv-loop μ-loop
 add-i-2 c = search needs
@@ -123,19 +131,20 @@ loop-again-2 c =
       l .inv .2,
       rank-same (a .w .now) (l .i) _ (l .inv .3) (sym (c .before .before .before .before .before .is-text .ensures) ∙ c .before .before .before .before .if1 .left),
       every-more (quickAt (a .w .now) (a .words .now) (a .nulls .now) (a .edited .now) (a .len)) (l .i) (l .inv .4)
-          (sym (quick-number (a .w .now) (a .words .now) (a .nulls .now) (a .edited .now) (a .len) (l .i) (sym (c .before .before .before .before .before .is-text .ensures) ∙ c .before .before .before .before .if1 .left)) ∙ sym (c .before .limits-hold .ensures) ∙ not-false _ (c .if4 .left)),
+          (sym (quick-number (a .w .now) (a .words .now) (a .nulls .now) (a .edited .now) (a .len) (l .i) (sym (c .before .before .before .before .before .is-text .ensures) ∙ c .before .before .before .before .if1 .left)) ∙ sym (c .before .limits-hold .ensures) ∙ not-false _ (c .if5 .left)),
+      search needs,
     )
 
 mul-result : tie.Need-mul-result Inv-loop μ-loop
 mul-result c = search needs
 
-returns-4 : tie.Need-returns-4 Inv-loop μ-loop
-returns-4 c =
+returns-5 : tie.Need-returns-5 Inv-loop μ-loop
+returns-5 c =
     let a = c .before .before .before .before .args in
     let l = c .before .loop in
     let e : l .i ≡ attributeCount (a .w .now) = omega (arith, l .inv .2) in
     ap (λ (k : ℕ). eqb (a .size) (textSize * k)) (l .inv .3 ∙ ap (rankOf (a .w .now)) e)
-    ∙ quick-done (a .w .now) (a .words .now) (a .nulls .now) (a .edited .now) (a .len) (a .size) (sym (ap (every (quickAt (a .w .now) (a .words .now) (a .nulls .now) (a .edited .now) (a .len))) e) ∙ l .inv .4)
+    ∙ quick-done (a .w .now) (a .words .now) (a .nulls .now) (a .edited .now) (a .len) (a .size) (sym (ap (every (quickAt (a .w .now) (a .words .now) (a .nulls .now) (a .edited .now) (a .len))) e) ∙ l .inv .4) (omega (arith, l .inv .5, l .inv .3, ap (rankOf (a .w .now)) e))
 
 pub all-quick-spec : {M : Type 1} → statement M
 all-quick-spec =
@@ -149,12 +158,13 @@ all-quick-spec =
     is-text-requires
     first-value-requires
     returns
-    lowest-requires
+    returns-2
+    factory-start-requires
     mul-is-near
     element-copy-out-is-near
     element-copy-out-is-near-2
     is-near-requires
-    returns-2
+    returns-3
     add-rank
     add-i
     loop-less
@@ -163,9 +173,9 @@ all-quick-spec =
     element-copy-out-limits-hold
     element-copy-out-limits-hold-2
     limits-hold-requires
-    returns-3
+    returns-4
     add-i-2
     loop-less-2
     loop-again-2
     mul-result
-    returns-4)
+    returns-5)
