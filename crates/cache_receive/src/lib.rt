@@ -183,7 +183,7 @@ fn is_past_turns(more: u64, turn: u16) -> bool
     ensures { λ r. ⌜ r ≡ pastTurns more turn ⌝ }
 {
     if more == 1 {
-        return turn == MAX_TURN;
+        return (turn as u64) == MAX_TURN;
     }
     false
 }

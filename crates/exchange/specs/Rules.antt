@@ -42,8 +42,15 @@ unfoldable pub onRequest : Progress → ℕ → ℕ → Step
 onRequest x exchange turn =
     pick (eqb turn 0)
     (pick (ltb (x .last) exchange) Begin
-    (pick (eqb exchange (x .last) && (eqb (x .turn) 1 && not (x .closed))) Repeat Silence))
+    (pick (eqb exchange (x .last) && (eqb (x .turn) 1 && eqb (x .closed) 0)) Repeat Silence))
     Silence
+
+-- what a success for the newest reply brings: nothing, or the next part of a report, which was promised
+abbrev pub nothing : ℕ
+nothing = 0
+
+abbrev pub part : ℕ
+part = 1
 
 -- "turn k, when more was promised, gets reply k + 1. Another status at turn k, when more was promised, closes the exchange"; there is no turn after the highest
 abbrev pub onPromised : ℕ → ℕ → Step
@@ -56,6 +63,6 @@ onEarlier k turn code = pick (eqb code 0 && (leb 1 turn && eqb (turn + 1) k)) Re
 -- a status with this code; "closed means silence"
 unfoldable pub onStatus : Progress → ℕ → ℕ → ℕ → Step
 onStatus x exchange turn code =
-    pick (eqb exchange (x .last) && not (x .closed))
-    (pick (eqb turn (x .turn) && x .promised) (onPromised (x .turn) code) (onEarlier (x .turn) turn code))
+    pick (eqb exchange (x .last) && eqb (x .closed) 0)
+    (pick (eqb turn (x .turn) && not (eqb (x .next) nothing)) (onPromised (x .turn) code) (onEarlier (x .turn) turn code))
     Silence

@@ -14,14 +14,19 @@ pub const WRITE: u64 = 6;
 pub const WRITE_RESPONSE: u64 = 7;
 
 // The highest turn of 16 bits.
-pub const MAX_TURN: u16 = 65_535;
+pub const MAX_TURN: u64 = 65_535;
 
-// How far the exchange has come: the newest that was served, its newest reply, whether that promised more, and whether it was closed.
+// What a success for the newest reply brings: nothing, or the next part of a report, which was promised.
+pub const NOTHING: u64 = 0;
+
+pub const PART: u64 = 1;
+
+// How far the exchange has come: the newest that was served, its newest reply, what a success for that brings, and 1 where it was closed.
 pub struct Progress {
     pub last: u64,
-    pub turn: u16,
-    pub promised: bool,
-    pub closed: bool,
+    pub turn: u64,
+    pub next: u64,
+    pub closed: u64,
 }
 
 // What a message gets.
@@ -73,14 +78,14 @@ pub fn on_request(x: Progress, exchange: u64, turn: u64) -> Step
     if x.turn != 1 {
         return Step::Silence;
     }
-    if x.closed {
+    if x.closed != 0 {
         return Step::Silence;
     }
     Step::Repeat
 }
 
 // A status for the newest reply, which promised more.
-fn on_promised(k: u16, code: u64) -> Step
+fn on_promised(k: u64, code: u64) -> Step
     ensures { λ r. ⌜ r ≡ onPromised k code ⌝ }
 {
     if code != 0 {
@@ -93,7 +98,7 @@ fn on_promised(k: u16, code: u64) -> Step
 }
 
 // A status for the reply before the newest.
-fn on_earlier(k: u16, turn: u64, code: u64) -> Step
+fn on_earlier(k: u64, turn: u64, code: u64) -> Step
     ensures { λ r. ⌜ r ≡ onEarlier k turn code ⌝ }
 {
     if code != 0 {
@@ -102,10 +107,10 @@ fn on_earlier(k: u16, turn: u64, code: u64) -> Step
     if turn < 1 {
         return Step::Silence;
     }
-    if turn >= k as u64 {
+    if turn >= k {
         return Step::Silence;
     }
-    if turn + 1 != k as u64 {
+    if turn + 1 != k {
         return Step::Silence;
     }
     Step::Repeat
@@ -118,14 +123,14 @@ pub fn on_status(x: Progress, exchange: u64, turn: u64, code: u64) -> Step
     if exchange != x.last {
         return Step::Silence;
     }
-    if x.closed {
+    if x.closed != 0 {
         return Step::Silence;
     }
-    if turn != x.turn as u64 {
+    if turn != x.turn {
         return on_earlier(x.turn, turn, code);
     }
-    if x.promised {
-        return on_promised(x.turn, code);
+    if x.next == NOTHING {
+        return on_earlier(x.turn, turn, code);
     }
-    on_earlier(x.turn, turn, code)
+    on_promised(x.turn, code)
 }

@@ -1,4 +1,2 @@
 pub mod ValidLaws
-pub mod ReadLaws
 pub mod MessageLaws
-pub mod RunLaws

@@ -1,3 +1,3 @@
 pub mod Sign
 pub mod Messages
-pub mod Run
+pub mod Calls

@@ -52,7 +52,7 @@ fn main() {
     let mut edits = [0u8; PAGE];
     let mut page = [0u8; PAGE_SIZE];
     let mut out = [0u8; MAX_MESSAGE];
-    let p = player::ends::fresh(&words, &defaults);
+    let p = player::ends::fresh();
     run(
         &mut input,
         p,

@@ -7,6 +7,8 @@ use script_answer::message::no_message;
 use script_setup::PAGE;
 use script_setup::access::Table;
 use script_setup::access::no_entries;
+use script_sign::Sign;
+use script_sign::no_sign;
 
 pub struct Player {
     // The access table that the lines so far give.
@@ -16,7 +18,7 @@ pub struct Player {
     pub table: Table,
     // The length of the buffer that is lent.
     pub room: usize,
-    pub sign: server::State,
+    pub sign: Sign,
     pub panel: cache::State,
     // The newest message of the panel, and the newest reply of the sign.
     pub sent: Message,
@@ -29,15 +31,13 @@ pub struct Played {
 }
 
 // Before any line: no sign and no panel.
-pub fn fresh(words: &[u64; WORDS], defaults: &[u8; PAGE]) -> Player {
-    let s = server::start::start(words, defaults);
-    let sign = s.state;
+pub fn fresh() -> Player {
     Player {
         given: no_entries(),
         live: false,
         table: no_entries(),
         room: MAX_MESSAGE,
-        sign,
+        sign: no_sign(),
         panel: cache::begin::fresh(),
         sent: no_message(),
         replied: no_message(),
@@ -45,10 +45,11 @@ pub fn fresh(words: &[u64; WORDS], defaults: &[u8; PAGE]) -> Player {
 }
 
 // Both ends anew, of everything that was set up so far; or 11, and there are none.
-pub fn started(p: Player, words: &[u64; WORDS], defaults: &[u8; PAGE]) -> Played {
-    let s = server::start::start(words, defaults);
-    let number = s.number;
-    let sign = s.state;
+pub fn started<'a>(p: Player, words: &'a [u64; WORDS], defaults: &'a [u8; PAGE]) -> Played {
+    let made = script_sign::start(words, defaults, p.sign);
+    let outcome = made.outcome;
+    let number = outcome.number;
+    let sign = made.sign;
     let given = p.given;
     let player = Player {
         given,

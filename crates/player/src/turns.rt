@@ -35,8 +35,9 @@ pub fn replied(p: Player, r: Replied, out: &[u8; MAX_MESSAGE]) -> Played {
     if r.fault != 0 {
         return wrong(p, r.fault);
     }
-    let o = r.outcome;
-    let sign = o.state;
+    let done = r.answered;
+    let o = done.outcome;
+    let sign = done.sign;
     let number = o.number;
     let len = o.len;
     let reply = newer(p.replied, out, len);

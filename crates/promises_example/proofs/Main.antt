@@ -9,6 +9,7 @@ use lib.ListN.{getD}
 use Rattle.tlv.specs.declared.Value.the-variants.{Text}
 use Rattle.tlv.specs.Decode.Opt.{just}
 use Rattle.envelope.specs.Envelope.{maxMessage}
+use Rattle.replies.specs.Row.{standingIn}
 use Rattle.server.specs.Start.{freshRow}
 use Rattle.cache_ask.specs.Ask.{said, saysWhole, entrySaid, saysEntry}
 use Rattle.promises.specs.World.{World}
@@ -87,7 +88,7 @@ abbrev whole-run : Reach plan start ended
 whole-run = join reach run
 
 pub taking : Taking whole-run 1
-unfolding lost resent repeated taken refused changed sent ended freshRow sign0 sign1 row1
+unfolding lost resent repeated taken refused changed sent ended freshRow standingIn sign0 sign1 row1
 taking =
     record {
       at = begun;

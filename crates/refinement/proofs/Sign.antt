@@ -1,17 +1,22 @@
 -- A sign's state as it stands for the protocol's.
 use mathlib.Core.Path.{_≡_}
-use mathlib.Core.Bool.{true}
+use mathlib.Core.Bool.{Bool, true, not}
 use mathlib.Core.List.{List, [], _∷_, _++_}
 use Prim.Native.Nat.{ℕ, _+_, _-_, _^_, _<_}
+use lib.Dec.{eqb}
 use lib.ListN.{length, getD}
 use Rattle.tlv.specs.Value.{Datum}
 use Rattle.schema.specs.Rows.{clusterCount, attributeCount}
 use Rattle.acl.specs.declared.Grants.{Grants}
+use Rattle.interaction.specs.declared.Wanted.{Wanted}
 use Rattle.selection.specs.Asked.{askedFor}
+use Rattle.selection.specs.Filters.{filterWords}
 use Rattle.round_trip.specs.Meant.{everything}
+use Rattle.exchange.specs.declared.Progress.{Progress}
+use Rattle.exchange.specs.Rules.{nothing}
 use Rattle.replies.specs.declared.Row as replies
 use Rattle.replies.specs.Messages.{maxMessage}
-use Rattle.replies.specs.Row.{keptReply, pathsOf, filtersOf}
+use Rattle.replies.specs.Row.{keptReply, pathsOf}
 use Rattle.server.specs.declared.State.{State}
 use Rattle.server.proofs.KeptLaws.{ValidSign}
 use Rattle.protocol.specs.Model.{Part, Row, Cluster, System}
@@ -19,18 +24,24 @@ use Rattle.protocol.specs.Claims.{moved}
 use Rattle.refinement.proofs.Terms.{readableFrom, filtersAs, ClustersAs}
 use Rattle.refinement.proofs.Bytes.{ReplyAs}
 
--- the read that is being answered: one full wildcard path, its filters, and what is ahead
+-- the read that is being answered: one full wildcard path, its filters, which were judged when it was asked, and what is ahead
 pub record Going (w : List ℕ) (g : Grants) (x : replies.Row) (r : Row Datum) : Type 0 where
   pub paths : pathsOf (x .request) ≡ askedFor everything ∷ []
-  pub filters : r .filters ≡ filtersAs w (filtersOf (x .request))
+  pub asked : List Wanted
+  pub judged : x .request .filters ≡ filterWords w asked
+  pub filters : r .filters ≡ filtersAs w asked
   pub path : x .place .path ≡ 0
   pub ahead : r .ahead ≡ readableFrom w g (attributeCount w - x .place .index) (x .place .index)
+
+-- more was promised
+abbrev pub promised : Progress → Bool
+promised p = not (eqb (p .next) nothing)
 
 pub record RowAs (w : List ℕ) (g : Grants) (sent : List (List ℕ)) (x : replies.Row) (r : Row Datum) : Type 0 where
   pub exchange : r .exchange ≡ x .progress .last
   pub turn : r .turn ≡ x .progress .turn
-  pub more : r .more ≡ x .progress .promised
-  pub closed : r .closed ≡ x .progress .closed
+  pub more : r .more ≡ promised (x .progress)
+  pub closed : r .closed ≡ not (eqb (x .progress .closed) 0)
   pub going : r .more ≡ true → Going w g x r
   pub kept : ReplyAs w sent (keptReply x) (r .kept)
   pub whole : length (x .kept) ≡ maxMessage

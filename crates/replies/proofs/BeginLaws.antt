@@ -1,7 +1,7 @@
 -- What begins an exchange, case by case for the code.
 use mathlib.Core.Path.{_≡_, sym, ap, subst, _∙_}
 use mathlib.Core.List.{List, [], map}
-use Prim.Native.Nat.{ℕ, _^_, _≤_, _<_}
+use Prim.Native.Nat.{ℕ, _*_, _^_, _≤_, _<_}
 use native.Mathlib.Omega.{arith}
 use borrow.Author.Tests.{eq-eqb, ne-eqb}
 use lib.ListN.{length, getD, take, length-take}
@@ -9,34 +9,44 @@ use Rattle.octets.specs.Store.{store, Stored}
 use Rattle.tlv.specs.Decode.{Opt}
 use Rattle.tlv.specs.Decode.Opt.{just, nothing}
 use Rattle.interaction.specs.declared.ReadRequest.{ReadRequest}
-use Rattle.interaction.specs.Read.{maxPaths, maxFilters, readIn, readRead}
+use Rattle.interaction.specs.Read.{maxPaths, maxFilters, nowhere, Read, readIn, readRead}
 use Rattle.interaction.proofs.KeepLaws.{length-first, first-none}
 use Rattle.interaction_write.specs.declared.WriteRequest.{WriteRequest}
 use Rattle.interaction_write.specs.Write.{maxWrites, noEntry, entryStruct, WriteOf, writeIn, writeRead}
 use Rattle.interaction_write.proofs.WidthLaws.{kept-wide, kept-few}
 use Rattle.acl.specs.declared.Grants.{Grants}
 use Rattle.values.specs.declared.Values.{Values}
-use Rattle.report.specs.declared.part.Request.{Request}
+use Rattle.selection.specs.Request.{pathSize, filtersAt, pathsWords}
+use Rattle.selection.proofs.RequestLaws.{paths-length}
 use Rattle.writes.specs.Offer.{Held}
 use Rattle.writes.specs.Entry.{InWidth, heldAfter, codesOf, codesIn}
 use Rattle.writes.proofs.ResponseLaws.{of-taken}
 use Rattle.writes.proofs.StatusLaws.{codes-octets, codes-kept}
 use Rattle.replies.specs.declared.Row.{Row}
+use Rattle.replies.specs.declared.Standing.{Standing}
 use Rattle.replies.specs.Messages.{maxMessage, statusMessage, responseMessage}
-use Rattle.replies.specs.Row.{keptReply, reported, blocksOf}
+use Rattle.replies.specs.Row.{keptReply, rowIn, reported, blocksOf}
 use Rattle.replies.specs.Begin.{once, beginningPlace, requestOf, readBy, readBegun, Left, entriesOf, responseTo, writeBy, writeBegun, Wrote}
 use Rattle.replies.proofs.MessageLaws.{answer-length}
 use Rattle.replies.proofs.RequestLaws.{read-octet, read-few, write-octet}
+use Rattle.replies.proofs.LentLaws.{begins-same}
 
 -- ---- a read
+
+paths-whole : (o : Opt Read) → length (readRead o .paths .kept) ≡ maxPaths
+paths-whole nothing = ap length (sym (first-none maxPaths nowhere)) ∙ length-first maxPaths nowhere []
+paths-whole (just x) = length-first maxPaths nowhere (x .paths)
 
 module _ (s : List ℕ) {r : ReadRequest} (e : r ≡ readRead (readIn s)) where
   pub read-fits : r .verdict < 2 ^ 8
   read-fits = rw e (read-octet (readIn s))
 
-  pub request-few : r .verdict ≡ 0 → {q : Request} → q ≡ requestOf r → (q .asked ≤ maxPaths) × (q .filtered ≤ maxFilters)
-  unfolding requestOf
-  request-few z h = rw (h, e) (read-few (readIn s) (sym (ap (λ (y : ReadRequest). y .verdict) e) ∙ z))
+  pub request-few : r .verdict ≡ 0 → (r .paths .count ≤ maxPaths) × (r .filters .count ≤ maxFilters)
+  request-few z = rw e (read-few (readIn s) (sym (ap (λ (y : ReadRequest). y .verdict) e) ∙ z))
+
+  -- the words of its paths are as many as there is room for
+  pub request-length : length (pathsWords (r .paths .kept)) ≡ filtersAt
+  request-length = rw e (paths-length (readRead (readIn s) .paths .kept) ∙ ap (λ (n : ℕ). n * pathSize) (paths-whole (readIn s)))
 
   module _ (w : List ℕ) (v : Values) (defaults edits : List ℕ) (g : Grants) (x : Row) (exchange : ℕ) where
     by-read : readBegun w v defaults edits g x exchange s ≡ readBy w v defaults edits g x exchange r
@@ -46,8 +56,8 @@ module _ (s : List ℕ) {r : ReadRequest} (e : r ≡ readRead (readIn s)) where
     pub read-refused : (r .verdict ≡ 0 → ⊥) → readBegun w v defaults edits g x exchange s ≡ once x exchange (statusMessage exchange (r .verdict))
     read-refused n = by-read ∙ rw (ne-eqb (r .verdict) 0 n)
 
-    pub read-answered : r .verdict ≡ 0 → {q : Request} → q ≡ requestOf r → readBegun w v defaults edits g x exchange s ≡ reported x exchange 1 q beginningPlace (blocksOf w v defaults edits g q beginningPlace)
-    read-answered z h = by-read ∙ rw (eq-eqb (r .verdict) 0 z, h)
+    pub read-answered : r .verdict ≡ 0 → readBegun w v defaults edits g x exchange s ≡ reported x exchange 1 (requestOf w r) beginningPlace (blocksOf w v defaults edits g (requestOf w r) beginningPlace)
+    read-answered z = by-read ∙ rw (eq-eqb (r .verdict) 0 z)
 
 -- ---- a write
 
@@ -56,14 +66,8 @@ kept-length nothing = ap length (sym (first-none maxWrites noEntry)) ∙ length-
 kept-length (just x) = length-first maxWrites noEntry (map entryStruct (x .entries))
 
 -- what the code leaves, and what is meant
-wrote-as : {l : Left} {k : Held} {y : Row} {old new : List ℕ} → record { held = k; row = y } ≡ l → new ≡ store old 0 (keptReply y) → Wrote l (record { values = k .values; row = y }) (k .edits) old new
-wrote-as {old = old} p q =
-    record {
-      values = ap (λ (m : Left). m .held .values) p;
-      row = ap (λ (m : Left). m .row) p;
-      page = ap (λ (m : Left). m .held .edits) p;
-      buffer = q ∙ ap (λ (m : Left). store old 0 (keptReply (m .row))) p;
-    }
+wrote-as : {l : Left} {k : Held} {t : Standing} {row kept old new : List ℕ} → record { held = k; row = rowIn row t kept } ≡ l → (new ≡ store old 0 (keptReply (rowIn row t kept))) × (length (keptReply (rowIn row t kept)) ≡ t .len) → Wrote l t k row row kept old new
+wrote-as p q = record { held = ap (λ (m : Left). m .held) p; begins = begins-same (ap (λ (m : Left). m .row) p) q }
 
 module _ (s : List ℕ) {r : WriteRequest} (e : r ≡ writeRead (writeIn s)) where
   pub write-fits : r .verdict < 2 ^ 8
@@ -84,18 +88,17 @@ module _ (s : List ℕ) {r : WriteRequest} (e : r ≡ writeRead (writeIn s)) whe
     by-write = ap (writeBy w g defaults h x exchange s) (sym e)
 
     -- refused whole
-    pub wrote-refused : (r .verdict ≡ 0 → ⊥) → {y : Row} {old new : List ℕ} → (y ≡ once x exchange (statusMessage exchange (r .verdict))) × (new ≡ store old 0 (keptReply y)) → Wrote (writeBegun w g defaults h x exchange s) (record { values = h .values; row = y }) (h .edits) old new
-    wrote-refused n {y} (p, q) =
+    pub wrote-refused : (r .verdict ≡ 0 → ⊥) → {t : Standing} {row kept old new : List ℕ} → (rowIn row t kept ≡ once x exchange (statusMessage exchange (r .verdict))) × ((new ≡ store old 0 (keptReply (rowIn row t kept))) × (length (keptReply (rowIn row t kept)) ≡ t .len)) → Wrote (writeBegun w g defaults h x exchange s) t h row row kept old new
+    wrote-refused n (p, q) =
         let l : writeBegun w g defaults h x exchange s ≡ record { held = h; row = once x exchange (statusMessage exchange (r .verdict)) } = by-write ∙ rw (ne-eqb (r .verdict) 0 n) in
-        wrote-as {k = h} {y = y} ((λ j. record { held = h; row = p j }) ∙ sym l) q
+        wrote-as ((λ j. record { held = h; row = p j }) ∙ sym l) q
 
     module _ (z : r .verdict ≡ 0) where
       -- stored
-      pub wrote-done : {values : Values} {edits : List ℕ} → values ≡ heldAfter w g defaults s h (entriesOf r) .values → edits ≡ heldAfter w g defaults s h (entriesOf r) .edits → {reply : List ℕ} → responseTo w g defaults s h exchange r ≡ reply → {y : Row} {old new : List ℕ} → (y ≡ once x exchange reply) × (new ≡ store old 0 (keptReply y)) → Wrote (writeBegun w g defaults h x exchange s) (record { values = values; row = y }) edits old new
-      wrote-done {values} {edits} a b {reply} c {y} (p, q) =
+      pub wrote-done : {k : Held} → k ≡ heldAfter w g defaults s h (entriesOf r) → {reply : List ℕ} → responseTo w g defaults s h exchange r ≡ reply → {t : Standing} {row kept old new : List ℕ} → (rowIn row t kept ≡ once x exchange reply) × ((new ≡ store old 0 (keptReply (rowIn row t kept))) × (length (keptReply (rowIn row t kept)) ≡ t .len)) → Wrote (writeBegun w g defaults h x exchange s) t k row row kept old new
+      wrote-done a c (p, q) =
           let l : writeBegun w g defaults h x exchange s ≡ record { held = heldAfter w g defaults s h (entriesOf r); row = once x exchange (responseTo w g defaults s h exchange r) } = by-write ∙ rw (eq-eqb (r .verdict) 0 z) in
-          wrote-as {k = record { values = values; edits = edits }} {y = y}
-          ((λ j. record { held = record { values = a j; edits = b j }; row = (p ∙ ap (once x exchange) (sym c)) j }) ∙ sym l) q
+          wrote-as ((λ j. record { held = a j; row = (p ∙ ap (once x exchange) (sym c)) j }) ∙ sym l) q
 
       -- its statuses
       pub response-sent : {codes old new : List ℕ} {end : ℕ} → codes ≡ codesIn (codesOf w g defaults s h (entriesOf r)) → Stored old 0 (responseMessage exchange (entriesOf r) (take (r .entries .count) codes)) new end → Stored old 0 (responseMessage exchange (entriesOf r) (codesOf w g defaults s h (entriesOf r))) new end

@@ -10,20 +10,22 @@ use lib.ListN.{length, length-take}
 use Rattle.octets.proofs.StoreLaws.{length-store}
 use Rattle.tlv.specs.Octet.{pick}
 use Rattle.tlv.proofs.Picks.{pick-elim}
-use Rattle.interaction.specs.Read.{maxPaths, maxFilters, readIn, readRead}
+use Rattle.interaction.specs.Read.{maxPaths, readIn, readRead}
 use Rattle.interaction_write.specs.Write.{writeIn, writeRead}
 use Rattle.acl.specs.declared.Grants.{Grants}
 use Rattle.values.specs.declared.Values.{Values}
+use Rattle.selection.proofs.RequestLaws.{paths-count}
 use Rattle.exchange.specs.declared.Progress.{Progress}
+use Rattle.exchange.specs.Rules.{maxTurn, part}
 use Rattle.report.specs.declared.Place.{Place}
 use Rattle.report.specs.declared.part.Request.{Request}
 use Rattle.report.specs.Blocks.{viewOf}
-use Rattle.report.specs.Chunk.{blockRoom}
+use Rattle.report.specs.Chunk.{blockRoom, left, any}
 use Rattle.writes.specs.Offer.{Held}
 use Rattle.writes.specs.Entry.{codesOf}
 use Rattle.replies.specs.declared.Row.{Row}
 use Rattle.replies.specs.Messages.{envelopeLength, maxMessage, statusMessage, reportMessage, responseMessage}
-use Rattle.replies.specs.Row.{keeping, keptReply, pathsOf, filtersOf, blocksOf, reported, nextPart, rowRight}
+use Rattle.replies.specs.Row.{keptAt, keeping, keptReply, pathsOf, blocksOf, nextOf, reported, nextPart, rowRight}
 use Rattle.replies.specs.Begin.{once, beginningPlace, requestOf, readBegun, Left, entriesOf, responseTo, writeBegun}
 use Rattle.replies.proofs.MessageLaws.{status-length, report-length, status-some, report-some, response-some}
 use Rattle.replies.proofs.RowLaws.{RightRow, row-right, right-row, kept-back}
@@ -32,24 +34,37 @@ use Rattle.replies.proofs.BeginLaws.{read-fits, request-few, write-fits
 
 -- ---- a right row stays right
 
+next-small : (b : Bool) → nextOf b ≤ part
+next-small true = omega arith
+next-small false = omega arith
+
 module _ (x : Row) (exchange : ℕ) (below : exchange < 2 ^ 40) where
   once-right : RightRow x → (reply : List ℕ) → length reply ≤ maxMessage → RightRow (once x exchange reply)
   unfolding keeping
-  once-right r reply h = record { exchange = below; asked = r .asked; filtered = r .filtered; path = r .path; index = r .index; len = h }
+  once-right r reply h = record { exchange = below; turn = omega arith; next = omega arith; closed = omega arith; asked = r .asked; path = r .path; index = r .index; len = h }
 
-  reported-right : (w : List ℕ) (v : Values) (defaults edits : List ℕ) (g : Grants) (turn : ℕ) (q : Request) (at : Place) → q .asked ≤ maxPaths → q .filtered ≤ maxFilters → Reached maxPaths at → RightRow (reported x exchange turn q at (blocksOf w v defaults edits g q at))
+  reported-right : (w : List ℕ) (v : Values) (defaults edits : List ℕ) (g : Grants) (turn : ℕ) → turn ≤ maxTurn → (q : Request) (at : Place) → q .asked ≤ maxPaths → Reached maxPaths at → RightRow (reported x exchange turn q at (blocksOf w v defaults edits g q at))
   unfolding keeping
-  reported-right w v defaults edits g turn q at a f p =
-      let r = part-reached maxPaths (viewOf w v defaults edits g (filtersOf q)) (pathsOf q) at blockRoom (omega (arith, a, length-take (q .asked) (q .paths))) p in
-      record { exchange = below; asked = a; filtered = f; path = r .path; index = r .index; len = report-length exchange turn (blocksOf w v defaults edits g q at) }
+  reported-right w v defaults edits g turn t q at a p =
+      let r = part-reached maxPaths (viewOf w v defaults edits g (q .filters)) (pathsOf q) at blockRoom (omega (arith, a, paths-count (q .paths) (q .asked))) p in
+      record {
+        exchange = below;
+        turn = t;
+        next = next-small (any (left blockRoom (blocksOf w v defaults edits g q at)));
+        closed = omega arith;
+        asked = a;
+        path = r .path;
+        index = r .index;
+        len = report-length exchange turn (blocksOf w v defaults edits g q at);
+      }
 
 -- THE NEXT PART
-pub next-right : (w : List ℕ) (v : Values) (defaults edits : List ℕ) (g : Grants) (x : Row) → rowRight x ≡ true → rowRight (nextPart w v defaults edits g x) ≡ true
+pub next-right : (w : List ℕ) (v : Values) (defaults edits : List ℕ) (g : Grants) (x : Row) → rowRight x ≡ true → x .progress .turn < maxTurn → rowRight (nextPart w v defaults edits g x) ≡ true
 unfolding nextPart
-next-right w v defaults edits g x h =
+next-right w v defaults edits g x h t =
     let r = row-right x h in
     right-row (nextPart w v defaults edits g x)
-    (reported-right x (x .progress .last) (r .exchange) w v defaults edits g (x .progress .turn + 1) (x .request) (x .place) (r .asked) (r .filtered) (record { path = r .path; index = r .index }))
+    (reported-right x (x .progress .last) (r .exchange) w v defaults edits g (x .progress .turn + 1) (omega arith) (x .request) (x .place) (r .asked) (record { path = r .path; index = r .index }))
 
 -- the reply to a write that is not refused
 answered-short : (w : List ℕ) (g : Grants) (defaults : List ℕ) (h : Held) (x : Row) (exchange : ℕ) (s : List ℕ) → writeRead (writeIn s) .verdict ≡ 0 → length (responseTo w g defaults s h exchange (writeRead (writeIn s))) ≤ maxMessage
@@ -64,12 +79,12 @@ refused-short exchange code f = omega (arith, status-length exchange code f)
 module _ (x : Row) (exchange : ℕ) (below : exchange < 2 ^ 40) (right : rowRight x ≡ true) where
   -- A READ that begins
   pub read-right : (w : List ℕ) (v : Values) (defaults edits : List ℕ) (g : Grants) (s : List ℕ) → rowRight (readBegun w v defaults edits g x exchange s) ≡ true
-  unfolding readBegun
+  unfolding readBegun requestOf
   read-right w v defaults edits g s =
       let q = readRead (readIn s) in
       right-row (readBegun w v defaults edits g x exchange s)
       (pick-elim RightRow (eqb (q .verdict) 0) _ _
-      (λ t. let f = request-few s refl (eqb-true (q .verdict) 0 t) refl in reported-right x exchange below w v defaults edits g 1 (requestOf q) beginningPlace (f .0) (f .1) (record { path = omega arith; index = omega arith }))
+      (λ t. let f = request-few s refl (eqb-true (q .verdict) 0 t) in reported-right x exchange below w v defaults edits g 1 (omega arith) (requestOf w q) beginningPlace (f .0) (record { path = omega arith; index = omega arith }))
       (λ t. once-right x exchange below (row-right x right) (statusMessage exchange (q .verdict)) (refused-short exchange (q .verdict) (read-fits s refl))))
 
   -- A WRITE that begins
@@ -92,7 +107,7 @@ module _ (x : Row) (p : Progress) (r : Request) (a : Place) (reply : List ℕ) w
   -- a row's array keeps its length
   pub keeping-whole : length (keeping x p r a reply .kept) ≡ length (x .kept)
   unfolding keeping
-  keeping-whole = length-store (x .kept) 0 reply
+  keeping-whole = length-store (x .kept) keptAt reply
 
 of-pick : {A B : Type 0} (f : A → B) (b : Bool) (x y : A) {u v : B} → (b ≡ true → f x ≡ u) → (b ≡ false → f y ≡ v) → f (pick b x y) ≡ pick b u v
 of-pick f true x y h g = h refl
@@ -106,12 +121,12 @@ module _ (x : Row) (whole : length (x .kept) ≡ maxMessage) where
   module _ (exchange : ℕ) (s : List ℕ) where
     pub read-reply : (w : List ℕ) (v : Values) (defaults edits : List ℕ) (g : Grants) →
         let q = readRead (readIn s) in
-        keptReply (readBegun w v defaults edits g x exchange s) ≡ pick (eqb (q .verdict) 0) (reportMessage exchange 1 (blocksOf w v defaults edits g (requestOf q) beginningPlace)) (statusMessage exchange (q .verdict))
+        keptReply (readBegun w v defaults edits g x exchange s) ≡ pick (eqb (q .verdict) 0) (reportMessage exchange 1 (blocksOf w v defaults edits g (requestOf w q) beginningPlace)) (statusMessage exchange (q .verdict))
     unfolding readBegun
     read-reply w v defaults edits g =
         let q = readRead (readIn s) in
         of-pick (λ (y : Row). keptReply y) (eqb (q .verdict) 0) _ _
-        (λ t. kept-back x whole _ _ _ _ (report-length exchange 1 (blocksOf w v defaults edits g (requestOf q) beginningPlace)))
+        (λ t. kept-back x whole _ _ _ _ (report-length exchange 1 (blocksOf w v defaults edits g (requestOf w q) beginningPlace)))
         (λ t. kept-back x whole _ _ _ _ (refused-short exchange (q .verdict) (read-fits s refl)))
 
     pub write-reply : (w : List ℕ) (g : Grants) (defaults : List ℕ) (h : Held) →
@@ -136,7 +151,7 @@ module _ (x : Row) (exchange : ℕ) (s : List ℕ) where
   read-some w v defaults edits g =
       let q = readRead (readIn s) in
       pick-elim (λ (y : Row). envelopeLength ≤ y .len) (eqb (q .verdict) 0) _ _
-      (λ t. report-some exchange 1 (blocksOf w v defaults edits g (requestOf q) beginningPlace)) (λ t. status-some exchange (q .verdict))
+      (λ t. report-some exchange 1 (blocksOf w v defaults edits g (requestOf w q) beginningPlace)) (λ t. status-some exchange (q .verdict))
 
   module _ (w : List ℕ) (g : Grants) (defaults : List ℕ) (h : Held) where
     -- a write that is not refused and asked for silence gets it

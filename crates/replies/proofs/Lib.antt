@@ -4,3 +4,4 @@ pub mod RequestLaws
 pub mod BeginLaws
 pub mod PlaceLaws
 pub mod KeptLaws
+pub mod LentLaws

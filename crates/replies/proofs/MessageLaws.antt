@@ -1,5 +1,5 @@
 -- How long the messages are: each has its envelope, and at most 1,032 octets with it.
-use mathlib.Core.Path.{_≡_}
+use mathlib.Core.Path.{_≡_, subst}
 use mathlib.Core.List.{List}
 use Prim.Native.Nat.{ℕ, _^_, _≤_, _<_}
 use native.Mathlib.Omega.{arith}
@@ -83,3 +83,7 @@ after-envelope opcode exchange turn e = (omega (arith, e .place, length-envelope
 pub part-sent : {o o₁ new : List ℕ} {p exchange turn : ℕ} {at : Place} {l : List Placed} {f : Filled} → Stored o 0 (envelopeOctets reportOpcode exchange turn) o₁ p → Made o₁ p at l new f → Sent o exchange turn at l new f
 unfolding reportMessage
 part-sent e m = record { stored = then e (m .stored); place = m .place; more = m .more }
+
+-- of the same blocks
+pub sent-of : {o new : List ℕ} {exchange turn : ℕ} {at : Place} {l m : List Placed} {f : Filled} → l ≡ m → Sent o exchange turn at l new f → Sent o exchange turn at m new f
+sent-of {o} {new} {exchange} {turn} {at} {f = f} e s = subst (λ (k : List Placed). Sent o exchange turn at k new f) e s

@@ -1,6 +1,6 @@
 -- A reply kept in a row is the reply again; what a right row keeps to.
 use mathlib.Core.Path.{_≡_, sym, ap, _∙_}
-use mathlib.Core.Bool.{true, false, _&&_}
+use mathlib.Core.Bool.{Bool, true, _&&_}
 use mathlib.Core.List.{List, []}
 use Prim.Native.Nat.{ℕ, _-_, _^_, _≤_, _<_}
 use native.Mathlib.Omega.{arith}
@@ -9,17 +9,18 @@ use lib.Dec.{leb, ltb}
 use lib.ListN.{length, take}
 use Rattle.octets.specs.Store.{store, Stored}
 use Rattle.octets.proofs.StoreLaws.{store-back, same-length}
-use Rattle.interaction.specs.Read.{maxPaths, maxFilters}
+use Rattle.interaction.specs.Read.{maxPaths}
 use Rattle.schema.specs.Layout.{attributeLimit}
 use Rattle.schema.proofs.BoolLaws.{left, right}
 use Rattle.exchange.specs.declared.Progress.{Progress}
+use Rattle.exchange.specs.Rules.{maxTurn, part}
 use Rattle.report.specs.declared.Place.{Place}
 use Rattle.report.specs.declared.Filled.{Filled}
 use Rattle.report.specs.declared.part.Request.{Request}
 use Rattle.report.specs.Blocks.{Placed}
 use Rattle.replies.specs.declared.Row.{Row}
 use Rattle.replies.specs.Messages.{maxMessage, reportMessage}
-use Rattle.replies.specs.Row.{keeping, keptReply, reported, rowRight}
+use Rattle.replies.specs.Row.{keptAt, keeping, keptReply, nextOf, reported, rowRight}
 use Rattle.replies.specs.Sent.{Sent}
 use Rattle.replies.proofs.MessageLaws.{report-length}
 
@@ -32,6 +33,9 @@ module _ {old reply new : List ℕ} {end : ℕ} (u : Stored old 0 reply new end)
   pub part-back : take (end - 0) new ≡ reply
   part-back = let e : end - 0 ≡ length reply = omega (arith, u .place) in rw (e, u .content) (store-back old 0 reply (omega arith))
 
+  pub part-end : end ≡ length (take (end - 0) new)
+  part-end = omega (arith, u .place, ap length part-back)
+
   pub part-short : length (take (end - 0) new) ≤ length reply
   part-short = omega (arith, ap length part-back)
 
@@ -42,14 +46,19 @@ module _ (x : Row) (whole : length (x .kept) ≡ maxMessage) where
     -- THE KEPT REPLY is the reply
     pub kept-back : (reply : List ℕ) → length reply ≤ maxMessage → keptReply (keeping x p r a reply) ≡ reply
     unfolding keeping
-    kept-back reply h = store-back (x .kept) 0 reply (omega (arith, whole))
+    kept-back reply h = store-back (x .kept) keptAt reply (omega (arith, whole))
+
+    -- and all of it
+    pub kept-full : (reply : List ℕ) → length reply ≤ maxMessage → {y : Row} → y ≡ keeping x p r a reply → length (keptReply y) ≡ y .len
+    unfolding keeping
+    kept-full reply h q = ap (λ (z : Row). length (keptReply z)) q ∙ ap length (kept-back reply h) ∙ sym (ap (λ (z : Row). z .len) q)
 
     -- a message that was written is kept from the buffer
     module _ {old reply new : List ℕ} {end : ℕ} (u : Stored old 0 reply new end) (h : length reply ≤ maxMessage) (room : maxMessage ≤ length old) where
-      pub both-given : {y : Row} → y ≡ keeping x p r a (take (end - 0) new) → (y ≡ keeping x p r a reply) × (new ≡ store old 0 (keptReply y))
+      pub both-given : {y : Row} → y ≡ keeping x p r a (take (end - 0) new) → (y ≡ keeping x p r a reply) × ((new ≡ store old 0 (keptReply y)) × (length (keptReply y) ≡ y .len))
       both-given {y} e =
           let q : y ≡ keeping x p r a reply = e ∙ ap (keeping x p r a) (part-back u (omega arith)) in
-          (q, u .content ∙ ap (store old 0) (sym (ap (λ (z : Row). keptReply z) q ∙ kept-back reply h)))
+          (q, (u .content ∙ ap (store old 0) (sym (ap (λ (z : Row). keptReply z) q ∙ kept-back reply h)), kept-full reply h q))
 
     -- silence leaves the buffer as it was
     pub nothing-given : (old : List ℕ) {y : Row} → y ≡ keeping x p r a [] → old ≡ store old 0 (keptReply y)
@@ -58,10 +67,10 @@ module _ (x : Row) (whole : length (x .kept) ≡ maxMessage) where
 
   -- a part
   module _ {old : List ℕ} {exchange turn : ℕ} {at : Place} {l : List Placed} {new : List ℕ} {f : Filled} (s : Sent old exchange turn at l new f) (room : maxMessage ≤ length old) where
-    pub part-given : (r : Request) {y : Row} → y ≡ keeping x (record { last = exchange; turn = turn; promised = f .more; closed = false }) r (f .place) (take (f .end - 0) new) → (y ≡ reported x exchange turn r at l) × (new ≡ store old 0 (keptReply y))
+    pub part-given : (r : Request) {y : Row} → y ≡ keeping x (record { last = exchange; turn = turn; next = nextOf (f .more); closed = 0 }) r (f .place) (take (f .end - 0) new) → (y ≡ reported x exchange turn r at l) × ((new ≡ store old 0 (keptReply y)) × (length (keptReply y) ≡ y .len))
     part-given r e =
-        both-given (record { last = exchange; turn = turn; promised = s .more 1; closed = false }) r (s .place 1) (s .stored) (report-length exchange turn l) room
-        (e ∙ (λ j. keeping x (record { last = exchange; turn = turn; promised = s .more j; closed = false }) r (s .place j) (take (f .end - 0) new)))
+        both-given (record { last = exchange; turn = turn; next = nextOf (s .more 1); closed = 0 }) r (s .place 1) (s .stored) (report-length exchange turn l) room
+        (e ∙ (λ j. keeping x (record { last = exchange; turn = turn; next = nextOf (s .more j); closed = 0 }) r (s .place j) (take (f .end - 0) new)))
 
 module _ {old : List ℕ} {exchange turn : ℕ} {at : Place} {l : List Placed} {new : List ℕ} {f : Filled} (s : Sent old exchange turn at l new f) (room : maxMessage ≤ length old) where
   report-room : length (reportMessage exchange turn l) ≤ length old
@@ -70,6 +79,9 @@ module _ {old : List ℕ} {exchange turn : ℕ} {at : Place} {l : List Placed} {
   pub report-within : f .end ≤ length new
   report-within = ends-within (s .stored) report-room
 
+  pub report-end : f .end ≡ length (take (f .end - 0) new)
+  report-end = part-end (s .stored) report-room
+
   pub report-short : length (take (f .end - 0) new) ≤ maxMessage
   report-short = omega (arith, part-short (s .stored) report-room, report-length exchange turn l)
 
@@ -77,8 +89,10 @@ module _ {old : List ℕ} {exchange turn : ℕ} {at : Place} {l : List Placed} {
 
 pub record RightRow (x : Row) : Type 0 where
   pub exchange : x .progress .last < 2 ^ 40
+  pub turn : x .progress .turn ≤ maxTurn
+  pub next : x .progress .next ≤ part
+  pub closed : x .progress .closed ≤ 1
   pub asked : x .request .asked ≤ maxPaths
-  pub filtered : x .request .filtered ≤ maxFilters
   pub path : x .place .path ≤ maxPaths
   pub index : x .place .index ≤ attributeLimit
   pub len : x .len ≤ maxMessage
@@ -86,23 +100,35 @@ pub record RightRow (x : Row) : Type 0 where
 pub row-right : (x : Row) → rowRight x ≡ true → RightRow x
 unfolding rowRight
 row-right x h =
-    let t₅ = leb (x .len) maxMessage in
-    let t₄ = leb (x .place .index) attributeLimit in
-    let t₃ = leb (x .place .path) maxPaths in
-    let t₂ = leb (x .request .filtered) maxFilters in
-    let t₁ = leb (x .request .asked) maxPaths in
+    let t₇ = leb (x .len) maxMessage in
+    let t₆ = leb (x .place .index) attributeLimit in
+    let t₅ = leb (x .place .path) maxPaths in
+    let t₄ = leb (x .request .asked) maxPaths in
+    let t₃ = leb (x .progress .closed) 1 in
+    let t₂ = leb (x .progress .next) part in
+    let t₁ = leb (x .progress .turn) maxTurn in
     let t₀ = ltb (x .progress .last) (2 ^ 40) in
-    let h₁ = right t₀ (t₁ && (t₂ && (t₃ && (t₄ && t₅)))) h in
-    let h₂ = right t₁ (t₂ && (t₃ && (t₄ && t₅))) h₁ in
-    let h₃ = right t₂ (t₃ && (t₄ && t₅)) h₂ in
-    let h₄ = right t₃ (t₄ && t₅) h₃ in
+    let r₆ : Bool = t₆ && t₇ in
+    let r₅ : Bool = t₅ && r₆ in
+    let r₄ : Bool = t₄ && r₅ in
+    let r₃ : Bool = t₃ && r₄ in
+    let r₂ : Bool = t₂ && r₃ in
+    let r₁ : Bool = t₁ && r₂ in
+    let h₁ = right t₀ r₁ h in
+    let h₂ = right t₁ r₂ h₁ in
+    let h₃ = right t₂ r₃ h₂ in
+    let h₄ = right t₃ r₄ h₃ in
+    let h₅ = right t₄ r₅ h₄ in
+    let h₆ = right t₅ r₆ h₅ in
     record {
-      exchange = ltb-true (x .progress .last) (2 ^ 40) (left t₀ (t₁ && (t₂ && (t₃ && (t₄ && t₅)))) h);
-      asked = leb-true (x .request .asked) maxPaths (left t₁ (t₂ && (t₃ && (t₄ && t₅))) h₁);
-      filtered = leb-true (x .request .filtered) maxFilters (left t₂ (t₃ && (t₄ && t₅)) h₂);
-      path = leb-true (x .place .path) maxPaths (left t₃ (t₄ && t₅) h₃);
-      index = leb-true (x .place .index) attributeLimit (left t₄ t₅ h₄);
-      len = leb-true (x .len) maxMessage (right t₄ t₅ h₄);
+      exchange = ltb-true (x .progress .last) (2 ^ 40) (left t₀ r₁ h);
+      turn = leb-true (x .progress .turn) maxTurn (left t₁ r₂ h₁);
+      next = leb-true (x .progress .next) part (left t₂ r₃ h₂);
+      closed = leb-true (x .progress .closed) 1 (left t₃ r₄ h₃);
+      asked = leb-true (x .request .asked) maxPaths (left t₄ r₅ h₄);
+      path = leb-true (x .place .path) maxPaths (left t₅ r₆ h₅);
+      index = leb-true (x .place .index) attributeLimit (left t₆ t₇ h₆);
+      len = leb-true (x .len) maxMessage (right t₆ t₇ h₆);
     }
 
 pub right-row : (x : Row) → RightRow x → rowRight x ≡ true
@@ -110,8 +136,10 @@ unfolding rowRight
 right-row x r =
     rw (
       lt-ltb (x .progress .last) (2 ^ 40) (r .exchange),
+      le-leb (x .progress .turn) maxTurn (r .turn),
+      le-leb (x .progress .next) part (r .next),
+      le-leb (x .progress .closed) 1 (r .closed),
       le-leb (x .request .asked) maxPaths (r .asked),
-      le-leb (x .request .filtered) maxFilters (r .filtered),
       le-leb (x .place .path) maxPaths (r .path),
       le-leb (x .place .index) attributeLimit (r .index),
       le-leb (x .len) maxMessage (r .len),

@@ -1,9 +1,8 @@
 -- A request that begins an exchange (document 01, What the sign answers; On the wire).
-use mathlib.Core.Bool.{Bool, true, false}
-use mathlib.Core.List.{List, [], map}
+use mathlib.Core.List.{List, []}
 use Prim.Native.Nat.{ℕ}
 use lib.Dec.{eqb}
-use lib.ListN.{take}
+use lib.ListN.{length, take}
 use mathlib.Core.Path.{_≡_}
 use Rattle.octets.specs.Store.{store}
 use Rattle.tlv.specs.Octet.{pick}
@@ -14,20 +13,22 @@ use Rattle.interaction_write.specs.declared.WriteRequest.{WriteRequest}
 use Rattle.interaction_write.specs.Write.{writeIn, writeRead}
 use Rattle.acl.specs.declared.Grants.{Grants}
 use Rattle.values.specs.declared.Values.{Values}
-use Rattle.selection.specs.Asked.{askedFor}
+use Rattle.selection.specs.Request.{pathsWords}
+use Rattle.selection.specs.Filters.{filterWords}
 use Rattle.exchange.specs.declared.Progress.{Progress}
+use Rattle.exchange.specs.Rules.{nothing}
 use Rattle.report.specs.declared.Place.{Place}
 use Rattle.report.specs.declared.part.Request.{Request}
 use Rattle.writes.specs.Offer.{Held}
 use Rattle.writes.specs.Entry.{heldAfter, codesOf}
 use Rattle.replies.specs.declared.Row.{Row}
-use Rattle.replies.specs.declared.begin.Begun.{Begun}
+use Rattle.replies.specs.declared.Standing.{Standing}
 use Rattle.replies.specs.Messages.{statusMessage, responseMessage}
-use Rattle.replies.specs.Row.{keeping, keptReply, reported, blocksOf}
+use Rattle.replies.specs.Row.{keeping, keptReply, reported, blocksOf, standingOf, putRequest}
 
 -- an exchange whose one reply was given, and that promised nothing
 abbrev pub answered : ℕ → Progress
-answered exchange = record { last = exchange; turn = 1; promised = false; closed = false }
+answered exchange = record { last = exchange; turn = 1; next = nothing; closed = 0 }
 
 -- one reply, of which nothing goes on: a status, a write response, or silence
 abbrev pub once : Row → ℕ → List ℕ → Row
@@ -36,20 +37,20 @@ once x exchange reply = keeping x (answered exchange) (x .request) (x .place) re
 abbrev pub beginningPlace : Place
 beginningPlace = record { path = 0; index = 0 }
 
-unfoldable pub requestOf : ReadRequest → Request
-requestOf r =
+-- what is kept of a read: its paths, and what its filters say of each cluster
+unfoldable pub requestOf : List ℕ → ReadRequest → Request
+requestOf w r =
     record {
-      paths = map askedFor (r .paths .kept);
+      paths = pathsWords (r .paths .kept);
       asked = r .paths .count;
-      filters = r .filters .kept;
-      filtered = r .filters .count;
+      filters = filterWords w (take (r .filters .count) (r .filters .kept));
     }
 
 -- a read: a status if it is refused whole, else reply 1
 abbrev pub readBy : List ℕ → Values → List ℕ → List ℕ → Grants → Row → ℕ → ReadRequest → Row
 readBy w v defaults edits g x exchange r =
     pick (eqb (r .verdict) 0)
-    (reported x exchange 1 (requestOf r) beginningPlace (blocksOf w v defaults edits g (requestOf r) beginningPlace))
+    (reported x exchange 1 (requestOf w r) beginningPlace (blocksOf w v defaults edits g (requestOf w r) beginningPlace))
     (once x exchange (statusMessage exchange (r .verdict)))
 
 unfoldable pub readBegun : List ℕ → Values → List ℕ → List ℕ → Grants → Row → ℕ → List ℕ → Row
@@ -78,9 +79,15 @@ writeBy w g defaults h x exchange payload r =
 unfoldable pub writeBegun : List ℕ → Grants → List ℕ → Held → Row → ℕ → List ℕ → Left
 writeBegun w g defaults h x exchange payload = writeBy w g defaults h x exchange payload (writeRead (writeIn payload))
 
--- what the code answers and lends back: the values, the row, the page of edits, and the reply in the buffer
-pub record Wrote (l : Left) (r : Begun) (edits old new : List ℕ) : Type 0 where
-  pub values : r .values ≡ l .held .values
-  pub row : r .row ≡ l .row
-  pub page : edits ≡ l .held .edits
-  pub buffer : new ≡ store old 0 (keptReply (l .row))
+-- as the code has it: how the exchange stands, the request in the row's words, the kept reply, and the reply in the buffer
+pub record Begins (x : Row) (t : Standing) (row newRow kept old new : List ℕ) : Type 0 where
+  pub standing : t ≡ standingOf x
+  pub request : newRow ≡ putRequest row (x .request)
+  pub reply : kept ≡ x .kept
+  pub buffer : new ≡ store old 0 (keptReply x)
+  pub full : length (keptReply x) ≡ x .len
+
+-- and what is held
+pub record Wrote (l : Left) (t : Standing) (h : Held) (row newRow kept old new : List ℕ) : Type 0 where
+  pub held : h ≡ l .held
+  pub begins : Begins (l .row) t row newRow kept old new

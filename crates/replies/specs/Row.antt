@@ -1,48 +1,56 @@
 -- The exchange that a sign serves: how far it has come, the request being answered, the place reached, and the kept reply.
-use mathlib.Core.Bool.{Bool, true, false, _&&_}
-use mathlib.Core.List.{List, []}
+use mathlib.Core.Bool.{Bool, _&&_}
+use mathlib.Core.List.{List, [], _∷_}
 use Prim.Native.Nat.{ℕ, _+_, _^_}
 use lib.Dec.{leb, ltb}
-use lib.ListN.{length, take}
+use lib.ListN.{length, getD, take, drop}
 use Rattle.octets.specs.Store.{store}
-use Rattle.interaction.specs.declared.Wanted.{Wanted}
-use Rattle.interaction.specs.Read.{maxPaths, maxFilters}
+use Rattle.tlv.specs.Octet.{pick}
+use Rattle.interaction.specs.Read.{maxPaths}
 use Rattle.schema.specs.Layout.{attributeLimit}
 use Rattle.acl.specs.declared.Grants.{Grants}
 use Rattle.values.specs.declared.Values.{Values}
 use Rattle.selection.specs.declared.asked.Asked.{Asked}
+use Rattle.selection.specs.Request.{filtersAt, standingAt, pathsIn, filtersIn, askedPaths}
 use Rattle.exchange.specs.declared.Progress.{Progress}
+use Rattle.exchange.specs.Rules.{maxTurn, nothing, part}
 use Rattle.report.specs.declared.Place.{Place}
 use Rattle.report.specs.declared.part.Request.{Request}
 use Rattle.report.specs.Blocks.{Placed, viewOf, blocksFrom}
 use Rattle.report.specs.Chunk.{blockRoom, taken, left, after, any}
 use Rattle.replies.specs.declared.Row.{Row}
+use Rattle.replies.specs.declared.Standing.{Standing}
 use Rattle.replies.specs.Messages.{maxMessage, reportMessage}
+
+-- where the reply is kept in the bytes lent for it
+abbrev pub keptAt : ℕ
+keptAt = 0
 
 -- a row that keeps a reply; none is silence
 unfoldable pub keeping : Row → Progress → Request → Place → List ℕ → Row
 keeping x progress request place reply =
-    record { progress = progress; request = request; place = place; kept = store (x .kept) 0 reply; len = length reply }
+    record { progress = progress; request = request; place = place; kept = store (x .kept) keptAt reply; len = length reply }
 
 -- the kept reply
 abbrev pub keptReply : Row → List ℕ
-keptReply x = take (x .len) (x .kept)
+keptReply x = take (x .len) (drop keptAt (x .kept))
 
 -- what is asked for
 abbrev pub pathsOf : Request → List Asked
-pathsOf r = take (r .asked) (r .paths)
-
-abbrev pub filtersOf : Request → List Wanted
-filtersOf r = take (r .filtered) (r .filters)
+pathsOf r = askedPaths (r .paths) (r .asked)
 
 -- the blocks of a request from a place on, as the sign stands
 abbrev pub blocksOf : List ℕ → Values → List ℕ → List ℕ → Grants → Request → Place → List Placed
-blocksOf w v defaults edits g r at = blocksFrom (viewOf w v defaults edits g (filtersOf r)) (pathsOf r) at
+blocksOf w v defaults edits g r at = blocksFrom (viewOf w v defaults edits g (r .filters)) (pathsOf r) at
+
+-- what a success for a part brings: the next one where more is promised
+abbrev pub nextOf : Bool → ℕ
+nextOf more = pick more part nothing
 
 -- reply number `turn` of an exchange is the part from a place on; the row after it
 abbrev pub reported : Row → ℕ → ℕ → Request → Place → List Placed → Row
 reported x exchange turn r at l =
-    keeping x (record { last = exchange; turn = turn; promised = any (left blockRoom l); closed = false }) r (after at (taken blockRoom l))
+    keeping x (record { last = exchange; turn = turn; next = nextOf (any (left blockRoom l)); closed = 0 }) r (after at (taken blockRoom l))
     (reportMessage exchange turn l)
 
 -- "turn k, when more was promised, gets reply k + 1"
@@ -50,10 +58,52 @@ unfoldable pub nextPart : List ℕ → Values → List ℕ → List ℕ → Gran
 nextPart w v defaults edits g x =
     reported x (x .progress .last) (x .progress .turn + 1) (x .request) (x .place) (blocksOf w v defaults edits g (x .request) (x .place))
 
--- refusal 2: counts, the place reached and the kept reply's length
+-- refusal 2: numbers in their widths, counts, the place reached and the kept reply's length
 unfoldable pub rowRight : Row → Bool
 rowRight x =
     ltb (x .progress .last) (2 ^ 40)
+    && (leb (x .progress .turn) maxTurn
+    && (leb (x .progress .next) part
+    && (leb (x .progress .closed) 1
     && (leb (x .request .asked) maxPaths
-    && (leb (x .request .filtered) maxFilters
-    && (leb (x .place .path) maxPaths && (leb (x .place .index) attributeLimit && leb (x .len) maxMessage))))
+    && (leb (x .place .path) maxPaths && (leb (x .place .index) attributeLimit && leb (x .len) maxMessage))))))
+
+-- ---- A ROW AS IT IS LENT: the request in words, how the exchange stands behind it, the kept reply in bytes
+
+abbrev pub requestIn : List ℕ → ℕ → Request
+requestIn row asked = record { paths = pathsIn row; asked = asked; filters = filtersIn row }
+
+-- what goes by value
+abbrev pub standingOf : Row → Standing
+standingOf x = record { progress = x .progress; asked = x .request .asked; place = x .place; len = x .len }
+
+abbrev pub rowIn : List ℕ → Standing → List ℕ → Row
+rowIn row t kept = record { progress = t .progress; request = requestIn row (t .asked); place = t .place; kept = kept; len = t .len }
+
+-- word i of how the exchange stands
+abbrev pub standingWord : List ℕ → ℕ → ℕ
+standingWord row i = getD row (standingAt + i) 0
+
+unfoldable pub standingIn : List ℕ → Standing
+standingIn row =
+    record {
+      progress = record { last = standingWord row 0; turn = standingWord row 1; next = standingWord row 2; closed = standingWord row 3 };
+      asked = standingWord row 4;
+      place = record { path = standingWord row 5; index = standingWord row 6 };
+      len = standingWord row 7;
+    }
+
+unfoldable pub standingWords : Standing → List ℕ
+standingWords t =
+    t .progress .last ∷ t .progress .turn ∷ t .progress .next ∷ t .progress .closed ∷ t .asked ∷ t .place .path ∷ t .place .index ∷ t .len ∷ []
+
+-- any words and bytes are some row's
+abbrev pub rowOf : List ℕ → List ℕ → Row
+rowOf row kept = rowIn row (standingIn row) kept
+
+-- a row stored over the words of another
+unfoldable pub putRequest : List ℕ → Request → List ℕ
+putRequest row r = store (store row 0 (r .paths)) filtersAt (r .filters)
+
+unfoldable pub putRow : List ℕ → Row → List ℕ
+putRow row x = store (putRequest row (x .request)) standingAt (standingWords (standingOf x))

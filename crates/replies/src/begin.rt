@@ -1,145 +1,135 @@
 // Requests that begin an exchange: each read whole, then refused or answered.
 ghost use mathlib.Core.Path.{_≡_};
 ghost use mathlib.Core.Bool.{true};
-ghost use mathlib.Core.List.{map};
-ghost use Prim.Native.Nat.{_<_, _≤_, _^_, _*_};
+ghost use mathlib.Core.List.{List};
+ghost use Prim.Native.Nat.{ℕ, _<_, _≤_, _^_, _*_};
 ghost use lib.ListN.{length};
 ghost use Rattle.octets.specs.Store.{store};
 ghost use Rattle.schema.specs.Layout.{textSize};
 ghost use Rattle.schema.specs.Check.{wellFormed, textCount};
-ghost use Rattle.selection.specs.Asked.{askedFor};
+ghost use Rattle.values.specs.Values.{valuesOf};
+ghost use Rattle.writes.specs.Offer.{heldOf};
 ghost use Rattle.replies.specs.Messages.{maxMessage, statusMessage};
-ghost use Rattle.replies.specs.Row.{keptReply};
-ghost use Rattle.replies.specs.Begin.{once, requestOf, readBegun, writeBegun, Wrote};
-use super::Row;
+ghost use Rattle.replies.specs.Row.{rowIn, keptReply};
+ghost use Rattle.replies.specs.Begin.{once, readBegun, writeBegun, Begins, Wrote};
+use super::MAX_MESSAGE;
+use super::Standing;
 use super::kept::keep;
+use super::kept::next_of;
 use super::message::put_part;
 use super::message::put_status;
 use super::message::put_statuses;
 use acl::Grants;
+use exchange::NOTHING;
 use exchange::Progress;
-use interaction::MAX_PATHS;
-use interaction::ReadRequest;
-use interaction::Target;
 use interaction::read_request;
 use interaction_write::write_request;
 use report::Place;
-use report::part::Request;
+use schema::ATTRIBUTES;
+use schema::CLUSTERS;
 use schema::WORDS;
-use selection::asked::Asked;
-use selection::asked::asked_for;
-use values::Values;
+use selection::filters::put_filters;
+use selection::request::ROW_WORDS;
+use selection::request::put_paths;
 use writes::entry::write_all;
 
-const NOTHING: Asked = Asked {
-    any_endpoint: false,
-    endpoint: 0,
-    any_cluster: false,
-    cluster: 0,
-    any_attribute: false,
-    attribute: 0,
-};
-
-// Paths as they were read, each part a number of its width or any.
-fn all_asked(paths: [Target; MAX_PATHS]) -> [Asked; MAX_PATHS]
-    ensures { λ r. ⌜ r ≡ map askedFor paths ⌝ }
-{
-    let mut asked = [NOTHING; MAX_PATHS];
-    let mut i = 0;
-    while i < MAX_PATHS {
-        asked[i] = asked_for(paths[i]);
-        i += 1;
-    }
-    asked
-}
-
-fn request_of(r: ReadRequest) -> Request
-    ensures { λ q. ⌜ q ≡ requestOf r ⌝ }
-{
-    let paths = r.paths;
-    let filters = r.filters;
-    let kept = paths.kept;
-    let wanted = filters.kept;
-    Request {
-        paths: all_asked(kept),
-        asked: paths.count,
-        filters: wanted,
-        filtered: filters.count,
-    }
-}
-
-// The row of an exchange whose one reply was given.
-fn once_kept(x: Row, exchange: u64, reply: &[u8]) -> Row
+// The one reply of an exchange kept, and how the exchange then stands.
+fn once_kept(kept: &mut [u8; MAX_MESSAGE], t: Standing, exchange: u64, reply: &[u8]) -> Standing
     requires { ⌜ length (now reply) ≤ maxMessage ⌝ }
-    ensures { λ r. ⌜ r ≡ once x exchange (now (reply .entry)) ⌝ }
+    ensures { λ r. ⌜ ((row : List ℕ) → rowIn row r (now (kept .exit)) ≡ once (rowIn row t (now (kept .entry))) exchange (now (reply .entry))) ⌝ }
+    ensures whole { λ _. ⌜ length (now (kept .entry)) ≡ maxMessage ⌝ }
 {
-    let progress = Progress {
-        last: exchange,
-        turn: 1,
-        promised: false,
-        closed: false,
-    };
-    let request = x.request;
-    let place = x.place;
-    keep(x, progress, request, place, reply)
+    keep(kept, reply);
+    let place = t.place;
+    Standing {
+        progress: Progress {
+            last: exchange,
+            turn: 1,
+            next: NOTHING,
+            closed: 0,
+        },
+        asked: t.asked,
+        place,
+        len: reply.len(),
+    }
 }
 
 // The whole request refused.
-fn refuse(x: Row, exchange: u64, code: u8, out: &mut [u8]) -> Row
+fn refuse(
+    kept: &mut [u8; MAX_MESSAGE],
+    t: Standing,
+    exchange: u64,
+    code: u8,
+    out: &mut [u8],
+) -> Standing
     requires { ⌜ (exchange < 2 ^ 40) × (maxMessage ≤ length (now out)) ⌝ }
-    ensures { λ r. ⌜ (r ≡ once x exchange (statusMessage exchange code)) × (now (out .exit) ≡ store (now (out .entry)) 0 (keptReply r)) ⌝ }
+    ensures { λ r. ⌜ ((row : List ℕ) → (rowIn row r (now (kept .exit)) ≡ once (rowIn row t (now (kept .entry))) exchange (statusMessage exchange code)) × ((now (out .exit) ≡ store (now (out .entry)) 0 (keptReply (rowIn row r (now (kept .exit))))) × (length (keptReply (rowIn row r (now (kept .exit)))) ≡ r .len))) ⌝ }
 {
     let end = put_status(out, exchange, code);
-    once_kept(x, exchange, &out[0..end])
+    once_kept(kept, t, exchange, &out[0..end])
 }
 
 // A read: reply 1, or the status that refuses it.
 pub fn begin_read<'a>(
     w: &'a [u64; WORDS],
-    v: Values,
+    words: &'a [u64; ATTRIBUTES],
+    nulls: &'a [bool; ATTRIBUTES],
+    edited: &'a [bool; ATTRIBUTES],
+    versions: &'a [u32; CLUSTERS],
     defaults: &'a [u8],
     edits: &'a [u8],
     g: Grants,
-    x: Row,
+    row: &mut [u64; ROW_WORDS],
+    kept: &mut [u8; MAX_MESSAGE],
+    t: Standing,
     exchange: u64,
     payload: &'a [u8],
     out: &mut [u8],
-) -> Row
+) -> Standing
     requires { ⌜ (wellFormed (now w) ≡ true) × ((exchange < 2 ^ 40) × (maxMessage ≤ length (now out))) ⌝ }
-    ensures { λ r. ⌜ (r ≡ readBegun (now (w .entry)) v (now (defaults .entry)) (now (edits .entry)) g x exchange (now (payload .entry))) × (now (out .exit) ≡ store (now (out .entry)) 0 (keptReply r)) ⌝ }
+    ensures { λ r. ⌜ Begins (readBegun (now (w .entry)) (valuesOf (now (words .entry)) (now (nulls .entry)) (now (edited .entry)) (now (versions .entry))) (now (defaults .entry)) (now (edits .entry)) g (rowIn (now (row .entry)) t (now (kept .entry))) exchange (now (payload .entry))) r (now (row .entry)) (now (row .exit)) (now (kept .exit)) (now (out .entry)) (now (out .exit)) ⌝ }
 {
     let r = read_request(payload);
     if r.verdict != 0 {
-        return refuse(x, exchange, r.verdict as u8, out);
+        return refuse(kept, t, exchange, r.verdict as u8, out);
     }
-    let request = request_of(r);
+    let paths = r.paths;
+    let filters = r.filters;
+    let targets = paths.kept;
+    let wanted = filters.kept;
+    let asked = paths.count;
+    put_paths(row, targets);
+    put_filters(w, wanted, filters.count, row);
     let f = put_part(
         w,
-        v,
+        words,
+        nulls,
+        edited,
+        versions,
         defaults,
         edits,
         g,
-        request,
+        row,
+        asked,
         Place { path: 0, index: 0 },
         out,
         exchange,
         1,
     );
-    let progress = Progress {
-        last: exchange,
-        turn: 1,
-        promised: f.more,
-        closed: false,
-    };
-    let reached = f.place;
+    let place = f.place;
     let end = f.end;
-    keep(x, progress, request, reached, &out[0..end])
-}
-
-// What a write leaves: the values and the row.
-pub struct Begun {
-    pub values: Values,
-    pub row: Row,
+    keep(kept, &out[0..end]);
+    Standing {
+        progress: Progress {
+            last: exchange,
+            turn: 1,
+            next: next_of(f.more),
+            closed: 0,
+        },
+        asked,
+        place,
+        len: end,
+    }
 }
 
 // A write: its statuses, silence, or the status that refuses it.
@@ -148,37 +138,42 @@ pub fn begin_write<'a>(
     g: Grants,
     defaults: &'a [u8],
     edits: &mut [u8],
-    v: Values,
-    x: Row,
+    words: &mut [u64; ATTRIBUTES],
+    nulls: &mut [bool; ATTRIBUTES],
+    edited: &mut [bool; ATTRIBUTES],
+    versions: &mut [u32; CLUSTERS],
+    kept: &mut [u8; MAX_MESSAGE],
+    t: Standing,
     exchange: u64,
     payload: &'a [u8],
     out: &mut [u8],
-) -> Begun
+) -> Standing
     requires { ⌜ (wellFormed (now w) ≡ true) × ((length (now edits) ≡ textSize * textCount (now w)) × ((exchange < 2 ^ 40) × (maxMessage ≤ length (now out)))) ⌝ }
-    ensures { λ r. ⌜ Wrote (writeBegun (now (w .entry)) g (now (defaults .entry)) (record { values = v; edits = now (edits .entry) }) x exchange (now (payload .entry))) r (now (edits .exit)) (now (out .entry)) (now (out .exit)) ⌝ }
+    ensures { λ r. ⌜ ((row : List ℕ) → Wrote (writeBegun (now (w .entry)) g (now (defaults .entry)) (heldOf (now (words .entry)) (now (nulls .entry)) (now (edited .entry)) (now (versions .entry)) (now (edits .entry))) (rowIn row t (now (kept .entry))) exchange (now (payload .entry))) r (heldOf (now (words .exit)) (now (nulls .exit)) (now (edited .exit)) (now (versions .exit)) (now (edits .exit))) row row (now (kept .exit)) (now (out .entry)) (now (out .exit))) ⌝ }
 {
     let r = write_request(payload);
     if r.verdict != 0 {
-        return Begun {
-            values: v,
-            row: refuse(x, exchange, r.verdict as u8, out),
-        };
+        return refuse(kept, t, exchange, r.verdict as u8, out);
     }
     let entries = r.entries;
-    let kept = entries.kept;
+    let all = entries.kept;
     let n = entries.count;
-    let all = write_all(w, g, defaults, edits, v, kept, n, payload);
-    let values = all.values;
+    let codes = write_all(
+        w,
+        g,
+        defaults,
+        edits,
+        words,
+        nulls,
+        edited,
+        versions,
+        all,
+        n,
+        payload,
+    );
     if r.suppress == 1 {
-        return Begun {
-            values,
-            row: once_kept(x, exchange, &out[0..0]),
-        };
+        return once_kept(kept, t, exchange, &out[0..0]);
     }
-    let codes = all.codes;
-    let end = put_statuses(kept, codes, n, out, exchange);
-    Begun {
-        values,
-        row: once_kept(x, exchange, &out[0..end]),
-    }
+    let end = put_statuses(all, codes, n, out, exchange);
+    once_kept(kept, t, exchange, &out[0..end])
 }

@@ -1,114 +1,106 @@
 // A reply kept, sent again, and the next part of a report.
 ghost use mathlib.Core.Path.{_≡_};
 ghost use mathlib.Core.Bool.{true};
-ghost use Prim.Native.Nat.{_<_, _≤_, _^_};
-ghost use lib.ListN.{length};
+ghost use Prim.Native.Nat.{_<_, _≤_};
+ghost use lib.ListN.{length, take, drop};
 ghost use Rattle.octets.specs.Store.{store};
 ghost use Rattle.schema.specs.Check.{wellFormed};
 ghost use Rattle.exchange.specs.Rules.{maxTurn};
+ghost use Rattle.values.specs.Values.{valuesOf};
 ghost use Rattle.replies.specs.Messages.{maxMessage};
-ghost use Rattle.replies.specs.Row.{keeping, keptReply, nextPart, rowRight};
+ghost use Rattle.replies.specs.Row.{keptAt, nextOf, nextPart, rowRight, rowIn};
+ghost use Rattle.replies.specs.Begin.{Begins};
 use super::MAX_MESSAGE;
-use super::Row;
+use super::Standing;
 use super::message::put_part;
 use acl::Grants;
+use exchange::NOTHING;
+use exchange::PART;
 use exchange::Progress;
-use interaction::MAX_FILTERS;
-use interaction::MAX_PATHS;
 use octets::put_bytes;
-use report::Place;
-use report::part::Request;
 use schema::ATTRIBUTES;
+use schema::CLUSTERS;
 use schema::WORDS;
-use values::Values;
+use selection::request::ROW_WORDS;
 
-// The row that keeps a reply.
-pub fn keep(x: Row, progress: Progress, request: Request, place: Place, reply: &[u8]) -> Row
+// Where the reply is kept in the bytes lent for it.
+const KEPT_AT: usize = 0;
+
+// Keeps a reply.
+pub fn keep(kept: &mut [u8; MAX_MESSAGE], reply: &[u8])
     requires { ⌜ length (now reply) ≤ maxMessage ⌝ }
-    ensures { λ r. ⌜ r ≡ keeping x progress request place (now (reply .entry)) ⌝ }
+    ensures { λ _. ⌜ now (kept .exit) ≡ store (now (kept .entry)) keptAt (now (reply .entry)) ⌝ }
+    ensures whole { λ _. ⌜ length (now (kept .entry)) ≡ maxMessage ⌝ }
 {
-    let mut kept = x.kept;
-    put_bytes(&mut kept, 0, reply);
-    Row {
-        progress,
-        request,
-        place,
-        kept,
-        len: reply.len(),
-    }
+    put_bytes(kept, KEPT_AT, reply);
 }
 
 // The kept reply again.
-pub fn resend(x: Row, out: &mut [u8])
-    requires { ⌜ (x .len ≤ maxMessage) × (maxMessage ≤ length (now out)) ⌝ }
-    ensures { λ _. ⌜ now (out .exit) ≡ store (now (out .entry)) 0 (keptReply x) ⌝ }
+pub fn resend(kept: &[u8; MAX_MESSAGE], len: usize, out: &mut [u8])
+    requires { ⌜ (len ≤ maxMessage) × (maxMessage ≤ length (now out)) ⌝ }
+    ensures { λ _. ⌜ now (out .exit) ≡ store (now (out .entry)) 0 (take len (drop keptAt (now (kept .entry)))) ⌝ }
+    ensures whole { λ _. ⌜ length (now (kept .entry)) ≡ maxMessage ⌝ }
 {
-    let kept = x.kept;
-    let len = x.len;
-    put_bytes(out, 0, &kept[0..len]);
+    let bytes: &[u8] = kept;
+    put_bytes(out, 0, &bytes[KEPT_AT..KEPT_AT + len]);
+}
+
+// What a success for a part brings.
+pub fn next_of(more: bool) -> u64
+    ensures { λ r. ⌜ r ≡ nextOf more ⌝ }
+{
+    if more { PART } else { NOTHING }
 }
 
 // The part after the newest one.
 pub fn next_part<'a>(
     w: &'a [u64; WORDS],
-    v: Values,
+    words: &'a [u64; ATTRIBUTES],
+    nulls: &'a [bool; ATTRIBUTES],
+    edited: &'a [bool; ATTRIBUTES],
+    versions: &'a [u32; CLUSTERS],
     defaults: &'a [u8],
     edits: &'a [u8],
     g: Grants,
-    x: Row,
+    row: &'a [u64; ROW_WORDS],
+    kept: &mut [u8; MAX_MESSAGE],
+    t: Standing,
     out: &mut [u8],
-) -> Row
-    requires { ⌜ (wellFormed (now w) ≡ true) × ((rowRight x ≡ true) × ((x .progress .turn < maxTurn) × (maxMessage ≤ length (now out)))) ⌝ }
-    ensures { λ r. ⌜ (r ≡ nextPart (now (w .entry)) v (now (defaults .entry)) (now (edits .entry)) g x) × (now (out .exit) ≡ store (now (out .entry)) 0 (keptReply r)) ⌝ }
+) -> Standing
+    requires { ⌜ (wellFormed (now w) ≡ true) × ((rowRight (rowIn (now row) t (now kept)) ≡ true) × ((t .progress .turn < maxTurn) × (maxMessage ≤ length (now out)))) ⌝ }
+    ensures { λ r. ⌜ Begins (nextPart (now (w .entry)) (valuesOf (now (words .entry)) (now (nulls .entry)) (now (edited .entry)) (now (versions .entry))) (now (defaults .entry)) (now (edits .entry)) g (rowIn (now (row .entry)) t (now (kept .entry)))) r (now (row .entry)) (now (row .entry)) (now (kept .exit)) (now (out .entry)) (now (out .exit)) ⌝ }
 {
-    let was = x.progress;
-    let request = x.request;
-    let place = x.place;
+    let was = t.progress;
+    let from = t.place;
     let turn = was.turn + 1;
     let f = put_part(
         w,
-        v,
+        words,
+        nulls,
+        edited,
+        versions,
         defaults,
         edits,
         g,
-        request,
-        place,
+        row,
+        t.asked,
+        from,
         out,
         was.last,
-        turn,
+        turn as u16,
     );
-    let progress = Progress {
-        last: was.last,
-        turn,
-        promised: f.more,
-        closed: false,
-    };
-    let reached = f.place;
+    let place = f.place;
     let end = f.end;
-    keep(x, progress, request, reached, &out[0..end])
-}
-
-// Counts, the place reached, and the kept reply's length: refusal 2 where they break the rules.
-pub fn row_ok(x: Row) -> bool
-    ensures { λ r. ⌜ r ≡ rowRight x ⌝ }
-{
-    let progress = x.progress;
-    let request = x.request;
-    let place = x.place;
-    if 1_099_511_627_776 <= progress.last {
-        return false;
+    keep(kept, &out[0..end]);
+    Standing {
+        progress: Progress {
+            last: was.last,
+            turn,
+            next: next_of(f.more),
+            closed: 0,
+        },
+        asked: t.asked,
+        place,
+        len: end,
     }
-    if MAX_PATHS < request.asked {
-        return false;
-    }
-    if MAX_FILTERS < request.filtered {
-        return false;
-    }
-    if MAX_PATHS < place.path {
-        return false;
-    }
-    if ATTRIBUTES < place.index {
-        return false;
-    }
-    x.len <= MAX_MESSAGE
 }

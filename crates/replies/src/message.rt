@@ -5,11 +5,12 @@ ghost use Prim.Native.Nat.{ℕ, _<_, _≤_, _^_};
 ghost use lib.ListN.{length, take, getD};
 ghost use Rattle.octets.specs.Store.{Stored};
 ghost use Rattle.schema.specs.Check.{wellFormed};
-ghost use Rattle.interaction.specs.Read.{maxPaths, maxFilters};
+ghost use Rattle.interaction.specs.Read.{maxPaths};
 ghost use Rattle.interaction_write.specs.Write.{maxWrites, noEntry};
 ghost use Rattle.writes.specs.Entry.{InWidth};
 ghost use Rattle.replies.specs.Messages.{maxMessage, statusMessage, responseMessage};
-ghost use Rattle.replies.specs.Row.{blocksOf};
+ghost use Rattle.values.specs.Values.{valuesOf};
+ghost use Rattle.replies.specs.Row.{blocksOf, requestIn};
 ghost use Rattle.replies.specs.Sent.{Sent};
 use super::ENVELOPE;
 use acl::Grants;
@@ -22,10 +23,11 @@ use interaction_writer::envelope::put_envelope;
 use interaction_writer::response::put_status_response;
 use report::Filled;
 use report::Place;
-use report::part::Request;
 use report::part::make_part;
+use schema::ATTRIBUTES;
+use schema::CLUSTERS;
 use schema::WORDS;
-use values::Values;
+use selection::request::ROW_WORDS;
 use writes::response::put_response;
 
 // A refusal of a whole request.
@@ -55,19 +57,37 @@ pub fn put_statuses(
 // The part of a report from a place on.
 pub fn put_part<'a>(
     w: &'a [u64; WORDS],
-    v: Values,
+    words: &'a [u64; ATTRIBUTES],
+    nulls: &'a [bool; ATTRIBUTES],
+    edited: &'a [bool; ATTRIBUTES],
+    versions: &'a [u32; CLUSTERS],
     defaults: &'a [u8],
     edits: &'a [u8],
     g: Grants,
-    request: Request,
+    row: &'a [u64; ROW_WORDS],
+    asked: usize,
     from: Place,
     out: &mut [u8],
     exchange: u64,
     turn: u16,
 ) -> Filled
-    requires { ⌜ (wellFormed (now w) ≡ true) × ((request .asked ≤ maxPaths) × ((request .filtered ≤ maxFilters) × ((exchange < 2 ^ 40) × (maxMessage ≤ length (now out))))) ⌝ }
-    ensures { λ r. ⌜ Sent (now (out .entry)) exchange turn from (blocksOf (now (w .entry)) v (now (defaults .entry)) (now (edits .entry)) g request from) (now (out .exit)) r ⌝ }
+    requires { ⌜ (wellFormed (now w) ≡ true) × ((asked ≤ maxPaths) × ((exchange < 2 ^ 40) × (maxMessage ≤ length (now out)))) ⌝ }
+    ensures { λ r. ⌜ Sent (now (out .entry)) exchange turn from (blocksOf (now (w .entry)) (valuesOf (now (words .entry)) (now (nulls .entry)) (now (edited .entry)) (now (versions .entry))) (now (defaults .entry)) (now (edits .entry)) g (requestIn (now (row .entry)) asked) from) (now (out .exit)) r ⌝ }
 {
     let p = put_envelope(out, 0, REPORT as u8, exchange, turn);
-    make_part(w, v, defaults, edits, g, request, from, out, p)
+    make_part(
+        w,
+        words,
+        nulls,
+        edited,
+        versions,
+        defaults,
+        edits,
+        g,
+        row,
+        asked,
+        from,
+        out,
+        p,
+    )
 }

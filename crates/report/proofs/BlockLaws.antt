@@ -70,36 +70,28 @@ module _ (s : View) (k : ℕ) (p : Asked) (ps : List Asked) where
       rw (q, e) (entry-append k i o (collect k (blockAt s p) (span (s .schema) p - (i + 1)) (i + 1)) (pathsBlocks s (k + 1) 0 ps))
 
 -- the blocks from place i of path k on, of the first n paths
-abbrev pub ahead : View → List Asked → ℕ → ℕ → ℕ → List Placed
-ahead s ps n k i = pathsBlocks s k i (drop k (take n ps))
+abbrev pub ahead : View → List Asked → ℕ → ℕ → List Placed
+ahead s ps k i = pathsBlocks s k i (drop k ps)
 
-module _ (s : View) (ps : List Asked) (n : ℕ) (whole : n ≤ length ps) where
-  len : length (take n ps) ≡ n
-  len = length-take n ps ∙ omega arith
-
-  pub ahead-done : (k i : ℕ) → n ≤ k → ahead s ps n k i ≡ []
+module _ (s : View) (ps : List Asked) (k i : ℕ) where
+  pub ahead-done : length ps ≤ k → ahead s ps k i ≡ []
   unfolding pathsBlocks
-  ahead-done k i l = ap (pathsBlocks s k i) (drop-of-length-le (take n ps) {i = k} (omega (arith, len)))
+  ahead-done l = ap (pathsBlocks s k i) (drop-of-length-le ps {i = k} l)
 
-  module _ (k i : ℕ) (d : Asked) (l : k < n) where
-    here : drop k (take n ps) ≡ getD ps k d ∷ drop (k + 1) (take n ps)
-    here =
-        drop-cons (take n ps) k d (omega (arith, len))
-        ∙ ap (λ (p : Asked). p ∷ drop (suc k) (take n ps)) (getD-take n ps k d l)
-        ∙ ap (λ (j : ℕ). getD ps k d ∷ drop j (take n ps)) (sym (add-one k))
+  -- path k is p
+  module _ (p : Asked) (here : drop k ps ≡ p ∷ drop (k + 1) ps) where
+    pub ahead-past : span (s .schema) p ≤ i → ahead s ps k i ≡ ahead s ps (k + 1) 0
+    ahead-past h = ap (pathsBlocks s k i) here ∙ path-past s k p (drop (k + 1) ps) i h
 
-    pub ahead-past : span (s .schema) (getD ps k d) ≤ i → ahead s ps n k i ≡ ahead s ps n (k + 1) 0
-    ahead-past h = ap (pathsBlocks s k i) here ∙ path-past s k (getD ps k d) (drop (k + 1) (take n ps)) i h
-
-    module _ (h : i < span (s .schema) (getD ps k d)) (x : Item) (e : x ≡ itemAt (s .schema) (s .grants) (s .skips) (getD ps k d) i) where
-      ahead-step : (o : Opt Block) → blockOf (s .schema) (s .values) (s .defaults) (s .edits) (getD ps k d) x ≡ o → ahead s ps n k i ≡ entry k i o (ahead s ps n k (i + 1))
+    module _ (h : i < span (s .schema) p) (x : Item) (e : x ≡ itemAt (s .schema) (s .grants) (s .skips) p i) where
+      ahead-step : (o : Opt Block) → blockOf (s .schema) (s .values) (s .defaults) (s .edits) p x ≡ o → ahead s ps k i ≡ entry k i o (ahead s ps k (i + 1))
       ahead-step o q =
           ap (pathsBlocks s k i) here
-          ∙ path-step s k (getD ps k d) (drop (k + 1) (take n ps)) i o h (ap (blockOf (s .schema) (s .values) (s .defaults) (s .edits) (getD ps k d)) (sym e) ∙ q)
+          ∙ path-step s k p (drop (k + 1) ps) i o h (ap (blockOf (s .schema) (s .values) (s .defaults) (s .edits) p) (sym e) ∙ q)
           ∙ ap (λ (qs : List Asked). entry k i o (pathsBlocks s k (i + 1) qs)) (sym here)
 
-      pub ahead-none : isNothing x ≡ true → ahead s ps n k i ≡ ahead s ps n k (i + 1)
-      ahead-none t = ahead-step nothing (no-block s (getD ps k d) x t)
+      pub ahead-none : isNothing x ≡ true → ahead s ps k i ≡ ahead s ps k (i + 1)
+      ahead-none t = ahead-step nothing (no-block s p x t)
 
-      pub ahead-block : (b : Block) → blockOf (s .schema) (s .values) (s .defaults) (s .edits) (getD ps k d) x ≡ just b → ahead s ps n k i ≡ record { path = k; index = i; block = b } ∷ ahead s ps n k (i + 1)
+      pub ahead-block : (b : Block) → blockOf (s .schema) (s .values) (s .defaults) (s .edits) p x ≡ just b → ahead s ps k i ≡ record { path = k; index = i; block = b } ∷ ahead s ps k (i + 1)
       ahead-block b q = ahead-step (just b) q

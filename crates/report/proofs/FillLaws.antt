@@ -7,7 +7,7 @@ use native.Mathlib.Nat.{add-zero}
 use native.Mathlib.Omega.{arith}
 use borrow.Author.Tests.{le-leb, lt-leb}
 use lib.Dec.{leb}
-use lib.ListN.{length, getD}
+use lib.ListN.{length, getD, drop}
 use Rattle.octets.specs.Store.{store, Stored}
 use Rattle.octets.proofs.StoreLaws.{then}
 use Rattle.interaction_writer.specs.Spelling.{spelling, joined}
@@ -70,11 +70,11 @@ turn-of {old} {new} {start} {room} {r} l x m e y =
       takes = λ at last f q g. let s = offered-some y q in fill-takes x m l e (s .0) (s .1) g;
     }
 
--- at place i of path k
-pub turn : (s : View) (ps : List Asked) (n : ℕ) → n ≤ length ps → (k i : ℕ) (d : Asked) → k < n → i < span (s .schema) (getD ps k d) →
-    (x : Item) → x ≡ itemAt (s .schema) (s .grants) (s .skips) (getD ps k d) i → isNothing x ≡ false →
-    (old : List ℕ) (start room : ℕ) (new : List ℕ) (r : ℕ) → OfferedIf old start room (blockOf (s .schema) (s .values) (s .defaults) (s .edits) (getD ps k d) x) new r →
-    Turn old start room (ahead s ps n k i) (record { path = k; index = i + 1 }) (ahead s ps n k (i + 1)) new r
-turn s ps n whole k i d l h x e t old start room new r y =
-    let b = some-block s (getD ps k d) x t in
-    turn-of (ahead s ps n k i) (record { path = k; index = i; block = b .block }) (ahead s ps n k (i + 1)) (ahead-block s ps n whole k i d l h x e (b .block) (b .there)) (offered-just old start room _ (b .block) new r (b .there) y)
+-- at place i of path k, which is p
+pub turn : (s : View) (ps : List Asked) (k i : ℕ) (p : Asked) → drop k ps ≡ p ∷ drop (k + 1) ps → i < span (s .schema) p →
+    (x : Item) → x ≡ itemAt (s .schema) (s .grants) (s .skips) p i → isNothing x ≡ false →
+    (old : List ℕ) (start room : ℕ) (new : List ℕ) (r : ℕ) → OfferedIf old start room (blockOf (s .schema) (s .values) (s .defaults) (s .edits) p x) new r →
+    Turn old start room (ahead s ps k i) (record { path = k; index = i + 1 }) (ahead s ps k (i + 1)) new r
+turn s ps k i p here h x e t old start room new r y =
+    let b = some-block s p x t in
+    turn-of (ahead s ps k i) (record { path = k; index = i; block = b .block }) (ahead s ps k (i + 1)) (ahead-block s ps k i p here h x e (b .block) (b .there)) (offered-just old start room _ (b .block) new r (b .there) y)

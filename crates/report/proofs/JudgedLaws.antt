@@ -1,8 +1,8 @@
 -- FILTERS ARE JUDGED AT EACH PART: with the versions of the view that the part is made of, whatever the sign held when the request was taken.
-use mathlib.Core.Path.{_≡_, refl, _∙_}
+use mathlib.Core.Path.{_≡_, refl, ap, _∙_}
 use mathlib.Core.Bool.{Bool, true, false, not, _&&_, _||_}
 use mathlib.Core.List.{List, [], _∷_}
-use Prim.Native.Nat.{ℕ, zero, suc, _<_}
+use Prim.Native.Nat.{ℕ, zero, suc, _<_, _^_}
 use native.Mathlib.Omega.{arith}
 use borrow.Author.Tests.{ne-eqb}
 use lib.Dec.{eqb}
@@ -17,9 +17,10 @@ use Rattle.acl.specs.declared.Grants.{Grants}
 use Rattle.acl.specs.Access.{isGranted}
 use Rattle.values.specs.declared.Values.{Values}
 use Rattle.selection.specs.declared.items.Item.the-variants.{Value, Nothing}
-use Rattle.selection.specs.Filters.{on, some, agree, skipsBy, skipsAt, skipsOf}
+use Rattle.selection.specs.Filters.{on, some, agree, skipsBy, skipsAt, skipsOf, filterWords}
 use Rattle.selection.specs.Items.{readItem}
 use Rattle.selection.proofs.AskedLaws.{cluster-of}
+use Rattle.selection.proofs.FilterLaws.{judged-skips}
 use Rattle.report.specs.Blocks.{viewOf}
 
 and-false : (b : Bool) → (b && false) ≡ false
@@ -35,7 +36,7 @@ disagrees e c version d (f ∷ fs) (suc n) l h k =
     rw (disagrees e c version d fs n (omega arith) h k) (and-false (not (on e c f) || eqb (f .version) version))
 
 -- attribute i of a schema, in a view of the sign as it stands when a part is made
-module _ (w : List ℕ) (right : wellFormed w ≡ true) (v : Values) (defaults edits : List ℕ) (g : Grants) (fs : List Wanted) (i : ℕ) (l : i < attributeCount w) where
+module _ (w : List ℕ) (right : wellFormed w ≡ true) (v : Values) (fits : (k : ℕ) → getD (v .versions) k 0 < 2 ^ 32) (defaults edits : List ℕ) (g : Grants) (fs : List Wanted) (i : ℕ) (l : i < attributeCount w) where
   -- its cluster, and the version that this has now
   abbrev place : ℕ
   place = attributeRow w i .clusterIndex
@@ -49,23 +50,25 @@ module _ (w : List ℕ) (right : wellFormed w ≡ true) (v : Values) (defaults e
   abbrev version : ℕ
   version = getD (v .versions) place 0
 
-  skips-now : getD (viewOf w v defaults edits g fs .skips) place false ≡ skipsBy fs endpoint cluster version
+  skips-now : getD (viewOf w v defaults edits g (filterWords w fs) .skips) place false ≡ skipsBy fs endpoint cluster version
   unfolding skipsOf
-  skips-now = filled-at false (skipsAt w fs (v .versions)) clusterLimit (clusterCount w) place false (cluster-of w right i l)
+  skips-now =
+      ap (λ (s : List Bool). getD s place false) (judged-skips w fs (v .versions) fits)
+      ∙ filled-at false (skipsAt w fs (v .versions)) clusterLimit (clusterCount w) place false (cluster-of w right i l)
 
   -- one that may be read
   module _ (readable : eqb (attributeRow w i .read) 0 ≡ false) (granted : isGranted g place (attributeRow w i .read) ≡ true) where
-    judged-now : readItem w g (viewOf w v defaults edits g fs .skips) i ≡ pick (skipsBy fs endpoint cluster version) Nothing (Value i)
+    judged-now : readItem w g (viewOf w v defaults edits g (filterWords w fs) .skips) i ≡ pick (skipsBy fs endpoint cluster version) Nothing (Value i)
     unfolding readItem
     judged-now = rw (readable, granted, skips-now)
 
     -- THE VERSION MOVED AWAY from what a filter carries: the attribute is reported, even if that filter agreed when the request was taken
-    pub reported-now : (d : Wanted) (n : ℕ) → n < length fs → on endpoint cluster (getD fs n d) ≡ true → (getD fs n d .version ≡ version → ⊥) → readItem w g (viewOf w v defaults edits g fs .skips) i ≡ Value i
+    pub reported-now : (d : Wanted) (n : ℕ) → n < length fs → on endpoint cluster (getD fs n d) ≡ true → (getD fs n d .version ≡ version → ⊥) → readItem w g (viewOf w v defaults edits g (filterWords w fs) .skips) i ≡ Value i
     unfolding skipsBy
     reported-now d n h o k =
         judged-now ∙ rw (disagrees endpoint cluster version d fs n h o k, and-false (some endpoint cluster fs))
 
     -- THE VERSION MOVED to what all its filters carry: the attribute is skipped, even if none agreed when the request was taken
-    pub skipped-now : some endpoint cluster fs ≡ true → agree endpoint cluster version fs ≡ true → readItem w g (viewOf w v defaults edits g fs .skips) i ≡ Nothing
+    pub skipped-now : some endpoint cluster fs ≡ true → agree endpoint cluster version fs ≡ true → readItem w g (viewOf w v defaults edits g (filterWords w fs) .skips) i ≡ Nothing
     unfolding skipsBy
     skipped-now s a = judged-now ∙ rw (s, a)

@@ -9,7 +9,6 @@ use lib.Dec.{leb}
 use lib.ListN.{length, length-append}
 use Rattle.octets.specs.Store.{store, Stored}
 use Rattle.tlv.specs.Octet.{pick}
-use Rattle.interaction.specs.declared.Wanted.{Wanted}
 use Rattle.interaction_writer.specs.Spelling.{spelling, joined}
 use Rattle.interaction_writer.specs.Block.{blockTree}
 use Rattle.interaction_writer.specs.Message.{messageTree, reportMembers, reportOpening, reportClosing}
@@ -17,7 +16,7 @@ use Rattle.interaction_writer.proofs.MessageLaws.{report-stored, empty-stored}
 use Rattle.acl.specs.declared.Grants.{Grants}
 use Rattle.values.specs.declared.Values.{Values}
 use Rattle.selection.specs.declared.asked.Asked.{Asked}
-use Rattle.selection.specs.Filters.{skipsOf}
+use Rattle.selection.specs.Filters.{skipsNow}
 use Rattle.report.specs.declared.Place.{Place}
 use Rattle.report.specs.declared.Filled.{Filled}
 use Rattle.report.specs.Blocks.{Placed, viewOf, blocksFrom}
@@ -26,9 +25,9 @@ use Rattle.report.specs.Part.{partPayload, Filling, Made}
 use Rattle.report.proofs.OfferLaws.{some-octets}
 
 -- the skips worked out beforehand
-pub same-blocks : (w : List ℕ) (v : Values) (defaults edits : List ℕ) (g : Grants) (fs : List Wanted) (ps : List Asked) (from : Place) {skips : List Bool} → skips ≡ skipsOf w fs (v .versions) →
-    blocksFrom (viewOf w v defaults edits g fs) ps from ≡ blocksFrom (record { schema = w; values = v; defaults = defaults; edits = edits; grants = g; skips = skips }) ps from
-same-blocks w v defaults edits g fs ps from e =
+pub same-blocks : (w : List ℕ) (v : Values) (defaults edits : List ℕ) (g : Grants) (filters : List ℕ) (ps : List Asked) (from : Place) {skips : List Bool} → skips ≡ skipsNow w filters (v .versions) →
+    blocksFrom (viewOf w v defaults edits g filters) ps from ≡ blocksFrom (record { schema = w; values = v; defaults = defaults; edits = edits; grants = g; skips = skips }) ps from
+same-blocks w v defaults edits g filters ps from e =
     ap (λ (k : List Bool). blocksFrom (record { schema = w; values = v; defaults = defaults; edits = edits; grants = g; skips = k }) ps from) (sym e)
 
 -- what is taken has room

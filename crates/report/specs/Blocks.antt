@@ -7,7 +7,6 @@ use Prim.Native.Nat.{ℕ, zero, suc, _+_, _-_, _^_, _<_}
 use lib.ListN.{getD, drop}
 use Rattle.tlv.specs.Decode.{Opt}
 use Rattle.tlv.specs.Decode.Opt.{just, nothing}
-use Rattle.interaction.specs.declared.Wanted.{Wanted}
 use Rattle.interaction_writer.specs.Block.{Block}
 use Rattle.interaction_writer.specs.Meaning.{PathFits}
 use Rattle.schema.specs.Rules.{pathAt}
@@ -19,7 +18,7 @@ use Rattle.values.specs.Valid.{valuesRight}
 use Rattle.selection.specs.declared.asked.Asked.{Asked}
 use Rattle.selection.specs.declared.items.Item.{Item}
 use Rattle.selection.specs.declared.items.Item.the-variants as item
-use Rattle.selection.specs.Filters.{skipsOf}
+use Rattle.selection.specs.Filters.{skipsNow}
 use Rattle.selection.specs.Items.{span, itemAt}
 use Rattle.report.specs.declared.Place.{Place}
 
@@ -32,9 +31,10 @@ pub record View : Type 0 where
   pub grants : Grants
   pub skips : List Bool
 
-abbrev pub viewOf : List ℕ → Values → List ℕ → List ℕ → Grants → List Wanted → View
-viewOf w v defaults edits g fs =
-    record { schema = w; values = v; defaults = defaults; edits = edits; grants = g; skips = skipsOf w fs (v .versions) }
+-- with what the filters say of each cluster
+abbrev pub viewOf : List ℕ → Values → List ℕ → List ℕ → Grants → List ℕ → View
+viewOf w v defaults edits g filters =
+    record { schema = w; values = v; defaults = defaults; edits = edits; grants = g; skips = skipsNow w filters (v .versions) }
 
 -- a view that keeps the rules: a schema that is well-formed, values that keep theirs, versions of 32 bits
 pub record Sound (s : View) : Type 0 where
@@ -61,10 +61,6 @@ abbrev pub isNothing : Item → Bool
 isNothing (item.Value i) = false
 isNothing (item.Status code) = false
 isNothing item.Nothing = true
-
--- the values, of arrays that are lent
-abbrev pub valuesOf : List ℕ → List Bool → List Bool → List ℕ → Values
-valuesOf words nulls edited versions = record { words = words; nulls = nulls; edited = edited; versions = versions }
 
 -- the block at place i of a path
 abbrev pub blockAt : View → Asked → ℕ → Opt Block

@@ -2,10 +2,12 @@
 ghost use mathlib.Core.Path.{_≡_};
 ghost use mathlib.Core.Bool.{true};
 ghost use Prim.Native.Nat.{ℕ, _+_, _≤_};
-ghost use lib.ListN.{length, take};
+ghost use lib.ListN.{length};
 ghost use Rattle.schema.specs.Check.{wellFormed};
-ghost use Rattle.interaction.specs.Read.{maxPaths, maxFilters};
-ghost use Rattle.report.specs.Blocks.{isNothing, valuesOf, viewOf, blocksFrom, View};
+ghost use Rattle.interaction.specs.Read.{maxPaths};
+ghost use Rattle.values.specs.Values.{valuesOf};
+ghost use Rattle.selection.specs.Request.{filtersIn, askedPaths};
+ghost use Rattle.report.specs.Blocks.{isNothing, viewOf, blocksFrom, View};
 ghost use Rattle.report.specs.Chunk.{blockRoom, maxPayload};
 ghost use Rattle.report.specs.Part.{Filling, Made};
 use super::BLOCK_ROOM;
@@ -13,28 +15,25 @@ use super::Filled;
 use super::Place;
 use super::block::offer_item;
 use acl::Grants;
-use interaction::MAX_FILTERS;
-use interaction::MAX_PATHS;
-use interaction::Wanted;
 use interaction_writer::report::put_report_close;
 use interaction_writer::report::put_report_empty;
 use interaction_writer::report::put_report_open;
 use schema::ATTRIBUTES;
 use schema::CLUSTERS;
 use schema::WORDS;
-use selection::asked::Asked;
 use selection::filters::skipped;
 use selection::items::Item;
 use selection::items::item_at;
 use selection::items::span_of;
-use values::Values;
+use selection::request::FILTERS_AT;
+use selection::request::ROW_WORDS;
+use selection::request::asked_at;
 
-// The paths and filters of a read.
+// What an exchange keeps of a read while it is answered: its paths, and what its filters say of each cluster. It is lent as words of the exchange's row.
 pub struct Request {
-    pub paths: [Asked; MAX_PATHS],
+    pub paths: [u64; FILTERS_AT],
     pub asked: usize,
-    pub filters: [Wanted; MAX_FILTERS],
-    pub filtered: usize,
+    pub filters: [u64; CLUSTERS],
 }
 
 fn is_nothing(x: Item) -> bool
@@ -58,14 +57,14 @@ fn fill<'a>(
     edits: &'a [u8],
     g: Grants,
     skips: [bool; CLUSTERS],
-    paths: [Asked; MAX_PATHS],
+    row: &'a [u64; ROW_WORDS],
     asked: usize,
     from: Place,
     out: &mut [u8],
     start: usize,
 ) -> Filled
     requires { ⌜ (wellFormed (now w) ≡ true) × ((asked ≤ maxPaths) × (start + blockRoom ≤ length (now out))) ⌝ }
-    ensures { λ r. ⌜ Filling (now (out .entry)) start blockRoom from (blocksFrom (record { schema = now (w .entry); values = valuesOf (now (words .entry)) (now (nulls .entry)) (now (edited .entry)) (now (versions .entry)); defaults = now (defaults .entry); edits = now (edits .entry); grants = g; skips = skips }) (take asked paths) from) (now (out .exit)) r ⌝ }
+    ensures { λ r. ⌜ Filling (now (out .entry)) start blockRoom from (blocksFrom (record { schema = now (w .entry); values = valuesOf (now (words .entry)) (now (nulls .entry)) (now (edited .entry)) (now (versions .entry)); defaults = now (defaults .entry); edits = now (edits .entry); grants = g; skips = skips }) (askedPaths (now (row .entry)) asked) from) (now (out .exit)) r ⌝ }
 {
     let mut place = from;
     let mut path = from.path;
@@ -73,7 +72,7 @@ fn fill<'a>(
     let mut end = start;
     let mut room = BLOCK_ROOM;
     while path < asked {
-        let p = paths[path];
+        let p = asked_at(row, path);
         if span_of(w, p) <= i {
             path += 1;
             i = 0;
@@ -120,36 +119,36 @@ fn fill<'a>(
 // One part from `start` of the buffer on: where it ends, where the read goes on, and whether more is promised.
 pub fn make_part<'a>(
     w: &'a [u64; WORDS],
-    v: Values,
+    words: &'a [u64; ATTRIBUTES],
+    nulls: &'a [bool; ATTRIBUTES],
+    edited: &'a [bool; ATTRIBUTES],
+    versions: &'a [u32; CLUSTERS],
     defaults: &'a [u8],
     edits: &'a [u8],
     g: Grants,
-    request: Request,
+    row: &'a [u64; ROW_WORDS],
+    asked: usize,
     from: Place,
     out: &mut [u8],
     start: usize,
 ) -> Filled
-    requires { ⌜ (wellFormed (now w) ≡ true) × ((request .asked ≤ maxPaths) × ((request .filtered ≤ maxFilters) × (start + maxPayload ≤ length (now out)))) ⌝ }
-    ensures { λ r. ⌜ Made (now (out .entry)) start from (blocksFrom (viewOf (now (w .entry)) v (now (defaults .entry)) (now (edits .entry)) g (take (request .filtered) (request .filters))) (take (request .asked) (request .paths)) from) (now (out .exit)) r ⌝ }
+    requires { ⌜ (wellFormed (now w) ≡ true) × ((asked ≤ maxPaths) × (start + maxPayload ≤ length (now out))) ⌝ }
+    ensures { λ r. ⌜ Made (now (out .entry)) start from (blocksFrom (viewOf (now (w .entry)) (valuesOf (now (words .entry)) (now (nulls .entry)) (now (edited .entry)) (now (versions .entry))) (now (defaults .entry)) (now (edits .entry)) g (filtersIn (now (row .entry)))) (askedPaths (now (row .entry)) asked) from) (now (out .exit)) r ⌝ }
 {
-    let held = v;
-    let filters = request.filters;
-    let paths = request.paths;
-    let versions = held.versions;
-    let skips = skipped(w, filters, request.filtered, versions);
+    let skips = skipped(w, row, versions);
     let p = put_report_open(out, start);
     let f = fill(
         w,
-        &held.words,
-        &held.nulls,
-        &held.edited,
-        &held.versions,
+        words,
+        nulls,
+        edited,
+        versions,
         defaults,
         edits,
         g,
         skips,
-        paths,
-        request.asked,
+        row,
+        asked,
         from,
         out,
         p,

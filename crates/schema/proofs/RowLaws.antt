@@ -54,9 +54,15 @@ module _ {A : Type 0} (f : ℕ → A) where
   rising-all R (suc n) k h =
       (each-all (R (f k)) n (suc k) (λ j l u. h k j (omega arith) (omega arith) (omega arith)), rising-all R n (suc k) (λ i j l m u. h i j (omega arith) m (omega arith)))
 
+-- rows that agree are equal
+pub rows-same : {A : Type 0} (f g : ℕ → A) (n k : ℕ) → ((i : ℕ) → k ≤ i → i < n + k → f i ≡ g i) → rowsFrom f n k ≡ rowsFrom g n k
+unfolding rowsFrom
+rows-same f g zero k h = refl
+rows-same f g (suc n) k h = λ j. h k (omega arith) (omega arith) j ∷ rows-same f g n (suc k) (λ i l u. h i (omega arith) (omega arith)) j
+
 -- ---- places filled one by one, by f, the rest with z
 module _ {A : Type 0} (z : A) (f : ℕ → A) where
-  rows-snoc : (i k : ℕ) → rowsFrom f (suc i) k ≡ rowsFrom f i k ++ (f (i + k) ∷ [])
+  pub rows-snoc : (i k : ℕ) → rowsFrom f (suc i) k ≡ rowsFrom f i k ++ (f (i + k) ∷ [])
   unfolding rowsFrom
   rows-snoc zero k = ap (λ (j : ℕ). f j ∷ []) (omega arith)
   rows-snoc (suc i) k =

@@ -1,12 +1,15 @@
 // Lines for the sign: a message handed to it, the panel's newest message forwarded, a local change. No input and no output.
 use envelope::MAX_MESSAGE;
 use kinds::stored::same_bytes;
+use schema::ATTRIBUTES;
+use schema::CLUSTERS;
 use schema::WORDS;
 use schema::subject_served;
 use schema::texts::edits_size;
 use script::Scan;
 use script::hex::SPELLED;
 use script::number::read_number;
+use script::path::Path;
 use script::path::read_path;
 use script::sizes::clip;
 use script::value::read_value;
@@ -18,29 +21,88 @@ use script_answer::message::newest;
 use script_answer::message::spelled;
 use script_setup::PAGE;
 use script_setup::access::Table;
+use selection::request::ROW_WORDS;
 use server::Outcome;
-use server::State;
 use server::receive::receive_in;
+use tlv::Value;
 
-// What the sign answered, or what is wrong with the line.
-pub struct Replied {
+// What a sign is lent, kept by value between the lines of a script.
+pub struct Sign {
+    pub words: [u64; ATTRIBUTES],
+    pub nulls: [bool; ATTRIBUTES],
+    pub edited: [bool; ATTRIBUTES],
+    pub versions: [u32; CLUSTERS],
+    pub row: [u64; ROW_WORDS],
+    pub kept: [u8; MAX_MESSAGE],
+}
+
+// The sign after a line, and what it answered.
+pub struct Answered {
+    pub sign: Sign,
     pub outcome: Outcome,
+}
+
+// That, or what is wrong with the line.
+pub struct Replied {
+    pub answered: Answered,
     pub fault: u8,
 }
 
-fn unplayed(state: State, fault: u8) -> Replied {
+// Before any sign is started.
+pub fn no_sign() -> Sign {
+    Sign {
+        words: [0u64; ATTRIBUTES],
+        nulls: [false; ATTRIBUTES],
+        edited: [false; ATTRIBUTES],
+        versions: [0u32; CLUSTERS],
+        row: [0u64; ROW_WORDS],
+        kept: [0u8; MAX_MESSAGE],
+    }
+}
+
+// A sign started.
+pub fn start<'a>(w: &'a [u64; WORDS], defaults: &'a [u8; PAGE], sign: Sign) -> Answered {
+    let mut words = sign.words;
+    let mut nulls = sign.nulls;
+    let mut edited = sign.edited;
+    let mut versions = sign.versions;
+    let mut row = sign.row;
+    let mut kept = sign.kept;
+    let number = server::start::start(
+        w,
+        defaults,
+        &mut words,
+        &mut nulls,
+        &mut edited,
+        &mut versions,
+        &mut row,
+        &mut kept,
+    );
+    Answered {
+        sign: Sign {
+            words,
+            nulls,
+            edited,
+            versions,
+            row,
+            kept,
+        },
+        outcome: Outcome { number, len: 0 },
+    }
+}
+
+fn unplayed(sign: Sign, fault: u8) -> Replied {
     Replied {
-        outcome: Outcome {
-            state,
-            number: 0,
-            len: 0,
+        answered: Answered {
+            sign,
+            outcome: Outcome { number: 0, len: 0 },
         },
         fault,
     }
 }
 
-fn played(outcome: Outcome) -> Replied {
-    Replied { outcome, fault: 0 }
+fn played(answered: Answered) -> Replied {
+    Replied { answered, fault: 0 }
 }
 
 // A message, and the subject that it comes from.
@@ -67,48 +129,70 @@ fn handed(name: &[u8], line: &[u8], s: Scan, sent: Message, served: u64) -> From
 // The one place where the sign is handed a message, with the access table. A buffer longer than ours is lent as ours: from 1,032 bytes on, its length makes
 // no difference to any answer.
 fn hand<'a>(
-    words: &'a [u64; WORDS],
+    w: &'a [u64; WORDS],
     defaults: &'a [u8],
     edits: &mut [u8],
-    sign: State,
+    sign: Sign,
     table: Table,
     subject: u64,
     message: &'a [u8],
     out: &mut [u8],
     room: usize,
-) -> Outcome {
+) -> Answered {
     let n = clip(room, out);
     let entries = table.entries;
-    receive_in(
-        words,
+    let mut words = sign.words;
+    let mut nulls = sign.nulls;
+    let mut edited = sign.edited;
+    let mut versions = sign.versions;
+    let mut row = sign.row;
+    let mut kept = sign.kept;
+    let outcome = receive_in(
+        w,
         defaults,
         edits,
-        sign,
+        &mut words,
+        &mut nulls,
+        &mut edited,
+        &mut versions,
+        &mut row,
+        &mut kept,
         entries,
         table.count,
         subject,
         message,
         &mut out[..n],
-    )
+    );
+    Answered {
+        sign: Sign {
+            words,
+            nulls,
+            edited,
+            versions,
+            row,
+            kept,
+        },
+        outcome,
+    }
 }
 
 // The same with the whole page of edits, of which the sign's texts take the first part.
 fn hand_message<'a>(
-    words: &'a [u64; WORDS],
+    w: &'a [u64; WORDS],
     defaults: &'a [u8],
     edits: &mut [u8],
-    sign: State,
+    sign: Sign,
     table: Table,
     subject: u64,
     m: Message,
     out: &mut [u8],
     room: usize,
-) -> Outcome {
-    let size = clip(edits_size(words), edits);
+) -> Answered {
+    let size = clip(edits_size(w), edits);
     let bytes = m.bytes;
     let n = clip(m.len, &bytes);
     hand(
-        words,
+        w,
         defaults,
         &mut edits[..size],
         sign,
@@ -120,12 +204,56 @@ fn hand_message<'a>(
     )
 }
 
+// The sign's own change of an attribute.
+fn alter<'a>(
+    w: &'a [u64; WORDS],
+    defaults: &'a [u8],
+    edits: &mut [u8],
+    sign: Sign,
+    a: Path,
+    new: Value,
+    bytes: &'a [u8],
+) -> Answered {
+    let mut words = sign.words;
+    let mut nulls = sign.nulls;
+    let mut edited = sign.edited;
+    let mut versions = sign.versions;
+    let row = sign.row;
+    let kept = sign.kept;
+    let number = server::start::change(
+        w,
+        defaults,
+        edits,
+        &mut words,
+        &mut nulls,
+        &mut edited,
+        &mut versions,
+        &row,
+        a.endpoint,
+        a.cluster,
+        a.attribute,
+        new,
+        bytes,
+    );
+    Answered {
+        sign: Sign {
+            words,
+            nulls,
+            edited,
+            versions,
+            row,
+            kept,
+        },
+        outcome: Outcome { number, len: 0 },
+    }
+}
+
 // A local change: the wire code, or 2.
 fn change_line<'a>(
     line: &[u8],
     s: Scan,
-    sign: State,
-    words: &'a [u64; WORDS],
+    sign: Sign,
+    w: &'a [u64; WORDS],
     defaults: &'a [u8; PAGE],
     edits: &mut [u8],
 ) -> Replied {
@@ -136,24 +264,8 @@ fn change_line<'a>(
         return unplayed(sign, UNREADABLE);
     }
     let new = v.value;
-    let size = clip(edits_size(words), edits);
-    let done = server::start::change(
-        words,
-        defaults,
-        &mut edits[..size],
-        sign,
-        a.endpoint,
-        a.cluster,
-        a.attribute,
-        new,
-        &bytes,
-    );
-    let state = done.state;
-    played(Outcome {
-        state,
-        number: done.number,
-        len: 0,
-    })
+    let size = clip(edits_size(w), edits);
+    played(alter(w, defaults, &mut edits[..size], sign, a, new, &bytes))
 }
 
 // Whether a line is for the sign.
@@ -171,7 +283,7 @@ pub fn sign_line<'a>(
     name: &[u8],
     line: &[u8],
     s: Scan,
-    sign: State,
+    sign: Sign,
     table: Table,
     sent: Message,
     words: &'a [u64; WORDS],

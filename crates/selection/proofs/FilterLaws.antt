@@ -1,62 +1,101 @@
--- Filters walked by index: what is still to come decides as the whole list does.
+-- Filters judged once, to one word for each cluster: a part skips a cluster exactly if the list of filters says so at the version that it has then.
 use mathlib.Core.Path.{_≡_, refl, sym, ap, _∙_}
 use mathlib.Core.Bool.{Bool, true, false, not, _&&_, _||_}
-use mathlib.Core.List.{List, [], _∷_}
-use Prim.Native.Nat.{ℕ, suc, _+_, _≤_, _<_}
+use mathlib.Core.List.{List, [], _∷_, _++_}
+use Prim.Native.Nat.{ℕ, zero, suc, _+_, _-_, _^_, _≤_, _<_}
 use native.Mathlib.Numerals.{add-one}
 use native.Mathlib.Omega.{arith}
-use borrow.Author.Tests.{eq-eqb, ne-eqb}
-use lib.Dec.{eqb}
-use lib.ListN.{length, getD, set, take, drop, length-take, drop-of-length-le}
-use lib.Seq.{drop-cons, getD-take}
+use borrow.Author.Tests.{eq-eqb, ne-eqb, eqb-true, eqb-false, lt-ltb, le-ltb, ltb-true, ltb-false}
+use lib.Dec.{eqb, ltb}
+use lib.ListN.{length, getD, set, take, drop, length-take, drop-of-length-le, replicate}
+use lib.Seq.{drop-cons, getD-take, getD-drop}
+use Rattle.octets.specs.Store.{store}
+use Rattle.octets.proofs.StoreLaws.{store-store}
+use Rattle.tlv.specs.Octet.{pick}
 use Rattle.schema.specs.Layout.{clusterLimit}
-use Rattle.schema.specs.Rows.{clusterRow, clusterCount, filled}
-use Rattle.schema.proofs.RowLaws.{fill-step}
+use Rattle.schema.specs.Rows.{clusterRow, clusterCount, filled, rowsFrom}
+use Rattle.schema.proofs.BoolLaws.{by-test}
+use Rattle.schema.proofs.RowLaws.{rows-get, rows-same, fill-step}
 use Rattle.interaction.specs.declared.Wanted.{Wanted}
-use Rattle.selection.specs.Filters.{on, some, agree, skipsBy, skipsAt}
+use Rattle.selection.specs.Request.{filtersAt, filtersIn}
+use Rattle.selection.specs.Filters.{on, some, agree, skipsBy, skipsAt, skipsOf, unfiltered, disagreeing, joined, wordAfter, filterWord, filterWords, skipsNow}
 
-or-true : (b : Bool) → (b || true) ≡ true
-or-true true = refl
-or-true false = refl
+-- ---- one word
 
-and-false : (b : Bool) → (b && false) ≡ false
-and-false true = refl
-and-false false = refl
+join-first : (v : ℕ) → v < 2 ^ 32 → joined unfiltered v ≡ v
+unfolding joined
+join-first v l = rw (lt-ltb v unfiltered l)
 
-or-false : (b : Bool) → (b || false) ≡ b
-or-false true = refl
-or-false false = refl
+join-past : (word v : ℕ) → 2 ^ 32 ≤ v → joined word v ≡ disagreeing
+unfolding joined
+join-past word v l = rw (le-ltb v unfiltered l)
 
-and-true : (b : Bool) → (b && true) ≡ b
-and-true true = refl
-and-true false = refl
+join-same : (word : ℕ) → word < 2 ^ 32 → joined word word ≡ word
+unfolding joined
+join-same word l = rw (lt-ltb word unfiltered l, ne-eqb word unfiltered (λ e. omega (arith, e)), eq-eqb word word refl)
 
-module _ (e c v : ℕ) where
-  -- with a filter for the cluster seen or not, what the rest of them says
-  abbrev pub going : Bool → List Wanted → Bool
-  going seen fs = (seen || some e c fs) && agree e c v fs
+join-other : (word v : ℕ) → word < 2 ^ 32 → v < 2 ^ 32 → (word ≡ v → ⊥) → joined word v ≡ disagreeing
+unfolding joined
+join-other word v l m n = rw (lt-ltb v unfiltered m, ne-eqb word unfiltered (λ e. omega (arith, e)), ne-eqb word v n)
 
-  pub going-begin : (fs : List Wanted) → skipsBy fs e c v ≡ going false fs
-  unfolding skipsBy
-  going-begin fs = refl
+join-stays : (v : ℕ) → joined disagreeing v ≡ disagreeing
+unfolding joined
+join-stays v = by-test (ltb v unfiltered) (λ t. rw (t, ne-eqb disagreeing v (λ e. omega (arith, e, ltb-true v unfiltered t)))) (λ t. rw t)
 
-  hit : (seen : Bool) (f : Wanted) (fs : List Wanted) → on e c f ≡ true → eqb (f .version) v ≡ true → going seen (f ∷ fs) ≡ going true fs
-  unfolding some agree
-  hit seen f fs h k = rw (h, k, or-true seen) refl
+module _ (e c : ℕ) where
+  -- a filter for the cluster joins, another passes
+  joins : (word : ℕ) (f : Wanted) (fs : List Wanted) → on e c f ≡ true → wordAfter e c word (f ∷ fs) ≡ wordAfter e c (joined word (f .version)) fs
+  unfolding wordAfter
+  joins word f fs t = ap (λ (b : Bool). wordAfter e c (pick b (joined word (f .version)) word) fs) t
 
-  miss : (seen : Bool) (f : Wanted) (fs : List Wanted) → on e c f ≡ true → eqb (f .version) v ≡ false → going seen (f ∷ fs) ≡ false
-  unfolding some agree
-  miss seen f fs h k = rw (h, k, or-true seen) refl
+  passes : (word : ℕ) (f : Wanted) (fs : List Wanted) → on e c f ≡ false → wordAfter e c word (f ∷ fs) ≡ wordAfter e c word fs
+  unfolding wordAfter
+  passes word f fs t = ap (λ (b : Bool). wordAfter e c (pick b (joined word (f .version)) word) fs) t
 
-  past : (seen : Bool) (f : Wanted) (fs : List Wanted) → on e c f ≡ false → going seen (f ∷ fs) ≡ going seen fs
-  unfolding some agree
-  past seen f fs h = rw h refl
+  apart : (fs : List Wanted) → wordAfter e c disagreeing fs ≡ disagreeing
+  unfolding wordAfter
+  apart [] = refl
+  apart (f ∷ fs) = by-test (on e c f) (λ t. rw (t, join-stays (f .version)) (apart fs)) (λ t. rw t (apart fs))
 
-  pub going-done : (seen : Bool) → going seen [] ≡ seen
-  unfolding some agree
-  going-done seen = and-true (seen || false) ∙ or-false seen
+  module _ (v : ℕ) (fits : v < 2 ^ 32) where
+    never : (fs : List Wanted) → eqb (wordAfter e c disagreeing fs) v ≡ false
+    never fs = rw (apart fs) (ne-eqb disagreeing v (λ x. omega (arith, x)))
 
-  -- the first n of the filters, by index
+    -- some filter was for the cluster, and all of them carried this version
+    one-version : (word : ℕ) → word < 2 ^ 32 → (fs : List Wanted) → eqb (wordAfter e c word fs) v ≡ (eqb word v && agree e c v fs)
+    unfolding wordAfter agree
+    one-version word l [] = by-test (eqb word v) (λ t. rw t) (λ t. rw t)
+    one-version word l (f ∷ fs) =
+        by-test (on e c f)
+        (λ t. by-test (ltb (f .version) (2 ^ 32))
+        (λ u. by-test (eqb word (f .version))
+        (λ s. let k : f .version ≡ word = sym (eqb-true _ _ s) in
+        rw (t, k, join-same word l) (one-version word l fs ∙ by-test (eqb word v) (λ r. rw r) (λ r. rw r)))
+        (λ s. rw (t, join-other word (f .version) l (ltb-true _ _ u) (eqb-false _ _ s)) (never fs ∙ both-not (eqb-false _ _ s))))
+        (λ u. rw (t, join-past word (f .version) (ltb-false _ _ u)) (never fs ∙ not-this (ltb-false _ _ u))))
+        (λ t. rw t (one-version word l fs))
+      where
+        both-not : (word ≡ f .version → ⊥) → false ≡ (eqb word v && (eqb (f .version) v && agree e c v fs))
+        both-not n = by-test (eqb word v) (λ r. rw (r, ne-eqb (f .version) v (λ q. n (eqb-true _ _ r ∙ sym q)))) (λ r. rw r)
+
+        not-this : 2 ^ 32 ≤ f .version → false ≡ (eqb word v && (eqb (f .version) v && agree e c v fs))
+        not-this m = by-test (eqb word v) (λ r. rw (r, ne-eqb (f .version) v (λ q. omega (arith, q)))) (λ r. rw r)
+
+    -- LAW: a cluster's word is its version exactly if the list of filters skips it
+    pub word-skips : (fs : List Wanted) → eqb (wordAfter e c unfiltered fs) v ≡ skipsBy fs e c v
+    unfolding skipsBy wordAfter some agree
+    word-skips [] = ne-eqb unfiltered v (λ x. omega (arith, x))
+    word-skips (f ∷ fs) =
+        by-test (on e c f)
+        (λ t. by-test (ltb (f .version) (2 ^ 32))
+        (λ u. rw (t, join-first (f .version) (ltb-true _ _ u)) (one-version (f .version) (ltb-true _ _ u) fs))
+        (λ u. let m : 2 ^ 32 ≤ f .version = ltb-false (f .version) (2 ^ 32) u in
+        let n : eqb (f .version) v ≡ false = ne-eqb (f .version) v (λ q. omega (arith, q, m)) in
+        rw (t, join-past unfiltered (f .version) m, n) (never fs)))
+        (λ t. rw t (word-skips fs))
+
+  -- ---- the loop over the first n filters
+
   module _ (fs : List Wanted) (n : ℕ) (whole : n ≤ length fs) where
     len : length (take n fs) ≡ n
     len = length-take n fs ∙ omega arith
@@ -67,26 +106,38 @@ module _ (e c v : ℕ) where
         ∙ ap (λ (f : Wanted). f ∷ drop (suc i) (take n fs)) (getD-take n fs i d l)
         ∙ ap (λ (k : ℕ). getD fs i d ∷ drop k (take n fs)) (sym (add-one i))
 
-    module _ (i : ℕ) (d : Wanted) (seen : Bool) (l : i < n) (so-far : skipsBy (take n fs) e c v ≡ going seen (drop i (take n fs))) where
-      at-here : skipsBy (take n fs) e c v ≡ going seen (getD fs i d ∷ drop (i + 1) (take n fs))
-      at-here = so-far ∙ ap (going seen) (here i d l)
+    module _ (i : ℕ) (d : Wanted) (word : ℕ) (l : i < n) (so-far : wordAfter e c unfiltered (take n fs) ≡ wordAfter e c word (drop i (take n fs))) where
+      pub word-joins : (next : ℕ) → on e c (getD fs i d) ≡ true → next ≡ joined word (getD fs i d .version) → wordAfter e c unfiltered (take n fs) ≡ wordAfter e c next (drop (i + 1) (take n fs))
+      word-joins next h k =
+          so-far ∙ ap (wordAfter e c word) (here i d l) ∙ joins word (getD fs i d) (drop (i + 1) (take n fs)) h ∙ ap (λ (x : ℕ). wordAfter e c x (drop (i + 1) (take n fs))) (sym k)
 
-      pub filter-agrees : on e c (getD fs i d) ≡ true → getD fs i d .version ≡ v → skipsBy (take n fs) e c v ≡ going true (drop (i + 1) (take n fs))
-      filter-agrees h k = at-here ∙ hit seen (getD fs i d) (drop (i + 1) (take n fs)) h (eq-eqb _ _ k)
+      pub word-goes : on e c (getD fs i d) ≡ false → wordAfter e c unfiltered (take n fs) ≡ wordAfter e c word (drop (i + 1) (take n fs))
+      word-goes h = so-far ∙ ap (wordAfter e c word) (here i d l) ∙ passes word (getD fs i d) (drop (i + 1) (take n fs)) h
 
-      pub filter-differs : on e c (getD fs i d) ≡ true → (getD fs i d .version ≡ v → ⊥) → false ≡ skipsBy (take n fs) e c v
-      filter-differs h k = sym (at-here ∙ miss seen (getD fs i d) (drop (i + 1) (take n fs)) h (ne-eqb _ _ k))
+    pub word-done : (i word : ℕ) → n ≤ i → wordAfter e c unfiltered (take n fs) ≡ wordAfter e c word (drop i (take n fs)) → word ≡ wordAfter e c unfiltered (take n fs)
+    unfolding wordAfter
+    word-done i word l so-far = sym (so-far ∙ ap (wordAfter e c word) (drop-of-length-le (take n fs) {i = i} (omega (arith, len))))
 
-      pub filter-elsewhere : on e c (getD fs i d) ≡ false → skipsBy (take n fs) e c v ≡ going seen (drop (i + 1) (take n fs))
-      filter-elsewhere h = at-here ∙ past seen (getD fs i d) (drop (i + 1) (take n fs)) h
+-- ---- every cluster
 
-    pub filters-done : (i : ℕ) (seen : Bool) → n ≤ i → skipsBy (take n fs) e c v ≡ going seen (drop i (take n fs)) → seen ≡ skipsBy (take n fs) e c v
-    filters-done i seen l so-far = sym (so-far ∙ ap (going seen) (drop-of-length-le (take n fs) {i = i} (omega (arith, len))) ∙ going-done seen)
+-- a part skips cluster k
+abbrev pub skipAt : List ℕ → List ℕ → ℕ → Bool
+skipAt row versions k = eqb (getD (filtersIn row) k 0) (getD versions k 0)
 
 -- one turn of the loop over the clusters
-pub skips-step : (w : List ℕ) (fs : List Wanted) (versions : List ℕ) (l : List Bool) (k : ℕ) (b : Bool) (e c : ℕ) → k < clusterCount w → l ≡ filled false (skipsAt w fs versions) clusterLimit k → e ≡ clusterRow w k .endpoint → c ≡ clusterRow w k .cluster → b ≡ skipsBy fs e c (getD versions k 0) → set l k b ≡ filled false (skipsAt w fs versions) clusterLimit (k + 1)
-skips-step w fs versions l k b e c h p q r s =
-    let u : b ≡ skipsAt w fs versions k = s ∙ (λ j. skipsBy fs (q j) (r j) (getD versions k 0)) in
-    ap (λ (x : List Bool). set x k b) p
-    ∙ ap (set (filled false (skipsAt w fs versions) clusterLimit k) k) u
-    ∙ fill-step false (skipsAt w fs versions) clusterLimit k (omega arith)
+pub skips-step : (row versions : List ℕ) (l : List Bool) (k : ℕ) → l ≡ filled false (skipAt row versions) clusterLimit k → k < clusterLimit → (x y : ℕ) → x ≡ getD row (filtersAt + k) 0 → y ≡ getD versions k 0 → set l k (eqb x y) ≡ filled false (skipAt row versions) clusterLimit (k + 1)
+skips-step row versions l k p h x y q r =
+    let u : eqb x y ≡ skipAt row versions k = λ j. eqb ((q ∙ sym (getD-drop filtersAt row k 0) ∙ sym (getD-take clusterLimit (drop filtersAt row) k 0 h)) j) (r j) in
+    (λ j. set (p j) k (u j)) ∙ fill-step false (skipAt row versions) clusterLimit k h
+
+-- LAW: skipped exactly as document 01 says of the list of filters
+pub judged-skips : (w : List ℕ) (fs : List Wanted) (versions : List ℕ) → ((k : ℕ) → getD versions k 0 < 2 ^ 32) → skipsNow w (filterWords w fs) versions ≡ skipsOf w fs versions
+unfolding skipsNow skipsOf filterWords
+judged-skips w fs versions fits =
+    ap (λ (l : List Bool). l ++ replicate (clusterLimit - clusterCount w) false) (rows-same _ (skipsAt w fs versions) (clusterCount w) 0 at)
+  where
+    at : (k : ℕ) → 0 ≤ k → k < clusterCount w + 0 → eqb (getD (rowsFrom (filterWord w fs) clusterLimit 0) k 0) (getD versions k 0) ≡ skipsAt w fs versions k
+    at k l u =
+        let e : k + 0 ≡ k = omega arith in
+        rw (rows-get (filterWord w fs) clusterLimit 0 k 0 (omega arith), e, lt-ltb k (clusterCount w) (omega arith))
+        (word-skips (clusterRow w k .endpoint) (clusterRow w k .cluster) (getD versions k 0) (fits k) fs)

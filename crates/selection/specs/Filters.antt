@@ -1,11 +1,12 @@
 -- Filters (document 01, What the sign answers): "if filters match the cluster and all of them carry its version, the attribute is skipped".
 use mathlib.Core.Bool.{Bool, true, false, not, _&&_, _||_}
 use mathlib.Core.List.{List, [], _∷_}
-use Prim.Native.Nat.{ℕ}
-use lib.Dec.{eqb}
+use Prim.Native.Nat.{ℕ, _+_, _^_}
+use lib.Dec.{eqb, ltb}
 use lib.ListN.{getD}
+use Rattle.tlv.specs.Octet.{pick}
 use Rattle.schema.specs.Layout.{clusterLimit}
-use Rattle.schema.specs.Rows.{clusterRow, clusterCount, filled}
+use Rattle.schema.specs.Rows.{clusterRow, clusterCount, filled, rowsFrom}
 use Rattle.interaction.specs.declared.Wanted.{Wanted}
 
 -- the filter is for this cluster on this endpoint
@@ -31,3 +32,30 @@ skipsAt w fs versions k = skipsBy fs (clusterRow w k .endpoint) (clusterRow w k 
 
 unfoldable pub skipsOf : List ℕ → List Wanted → List ℕ → List Bool
 skipsOf w fs versions = filled false (skipsAt w fs versions) clusterLimit (clusterCount w)
+
+-- FILTERS JUDGED ONCE, at the request, to one word for each cluster: no filter is for it, or they disagree, or the one version that all of them carry
+abbrev pub unfiltered : ℕ
+unfiltered = 2 ^ 32
+
+abbrev pub disagreeing : ℕ
+disagreeing = 2 ^ 32 + 1
+
+-- a cluster's word with one filter more, which carries this version
+unfoldable pub joined : ℕ → ℕ → ℕ
+joined word version =
+    pick (ltb version unfiltered) (pick (eqb word unfiltered) version (pick (eqb word version) word disagreeing)) disagreeing
+
+-- a cluster's word after a list of filters
+unfoldable pub wordAfter : ℕ → ℕ → ℕ → List Wanted → ℕ
+wordAfter e c word [] = word
+wordAfter e c word (f ∷ fs) = wordAfter e c (pick (on e c f) (joined word (f .version)) word) fs
+
+abbrev pub filterWord : List ℕ → List Wanted → ℕ → ℕ
+filterWord w fs k = pick (ltb k (clusterCount w)) (wordAfter (clusterRow w k .endpoint) (clusterRow w k .cluster) unfiltered fs) unfiltered
+
+unfoldable pub filterWords : List ℕ → List Wanted → List ℕ
+filterWords w fs = rowsFrom (filterWord w fs) clusterLimit 0
+
+-- a part skips a cluster whose word is the version that the cluster has then
+unfoldable pub skipsNow : List ℕ → List ℕ → List ℕ → List Bool
+skipsNow w words versions = filled false (λ k. eqb (getD words k 0) (getD versions k 0)) clusterLimit (clusterCount w)

@@ -3,3 +3,4 @@ pub mod Locate
 pub mod Asked
 pub mod Filters
 pub mod Items
+pub mod Request

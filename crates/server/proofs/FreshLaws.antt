@@ -15,7 +15,7 @@ use Rattle.node.specs.Rules.{SchemaRules}
 use Rattle.node.proofs.RulesLaws.{check-done}
 use Rattle.values.specs.Fresh.{freshValues}
 use Rattle.values.proofs.FreshLaws.{fresh-right, fresh-whole}
-use Rattle.replies.specs.Row.{rowRight}
+use Rattle.replies.specs.Row.{rowRight, standingIn}
 use Rattle.replies.proofs.RowLaws.{right-row}
 use Rattle.server.specs.declared.State.{State}
 use Rattle.server.specs.Start.{freshRow, started}
@@ -24,10 +24,10 @@ use Rattle.server.proofs.StartLaws.{accepted-schema}
 use Rattle.server.proofs.KeptLaws.{ValidSign}
 
 pub fresh-row-right : rowRight freshRow ≡ true
-unfolding freshRow
+unfolding freshRow standingIn
 fresh-row-right =
     right-row freshRow
-    (record { exchange = omega arith; asked = omega arith; filtered = omega arith; path = omega arith; index = omega arith; len = omega arith })
+    (record { exchange = omega arith; turn = omega arith; next = omega arith; closed = omega arith; asked = omega arith; path = omega arith; index = omega arith; len = omega arith })
 
 module _ (w defaults : List ℕ) (h : accepted w defaults ≡ true) where
   fresh-state : started w defaults .state ≡ record { values = freshValues w; row = freshRow }

@@ -1,8 +1,9 @@
 -- A VALID SIGN STAYS VALID: a local change and a received message, whatever they are, leave a sign that keeps the rules.
-use mathlib.Core.Path.{_≡_, subst, sym}
+use mathlib.Core.Path.{_≡_, refl, subst, sym}
 use mathlib.Core.Bool.{Bool, true}
 use mathlib.Core.List.{List}
 use Prim.Native.Nat.{ℕ, _^_, _<_}
+use native.Mathlib.Omega.{arith}
 use lib.Dec.{eqb}
 use Rattle.tlv.specs.declared.Value.{Value}
 use Rattle.tlv.proofs.Picks.{pick-elim}
@@ -15,7 +16,7 @@ use Rattle.acl.specs.declared.Grants.{Grants}
 use Rattle.values.proofs.ValidLaws.{Whole}
 use Rattle.exchange.specs.declared.Step.{Step}
 use Rattle.exchange.specs.declared.Step.the-variants.{Silence, Begin, Repeat, Next, Close}
-use Rattle.exchange.specs.Rules.{readOpcode}
+use Rattle.exchange.specs.Rules.{readOpcode, maxTurn}
 use Rattle.writes.specs.Offer.{Held, changed}
 use Rattle.writes.specs.Entry.{heldAfter}
 use Rattle.writes.proofs.HeldLaws.{Right, changed-keeps, writes-keep}
@@ -24,6 +25,7 @@ use Rattle.replies.specs.Messages.{statusMessage}
 use Rattle.replies.specs.Row.{rowRight, nextPart}
 use Rattle.replies.specs.Begin.{Left, once, entriesOf, responseTo, readBegun, writeBegun}
 use Rattle.replies.proofs.KeptLaws.{next-right, read-right, write-right}
+use Rattle.replies.proofs.RowLaws.{row-right, right-row}
 use Rattle.server.specs.declared.State.{State}
 use Rattle.server.specs.State.{signRight}
 use Rattle.server.specs.Start.{Altered, alteredBy}
@@ -48,8 +50,9 @@ write-keeps w defaults rules h r g x exchange payload =
     (λ _. writes-keep w defaults rules h r g payload (entriesOf q)) (λ _. r)
 
 closing-right : (x : Row) → rowRight x ≡ true → rowRight (closing x) ≡ true
-unfolding rowRight
-closing-right x h = h
+closing-right x h =
+    let r = row-right x h in
+    right-row (closing x) (record { exchange = r .exchange; turn = r .turn; next = r .next; closed = omega arith; asked = r .asked; path = r .path; index = r .index; len = r .len })
 
 module _ (w defaults edits : List ℕ) (s : State) (valid : ValidSign w defaults edits s) where
   parts : RightSign w defaults edits s
@@ -82,20 +85,20 @@ module _ (w defaults edits : List ℕ) (s : State) (valid : ValidSign w defaults
       (moved k (changed-keeps w defaults rules h held-right e c a src new sized) (s .row) (parts .row))
 
   -- what a message gets
-  reacted-kept : (g : Grants) (e : Fields) → e .exchange < 2 ^ 40 → (payload : List ℕ) (step : Step) → ValidSign w defaults (reacted w defaults g s edits e payload step .edits) (reacted w defaults g s edits e payload step .state)
+  reacted-kept : (g : Grants) (e : Fields) → e .exchange < 2 ^ 40 → (payload : List ℕ) (step : Step) → (step ≡ Next → s .row .progress .turn < maxTurn) → ValidSign w defaults (reacted w defaults g s edits e payload step .edits) (reacted w defaults g s edits e payload step .state)
   unfolding reacted
-  reacted-kept g e below payload Silence = valid
-  reacted-kept g e below payload Begin =
+  reacted-kept g e below payload Silence t = valid
+  reacted-kept g e below payload Begin t =
       let h : Held = record { values = s .values; edits = edits } in
       let x = readBegun w (s .values) defaults edits g (s .row) (e .exchange) payload in
       let l = writeBegun w g defaults h (s .row) (e .exchange) payload in
       pick-elim (λ (y : Reaction). ValidSign w defaults (y .edits) (y .state)) (eqb (e .opcode) readOpcode) (replied s edits x) (wrote l)
       (λ _. with-row x (read-right (s .row) (e .exchange) below (parts .row) w (s .values) defaults edits g payload))
       (λ _. moved (l .held) (write-keeps w defaults rules h held-right g (s .row) (e .exchange) payload) (l .row) (write-right (s .row) (e .exchange) below (parts .row) w g defaults h payload))
-  reacted-kept g e below payload Repeat = valid
-  reacted-kept g e below payload Next =
-      with-row (nextPart w (s .values) defaults edits g (s .row)) (next-right w (s .values) defaults edits g (s .row) (parts .row))
-  reacted-kept g e below payload Close = with-row (closing (s .row)) (closing-right (s .row) (parts .row))
+  reacted-kept g e below payload Repeat t = valid
+  reacted-kept g e below payload Next t =
+      with-row (nextPart w (s .values) defaults edits g (s .row)) (next-right w (s .values) defaults edits g (s .row) (parts .row) (t refl))
+  reacted-kept g e below payload Close t = with-row (closing (s .row)) (closing-right (s .row) (parts .row))
 
   -- A MESSAGE, any bytes from anyone, with any access table and buffer
   pub received-kept : (table : Bool) (g : Grants) (subject : ℕ) (m : List ℕ) (room : ℕ) → ValidSign w defaults (received w defaults edits s table g subject m room .edits) (received w defaults edits s table g subject m room .state)

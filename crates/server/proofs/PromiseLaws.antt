@@ -15,7 +15,7 @@ use Rattle.schema.specs.Layout.{subjectWord}
 use Rattle.acl.specs.declared.Grants.{Grants}
 use Rattle.exchange.specs.declared.Progress.{Progress}
 use Rattle.exchange.specs.declared.Step.the-variants.{Next}
-use Rattle.exchange.specs.Rules.{statusOpcode, maxTurn, beginning, forServer, onStatus}
+use Rattle.exchange.specs.Rules.{statusOpcode, maxTurn, part, beginning, forServer, onStatus}
 use Rattle.replies.specs.Messages.{envelopeLength, maxMessage}
 use Rattle.replies.specs.Row.{keptReply, nextPart}
 use Rattle.replies.proofs.KeptLaws.{next-right, next-some}
@@ -37,8 +37,8 @@ pub record Success (w : List ℕ) (s : State) (subject : ℕ) (m : List ℕ) (e 
   pub status : responseIn (drop envelopeLength m) ≡ just 0
 
 pub record Promised (x : Progress) : Type 0 where
-  pub promised : x .promised ≡ true
-  pub unclosed : x .closed ≡ false
+  pub promised : x .next ≡ part
+  pub unclosed : x .closed ≡ 0
   pub left : x .turn < maxTurn
 
 step-next : (x : Progress) (e : Fields) (payload : List ℕ) → e .opcode ≡ statusOpcode → e .exchange ≡ x .last → e .turn ≡ x .turn → responseIn payload ≡ just 0 → Promised x → stepOf x e payload ≡ Next
@@ -66,4 +66,4 @@ module _ (w defaults edits : List ℕ) (s : State) (g : Grants) (subject : ℕ) 
   promised-answered whole =
       let x = nextPart w (s .values) defaults edits g (s .row) in
       ap (λ r. r .number) promised-part
-      ∙ some-number (keptReply x) (omega (arith, next-some w (s .values) defaults edits g (s .row), kept-length x (next-whole w (s .values) defaults edits g (s .row) ∙ whole) (len-of x (next-right w (s .values) defaults edits g (s .row) (right-row-of w defaults edits s h)))))
+      ∙ some-number (keptReply x) (omega (arith, next-some w (s .values) defaults edits g (s .row), kept-length x (next-whole w (s .values) defaults edits g (s .row) ∙ whole) (len-of x (next-right w (s .values) defaults edits g (s .row) (right-row-of w defaults edits s h) (p .left)))))

@@ -1,6 +1,6 @@
 -- What the code answers is the reaction: number, state, length, page and buffer.
 use mathlib.Core.Path.{_≡_, refl, sym, ap, _∙_}
-use mathlib.Core.Bool.{Bool, true, false}
+use mathlib.Core.Bool.{true}
 use mathlib.Core.List.{List, [], _∷_}
 use Prim.Native.Nat.{ℕ, suc, _≤_}
 use native.Mathlib.Omega.{arith}
@@ -11,82 +11,81 @@ use lib.Seq.{length-take-le}
 use Rattle.octets.specs.Store.{store}
 use Rattle.tlv.specs.Octet.{pick}
 use Rattle.replies.specs.declared.Row.{Row}
-use Rattle.replies.specs.declared.begin.Begun.{Begun}
-use Rattle.replies.specs.Messages.{maxMessage, statusMessage}
-use Rattle.replies.specs.Row.{keptReply, nextPart, reported, blocksOf, rowRight}
-use Rattle.replies.specs.Begin.{Left, Wrote, once, beginningPlace, requestOf, readBegun, entriesOf, responseTo, writeBegun}
+use Rattle.replies.specs.declared.Standing.{Standing}
+use Rattle.replies.specs.Messages.{maxMessage}
+use Rattle.replies.specs.Row.{keptReply, nextPart, rowRight, rowIn, rowOf, standingIn, standingWords, putRow}
+use Rattle.replies.specs.Begin.{Left, Begins, Wrote}
 use Rattle.replies.proofs.RowLaws.{row-right}
 use Rattle.replies.proofs.KeptLaws.{keeping-whole}
-use Rattle.interaction.specs.Read.{readIn, readRead}
-use Rattle.interaction_write.specs.Write.{writeIn, writeRead}
+use Rattle.replies.proofs.LentLaws.{request-same, row-same}
+use Rattle.selection.specs.Request.{standingAt}
 use Rattle.acl.specs.declared.Grants.{Grants}
 use Rattle.values.specs.declared.Values.{Values}
 use Rattle.writes.specs.Offer.{Held}
-use Rattle.writes.specs.Entry.{heldAfter}
 use Rattle.server.specs.declared.State.{State}
 use Rattle.server.specs.declared.Outcome.{Outcome}
-use Rattle.server.specs.Receive.{refusal, numberFor, answering, silence, withRow, replied, wrote, outcomeWith, Reacted}
+use Rattle.server.specs.State.{stateIn}
+use Rattle.server.specs.Receive.{refusal, numberFor, answering, silence, withRow, replied, closing, wrote, outcomeWith, Reacted}
 
 -- a length says whether there is a reply
 number-for : (l : List ℕ) → pick (eqb (length l) 0) 1 0 ≡ numberFor l
 number-for [] = refl
 number-for (x ∷ l) = rw (ne-eqb (suc (length l)) 0 (λ z. omega arith)) refl
 
-pub kept-length : (x : Row) → length (x .kept) ≡ maxMessage → x .len ≤ maxMessage → length (keptReply x) ≡ x .len
-kept-length x whole h = length-take-le (x .len) (x .kept) (omega (arith, whole))
-
-module _ {r : Outcome} {page old new : List ℕ} where
+module _ {r : Outcome} {h : Held} {row newRow kept old new : List ℕ} where
   -- a reply of which the code knows the length
-  pub answering-as : (s : State) (edits reply : List ℕ) (len : ℕ) → len ≡ length reply → r ≡ outcomeWith s len → page ≡ edits → new ≡ store old 0 reply → Reacted (answering s edits reply) r page old new
-  answering-as s edits reply len q e p b = record {
+  pub answering-as : (s : State) (edits reply : List ℕ) (len : ℕ) → len ≡ length reply → r ≡ outcomeWith len → h ≡ record { values = s .values; edits = edits } → newRow ≡ putRow row (s .row) → kept ≡ s .row .kept → new ≡ store old 0 reply → Reacted (answering s edits reply) r h row newRow kept old new
+  answering-as s edits reply len q e p w k b = record {
     number = ap (λ (o : Outcome). o .number) e ∙ ap (λ (n : ℕ). pick (eqb n 0) 1 0) q ∙ number-for reply;
-    state = ap (λ (o : Outcome). o .state) e;
     len = ap (λ (o : Outcome). o .len) e ∙ q;
-    page = p;
+    held = p;
+    words = w;
+    bytes = k;
     buffer = b;
   }
 
-  pub silence-as : (s : State) (edits : List ℕ) → r ≡ outcomeWith s 0 → page ≡ edits → new ≡ old → Reacted (silence s edits) r page old new
+  -- the exchange goes on by this row
+  pub begins-as : (s : State) (edits : List ℕ) {x : Row} {t : Standing} {stored : List ℕ} → Begins x t row stored kept old new → r ≡ outcomeWith (t .len) → h ≡ record { values = s .values; edits = edits } → newRow ≡ store stored standingAt (standingWords t) → Reacted (replied s edits x) r h row newRow kept old new
+  unfolding putRow
+  begins-as s edits {x} {t} {stored} g e p w =
+      answering-as (withRow s x) edits (keptReply x) (t .len) (ap (λ (z : Standing). z .len) (g .standing) ∙ sym (g .full)) e p
+      (w ∙ (λ j. store (g .request j) standingAt (standingWords (g .standing j)))) (g .reply) (g .buffer)
+
+  pub wrote-as : (l : Left) {t : Standing} → Wrote l t h row row kept old new → r ≡ outcomeWith (t .len) → newRow ≡ store row standingAt (standingWords t) → Reacted (wrote l) r h row newRow kept old new
+  wrote-as l g e w = begins-as (record { values = l .held .values; row = l .row }) (l .held .edits) (g .begins) e (g .held) w
+
+-- nothing moves
+module _ {r : Outcome} (v : Values) (edits row kept : List ℕ) {old new : List ℕ} where
+  pub same-as : (reply : List ℕ) (len : ℕ) → len ≡ length reply → r ≡ outcomeWith len → new ≡ store old 0 reply → Reacted (answering (stateIn v row kept) edits reply) r (record { values = v; edits = edits }) row row kept old new
+  same-as reply len q e b = answering-as (stateIn v row kept) edits reply len q e refl (sym (row-same row kept)) refl b
+
+  pub silence-as : r ≡ outcomeWith 0 → new ≡ old → Reacted (silence (stateIn v row kept) edits) r (record { values = v; edits = edits }) row row kept old new
   unfolding store
-  silence-as s edits e p b = answering-as s edits [] 0 refl e p b
+  silence-as e b = same-as [] 0 refl e b
 
-  pub refused-as : (n : ℕ) (s : State) (edits : List ℕ) → r ≡ record { state = s; number = n; len = 0 } → page ≡ edits → new ≡ old → Reacted (refusal n s edits) r page old new
+  pub refused-as : (n : ℕ) → r ≡ record { number = n; len = 0 } → new ≡ old → Reacted (refusal n (stateIn v row kept) edits) r (record { values = v; edits = edits }) row row kept old new
   unfolding store
-  refused-as n s edits e p b = record { number = ap (λ (o : Outcome). o .number) e; state = ap (λ (o : Outcome). o .state) e; len = ap (λ (o : Outcome). o .len) e; page = p; buffer = b }
+  refused-as n e b = record { number = ap (λ (o : Outcome). o .number) e; len = ap (λ (o : Outcome). o .len) e; held = refl; words = sym (row-same row kept); bytes = refl; buffer = b }
 
-  -- a row that keeps its reply
-  pub replied-as : (s : State) (edits : List ℕ) {x y : Row} → y ≡ x → length (y .kept) ≡ maxMessage → x .len ≤ maxMessage → r ≡ outcomeWith (withRow s y) (y .len) → page ≡ edits → new ≡ store old 0 (keptReply y) → Reacted (replied s edits x) r page old new
-  replied-as s edits {x} {y} q whole few e p b =
-      answering-as (withRow s x) edits (keptReply x) (x .len) (sym (kept-length x (ap (λ (z : Row). length (z .kept)) (sym q) ∙ whole) few))
-      (e ∙ ap (λ (z : Row). outcomeWith (withRow s z) (z .len)) q) p (b ∙ ap (λ (z : Row). store old 0 (keptReply z)) q)
+  -- the kept reply again
+  pub repeat-as : length kept ≡ maxMessage → standingIn row .len ≤ maxMessage → r ≡ outcomeWith (standingIn row .len) → new ≡ store old 0 (keptReply (rowOf row kept)) → Reacted (answering (stateIn v row kept) edits (keptReply (rowOf row kept))) r (record { values = v; edits = edits }) row row kept old new
+  repeat-as whole few e b =
+      same-as (keptReply (rowOf row kept)) (standingIn row .len) (sym (length-take-le (standingIn row .len) kept (omega (arith, whole)))) e b
 
-  pub wrote-as : (l : Left) (b : Begun) → Wrote l b page old new → length (b .row .kept) ≡ maxMessage → l .row .len ≤ maxMessage → r ≡ outcomeWith (record { values = b .values; row = b .row }) (b .row .len) → Reacted (wrote l) r page old new
-  wrote-as l b h whole few e =
-      answering-as (record { values = l .held .values; row = l .row }) (l .held .edits) (keptReply (l .row)) (l .row .len)
-      (sym (kept-length (l .row) (ap (λ (z : Row). length (z .kept)) (sym (h .row)) ∙ whole) few))
-      (e ∙ (λ j. outcomeWith (record { values = h .values j; row = h .row j }) (h .row j .len))) (h .page) (h .buffer)
+  -- the exchange is closed
+  pub closed-as : {t : Standing} {newRow : List ℕ} → rowIn row t kept ≡ closing (rowOf row kept) → r ≡ outcomeWith 0 → newRow ≡ store row standingAt (standingWords t) → new ≡ old → Reacted (silence (withRow (stateIn v row kept) (closing (rowOf row kept))) edits) r (record { values = v; edits = edits }) row newRow kept old new
+  unfolding putRow store
+  closed-as {t} q e w b =
+      answering-as (withRow (stateIn v row kept) (closing (rowOf row kept))) edits [] 0 refl e refl
+      (w ∙ (λ j. store (sym (request-same row (t .asked)) j) standingAt (standingWords t)) ∙ ap (λ (y : Row). putRow row y) q) (ap (λ (y : Row). y .kept) q) b
 
--- a row's array keeps its length, and a right row's reply its bound
-module _ (w : List ℕ) (v : Values) (defaults edits : List ℕ) (g : Grants) (x : Row) where
-  pub next-whole : length (nextPart w v defaults edits g x .kept) ≡ length (x .kept)
-  unfolding nextPart
-  next-whole = keeping-whole x _ _ _ _
+-- the kept reply is whole
+pub kept-length : (x : Row) → length (x .kept) ≡ maxMessage → x .len ≤ maxMessage → length (keptReply x) ≡ x .len
+kept-length x whole h = length-take-le (x .len) (x .kept) (omega (arith, whole))
 
-  pub read-whole : (exchange : ℕ) (s : List ℕ) → length (readBegun w v defaults edits g x exchange s .kept) ≡ length (x .kept)
-  unfolding readBegun
-  read-whole exchange s = go (eqb (readRead (readIn s) .verdict) 0)
-    where
-      go : (b : Bool) → length (pick b (reported x exchange 1 (requestOf (readRead (readIn s))) beginningPlace (blocksOf w v defaults edits g (requestOf (readRead (readIn s))) beginningPlace)) (once x exchange (statusMessage exchange (readRead (readIn s) .verdict))) .kept) ≡ length (x .kept)
-      go true = keeping-whole x _ _ _ _
-      go false = keeping-whole x _ _ _ _
-
-pub write-whole : (w : List ℕ) (g : Grants) (defaults : List ℕ) (h : Held) (x : Row) (exchange : ℕ) (s : List ℕ) → length (writeBegun w g defaults h x exchange s .row .kept) ≡ length (x .kept)
-unfolding writeBegun
-write-whole w g defaults h x exchange s = go (eqb (writeRead (writeIn s) .verdict) 0)
-  where
-    go : (b : Bool) → length (pick {A = Left} b (record { held = heldAfter w g defaults s h (entriesOf (writeRead (writeIn s))); row = once x exchange (responseTo w g defaults s h exchange (writeRead (writeIn s))) }) (record { held = h; row = once x exchange (statusMessage exchange (writeRead (writeIn s) .verdict)) }) .row .kept) ≡ length (x .kept)
-    go true = keeping-whole x _ _ _ _
-    go false = keeping-whole x _ _ _ _
+pub next-whole : (w : List ℕ) (v : Values) (defaults edits : List ℕ) (g : Grants) (x : Row) → length (nextPart w v defaults edits g x .kept) ≡ length (x .kept)
+unfolding nextPart
+next-whole w v defaults edits g x = keeping-whole x _ _ _ _
 
 pub len-of : (x : Row) → rowRight x ≡ true → x .len ≤ maxMessage
 len-of x h = row-right x h .len

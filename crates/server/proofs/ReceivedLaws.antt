@@ -18,10 +18,11 @@ use Rattle.schema.proofs.BoolLaws.{both}
 use Rattle.acl.specs.declared.Grants.{Grants}
 use Rattle.exchange.specs.declared.Step.{Step}
 use Rattle.exchange.specs.declared.Step.the-variants.{Silence, Begin, Repeat, Next, Close}
-use Rattle.exchange.specs.Rules.{readOpcode, forServer}
+use Rattle.exchange.specs.Rules.{readOpcode, maxTurn, forServer}
 use Rattle.replies.specs.Messages.{envelopeLength, maxMessage}
 use Rattle.replies.specs.Row.{keptReply, nextPart}
 use Rattle.replies.specs.Begin.{readBegun, writeBegun}
+use Rattle.server.proofs.StepLaws.{next-turn}
 use Rattle.server.specs.declared.State.{State}
 use Rattle.server.specs.State.{signRight}
 use Rattle.server.specs.Receive.{Reaction, refusal, numberFor, answering, silence, replied, wrote, stepOf, reacted, inEnvelope, received}
@@ -43,14 +44,14 @@ envelope-below m = pick-elim Below (ltb (length m) 8) envelope.Short (envelope.W
 -- ---- a property of what is answered: of the refusals, of silence, and of every reaction
 
 module _ (P : Reaction → Type 0) (w defaults edits : List ℕ) (s : State) (g : Grants) where
-  module _ (no-message : P (refusal 4 s edits)) (silent : P (silence s edits)) (each : (e : Fields) → e .exchange < 2 ^ 40 → (payload : List ℕ) (step : Step) → P (reacted w defaults g s edits e payload step)) where
+  module _ (no-message : P (refusal 4 s edits)) (silent : P (silence s edits)) (each : (e : Fields) → e .exchange < 2 ^ 40 → (payload : List ℕ) (step : Step) → (step ≡ Next → s .row .progress .turn < maxTurn) → P (reacted w defaults g s edits e payload step)) where
     enveloped : (subject : ℕ) (m : List ℕ) (x : Envelope) → Below x → P (inEnvelope w defaults g s edits subject m x)
     enveloped subject m envelope.Short b = no-message
     enveloped subject m (envelope.Whole e) b =
         let payload = drop envelopeLength m in
         let r = reacted w defaults g s edits e payload (stepOf (s .row .progress) e payload) in
         pick-elim P (leb (length m) maxMessage && (eqb (e .edition) 0 && forServer (e .opcode))) (pick (eqb subject (getD w subjectWord 0)) r (silence s edits)) (refusal 4 s edits)
-        (λ _. pick-elim P (eqb subject (getD w subjectWord 0)) r (silence s edits) (λ _. each e b payload (stepOf (s .row .progress) e payload)) (λ _. silent))
+        (λ _. pick-elim P (eqb subject (getD w subjectWord 0)) r (silence s edits) (λ _. each e b payload (stepOf (s .row .progress) e payload) (λ z. next-turn (s .row .progress) e payload z)) (λ _. silent))
         (λ _. no-message)
 
     pub received-holds : (table : Bool) (subject : ℕ) (m : List ℕ) (room : ℕ) → ((signRight w defaults edits s && table) ≡ false → P (refusal 2 s edits)) → P (refusal 3 s edits) → P (received w defaults edits s table g subject m room)
@@ -74,7 +75,7 @@ module _ (P : Reaction → Type 0) (w defaults edits : List ℕ) (s : State) (g 
   reacted-holds f e payload Close = f _ edits []
 
   answers-hold : ((t : State) (page reply : List ℕ) → P (answering t page reply)) → P (refusal 4 s edits) → (table : Bool) (subject : ℕ) (m : List ℕ) (room : ℕ) → ((signRight w defaults edits s && table) ≡ false → P (refusal 2 s edits)) → P (refusal 3 s edits) → P (received w defaults edits s table g subject m room)
-  answers-hold f no-message = received-holds no-message (f s edits []) (λ e b. reacted-holds f e)
+  answers-hold f no-message = received-holds no-message (f s edits []) (λ e b payload step t. reacted-holds f e payload step)
 
 -- ---- the laws
 

@@ -11,12 +11,10 @@ use Rattle.schema.proofs.BoolLaws.{left, by-test}
 use Rattle.node.specs.Check.{accepted, done, schemaRefused, checked}
 use Rattle.values.specs.declared.Values.{Values}
 use Rattle.values.specs.Fresh.{freshValues}
-use Rattle.writes.specs.declared.Written.{Written}
-use Rattle.writes.specs.Offer.{Outcome, changed, writtenOf}
-use Rattle.replies.specs.declared.Row.{Row}
+use Rattle.writes.specs.Offer.{Outcome, changed}
 use Rattle.server.specs.declared.State.{State}
 use Rattle.server.specs.State.{signRight}
-use Rattle.server.specs.Start.{freshRow, noValues, started, Altered, altered, alteredBy, Alters}
+use Rattle.server.specs.Start.{freshWords, freshKept, started, Starts, Altered, altered, alteredBy, Alters}
 
 -- ---- a fresh sign
 
@@ -39,15 +37,15 @@ module _ (w defaults : List ℕ) where
     unfolding checked
     is-refused f = by-test (accepted w defaults) (λ t. absurd (f (e ∙ ap (λ (b : Bool). pick b done schemaRefused) t))) (λ t. t)
 
-  -- and what it answers
-  module _ {x : Row} (r : x ≡ freshRow) where
-    pub none-started : accepted w defaults ≡ false → record { number = 11; state = record { values = noValues; row = x } } ≡ started w defaults
+  -- and what it leaves
+  module _ {v : Values} {row kept : List ℕ} where
+    pub none-started : accepted w defaults ≡ false → Starts (started w defaults) 11 v v row row kept kept
     unfolding started
-    none-started h = rw (h, r)
+    none-started h = rw h (record { code = refl; held = refl; words = refl; bytes = refl })
 
-    pub is-started : accepted w defaults ≡ true → {v : Values} → v ≡ freshValues w → record { number = 0; state = record { values = v; row = x } } ≡ started w defaults
+    pub is-started : accepted w defaults ≡ true → {new : Values} {newRow newKept : List ℕ} → new ≡ freshValues w → newRow ≡ freshWords → newKept ≡ freshKept → Starts (started w defaults) 0 v new row newRow kept newKept
     unfolding started
-    is-started h e = rw (h, r, e)
+    is-started h e p q = rw h (record { code = refl; held = e; words = p; bytes = q })
 
 -- ---- a local change
 
@@ -65,17 +63,16 @@ module _ (w defaults edits : List ℕ) (s : State) (e c a : ℕ) (src : List ℕ
   altered-broken h = rw h
 
   -- a broken sign: 2, and nothing moves
-  pub broken-alters : signRight w defaults edits s ≡ false → Alters (alteredBy w defaults edits s e c a src new) (record { number = 2; state = s }) edits
+  pub broken-alters : signRight w defaults edits s ≡ false → Alters (alteredBy w defaults edits s e c a src new) 2 (record { values = s .values; edits = edits })
   broken-alters h =
       let q = sym (altered-broken h) in
-      record { number = ap (λ (x : Altered). x .number) q; state = ap (λ (x : Altered). x .state) q; page = ap (λ (x : Altered). x .edits) q }
+      record { code = ap (λ (x : Altered). x .number) q; held = λ j. record { values = q j .state .values; edits = q j .edits } }
 
   -- a right one
-  pub right-alters : signRight w defaults edits s ≡ true → {y : Written} {page : List ℕ} → (y ≡ writtenOf made) × (page ≡ made .held .edits) → Alters (alteredBy w defaults edits s e c a src new) (record { number = y .code; state = record { values = y .values; row = s .row } }) page
-  right-alters h {y} (p, r) =
+  pub right-alters : signRight w defaults edits s ≡ true → {o : Outcome} → o ≡ made → Alters (alteredBy w defaults edits s e c a src new) (o .code) (o .held)
+  right-alters h {o} p =
       let q = sym (altered-right h) in
       record {
-        number = ap (λ (x : Written). x .code) p ∙ ap (λ (x : Altered). x .number) q;
-        state = (λ j. record { values = p j .values; row = s .row }) ∙ ap (λ (x : Altered). x .state) q;
-        page = r ∙ ap (λ (x : Altered). x .edits) q;
+        code = ap (λ (x : Outcome). x .code) p ∙ ap (λ (x : Altered). x .number) q;
+        held = ap (λ (x : Outcome). x .held) p ∙ (λ j. record { values = q j .state .values; edits = q j .edits });
       }

@@ -47,7 +47,7 @@ module _ (x : Progress) where
 
   status-next : (exchange turn code : ℕ) → onStatus x exchange turn code ≡ Next → x .turn < maxTurn
   unfolding onStatus
-  status-next exchange turn code h = go (eqb exchange (x .last) && not (x .closed)) (eqb turn (x .turn) && x .promised) h
+  status-next exchange turn code h = go (eqb exchange (x .last) && eqb (x .closed) 0) (eqb turn (x .turn) && not (eqb (x .next) 0)) h
     where
       go : (a b : Bool) → pick a (pick b (onPromised (x .turn) code) (onEarlier (x .turn) turn code)) Silence ≡ Next → x .turn < maxTurn
       go true true q = promised-next code q
@@ -56,7 +56,7 @@ module _ (x : Progress) where
 
   request-never : (exchange turn : ℕ) → onRequest x exchange turn ≡ Next → ⊥
   unfolding onRequest
-  request-never exchange turn h = go (eqb turn 0) (ltb (x .last) exchange) (eqb exchange (x .last) && (eqb (x .turn) 1 && not (x .closed))) h
+  request-never exchange turn h = go (eqb turn 0) (ltb (x .last) exchange) (eqb exchange (x .last) && (eqb (x .turn) 1 && eqb (x .closed) 0)) h
     where
       go : (a b c : Bool) → pick a (pick b Begin (pick c Repeat Silence)) Silence ≡ Next → ⊥
       go true true c q = never (cc)

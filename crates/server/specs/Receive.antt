@@ -1,6 +1,6 @@
 -- WHEN WHAT IS ANSWERED (document 01, Envelope, and When either end says no): from a state and a message to a state and a reply.
 use mathlib.Core.Path.{_≡_}
-use mathlib.Core.Bool.{Bool, true, false, _&&_}
+use mathlib.Core.Bool.{Bool, _&&_}
 use mathlib.Core.List.{List, [], _∷_}
 use Prim.Native.Nat.{ℕ}
 use lib.Dec.{eqb, ltb, leb}
@@ -23,7 +23,7 @@ use Rattle.exchange.specs.Rules.{readOpcode, beginning, forServer, onRequest, o
 use Rattle.writes.specs.Offer.{Held}
 use Rattle.replies.specs.declared.Row.{Row}
 use Rattle.replies.specs.Messages.{envelopeLength, maxMessage}
-use Rattle.replies.specs.Row.{keptReply, nextPart}
+use Rattle.replies.specs.Row.{keptReply, nextPart, putRow}
 use Rattle.replies.specs.Begin.{Left, readBegun, writeBegun}
 use Rattle.server.specs.declared.State.{State}
 use Rattle.server.specs.declared.Outcome.{Outcome}
@@ -61,7 +61,7 @@ replied s edits x = answering (withRow s x) edits (keptReply x)
 abbrev pub closing : Row → Row
 closing x =
     record {
-      progress = record { last = x .progress .last; turn = x .progress .turn; promised = x .progress .promised; closed = true };
+      progress = record { last = x .progress .last; turn = x .progress .turn; next = x .progress .next; closed = 1 };
       request = x .request;
       place = x .place;
       kept = x .kept;
@@ -111,13 +111,14 @@ received w defaults edits s table g subject m room =
     (refusal 2 s edits)
 
 -- a reply of so many bytes, or silence
-abbrev pub outcomeWith : State → ℕ → Outcome
-outcomeWith s len = record { state = s; number = pick (eqb len 0) 1 0; len = len }
+abbrev pub outcomeWith : ℕ → Outcome
+outcomeWith len = record { number = pick (eqb len 0) 1 0; len = len }
 
--- as the code has it: what it answers, and what it leaves in the buffer and in the page of edits
-pub record Reacted (x : Reaction) (r : Outcome) (edits old new : List ℕ) : Type 0 where
+-- as the code has it: what it answers, and what it leaves in all that was lent: what is held, the row's words, the kept reply's bytes, the buffer
+pub record Reacted (x : Reaction) (r : Outcome) (h : Held) (row newRow kept old new : List ℕ) : Type 0 where
   pub number : r .number ≡ x .number
-  pub state : r .state ≡ x .state
   pub len : r .len ≡ length (x .reply)
-  pub page : edits ≡ x .edits
+  pub held : h ≡ record { values = x .state .values; edits = x .edits }
+  pub words : newRow ≡ putRow row (x .state .row)
+  pub bytes : kept ≡ x .state .row .kept
   pub buffer : new ≡ store old 0 (x .reply)

@@ -1,39 +1,34 @@
 -- A fresh sign, and a local change (document 01: 11 "plan breaks a rule above: no sign made"; "A local change answers 2, else the first that applies").
 use mathlib.Core.Path.{_≡_}
-use mathlib.Core.Bool.{Bool, false}
+use mathlib.Core.Bool.{false}
 use mathlib.Core.List.{List}
 use Prim.Native.Nat.{ℕ}
+use lib.Dec.{eqb}
 use lib.ListN.{replicate}
 use Rattle.tlv.specs.declared.Value.{Value}
 use Rattle.tlv.specs.Octet.{pick}
-use Rattle.interaction.specs.Read.{maxPaths, maxFilters, unwanted}
 use Rattle.node.specs.Check.{accepted}
 use Rattle.schema.specs.Layout.{clusterLimit, attributeLimit}
 use Rattle.values.specs.declared.Values.{Values}
 use Rattle.values.specs.Fresh.{freshValues}
-use Rattle.selection.specs.declared.asked.Asked.{Asked}
+use Rattle.selection.specs.Request.{rowLength}
 use Rattle.writes.specs.Offer.{Held, Outcome, changed}
 use Rattle.replies.specs.declared.Row.{Row}
 use Rattle.replies.specs.Messages.{maxMessage}
+use Rattle.replies.specs.Row.{rowOf}
 use Rattle.server.specs.declared.State.{State}
 use Rattle.server.specs.declared.start.Started.{Started}
-use Rattle.server.specs.declared.start.Changed.{Changed}
 use Rattle.server.specs.State.{signRight}
 
-abbrev pub unasked : Asked
-unasked =
-    record { «any_endpoint» = false; endpoint = 0; «any_cluster» = false; cluster = 0; «any_attribute» = false; attribute = 0 }
+-- "both 0 when fresh": all words of the row and all bytes for the kept reply are 0
+abbrev pub freshWords : List ℕ
+freshWords = replicate rowLength 0
 
--- "both 0 when fresh"
+abbrev pub freshKept : List ℕ
+freshKept = replicate maxMessage 0
+
 unfoldable pub freshRow : Row
-freshRow =
-    record {
-      progress = record { last = 0; turn = 0; promised = false; closed = false };
-      request = record { paths = replicate maxPaths unasked; asked = 0; filters = replicate maxFilters unwanted; filtered = 0 };
-      place = record { path = 0; index = 0 };
-      kept = replicate maxMessage 0;
-      len = 0;
-    }
+freshRow = rowOf freshWords freshKept
 
 -- no sign: nothing is held
 abbrev pub noValues : Values
@@ -65,7 +60,16 @@ alteredBy w defaults edits s e c a src new =
     (record { number = 2; state = s; edits = edits })
 
 -- as the code has it
-pub record Alters (x : Altered) (r : Changed) (edits : List ℕ) : Type 0 where
-  pub number : r .number ≡ x .number
-  pub state : r .state ≡ x .state
-  pub page : edits ≡ x .edits
+pub record Alters (x : Altered) (number : ℕ) (h : Held) : Type 0 where
+  pub code : number ≡ x .number
+  pub held : h ≡ record { values = x .state .values; edits = x .edits }
+
+-- what is lent afterwards: a fresh sign's, or what it was where there is none
+abbrev pub ifMade : {A : Type 0} → Started → A → A → A
+ifMade x new old = pick (eqb (x .number) 0) new old
+
+pub record Starts (x : Started) (number : ℕ) (v new : Values) (row newRow kept newKept : List ℕ) : Type 0 where
+  pub code : number ≡ x .number
+  pub held : new ≡ ifMade x (x .state .values) v
+  pub words : newRow ≡ ifMade x freshWords row
+  pub bytes : newKept ≡ ifMade x freshKept kept

@@ -4,9 +4,14 @@ use mathlib.Core.List.{List}
 use Prim.Native.Nat.{ℕ}
 use Rattle.schema.specs.Check as Schema
 use Rattle.node.specs.Check.{numbersRight}
+use Rattle.values.specs.declared.Values.{Values}
 use Rattle.values.specs.Valid.{valuesRight}
-use Rattle.replies.specs.Row.{rowRight}
+use Rattle.replies.specs.Row.{rowRight, rowOf}
 use Rattle.server.specs.declared.State.{State}
+
+-- a state, of what is lent
+abbrev pub stateIn : Values → List ℕ → List ℕ → State
+stateIn v row kept = record { values = v; row = rowOf row kept }
 
 -- schema words that break the plan's rules count as state
 unfoldable pub signRight : List ℕ → List ℕ → List ℕ → State → Bool

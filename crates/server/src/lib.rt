@@ -1,8 +1,14 @@
 // The sign: a server of the Interaction Model. Every call takes any bytes, any buffer, any state, and answers one of document 01's numbers.
 ghost use mathlib.Core.Path.{_≡_};
+ghost use mathlib.Core.List.{List};
+ghost use Prim.Native.Nat.{ℕ};
+ghost use Rattle.values.specs.Values.{valuesOf};
+ghost use Rattle.replies.specs.Row.{rowIn};
 ghost use Rattle.server.specs.State.{signRight};
 use replies::Row;
-use replies::kept::row_ok;
+use replies::Standing;
+use replies::words::row_ok;
+use schema::ATTRIBUTES;
 use schema::WORDS;
 use schema::check::columns_right;
 use values::Values;
@@ -11,15 +17,14 @@ use values::valid::values_ok;
 pub mod receive; // receive.rt: a message answered
 pub mod start; // start.rt: a fresh sign, and a change made at the sign itself
 
-// What a sign holds, and the exchange that it serves.
+// What a sign holds, and the exchange that it serves. It is lent: the values column by column, the exchange's row as words, the kept reply as bytes.
 pub struct State {
     pub values: Values,
     pub row: Row,
 }
 
-// Document 01's number, the state afterwards, and the reply's length in the buffer.
+// Document 01's number, and the reply's length in the buffer.
 pub struct Outcome {
-    pub state: State,
     pub number: u8,
     pub len: usize,
 }
@@ -38,15 +43,22 @@ pub const NO_MESSAGE: u8 = 4;
 pub const SCHEMA_REFUSED: u8 = 11;
 
 // Whether schema, pages and state keep the rules of document 01.
-pub fn sign_ok<'a>(w: &'a [u64; WORDS], defaults: &'a [u8], edits: &'a [u8], s: State) -> bool
-    ensures { λ r. ⌜ r ≡ signRight (now (w .entry)) (now (defaults .entry)) (now (edits .entry)) s ⌝ }
+pub fn sign_ok<'a>(
+    w: &'a [u64; WORDS],
+    defaults: &'a [u8],
+    edits: &'a [u8],
+    words: &'a [u64; ATTRIBUTES],
+    nulls: &'a [bool; ATTRIBUTES],
+    edited: &'a [bool; ATTRIBUTES],
+    t: Standing,
+) -> bool
+    ensures { λ r. ⌜ ((versions row kept : List ℕ) → r ≡ signRight (now (w .entry)) (now (defaults .entry)) (now (edits .entry)) (record { values = valuesOf (now (words .entry)) (now (nulls .entry)) (now (edited .entry)) versions; row = rowIn row t kept })) ⌝ }
 {
     if !columns_right(w) {
         return false;
     }
-    let v = s.values;
-    if !values_ok(w, defaults, edits, &v.words, &v.nulls, &v.edited) {
+    if !values_ok(w, defaults, edits, words, nulls, edited) {
         return false;
     }
-    row_ok(s.row)
+    row_ok(t)
 }

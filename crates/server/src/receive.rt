@@ -1,14 +1,18 @@
 // A message answered: the refusals in their order, then the exchange rules.
 ghost use mathlib.Core.Path.{_≡_};
 ghost use mathlib.Core.Bool.{true, _&&_};
+ghost use mathlib.Core.List.{List};
 ghost use Prim.Native.Nat.{ℕ, _≤_, _<_, _^_};
 ghost use lib.ListN.{length, take};
 ghost use Rattle.exchange.specs.declared.Step.the-variants as steps;
 ghost use Rattle.exchange.specs.Rules.{maxTurn};
 ghost use Rattle.acl.specs.Access.{grantsOf, tableOk};
 ghost use Rattle.acl.specs.Table.{tableRight};
+ghost use Rattle.values.specs.Values.{valuesOf};
+ghost use Rattle.writes.specs.Offer.{heldOf};
 ghost use Rattle.replies.specs.Messages.{maxMessage};
-ghost use Rattle.server.specs.State.{signRight};
+ghost use Rattle.replies.specs.Row.{rowIn, standingIn};
+ghost use Rattle.server.specs.State.{signRight, stateIn};
 ghost use Rattle.server.specs.Receive.{closing, stepOf, begun, reacted, inEnvelope, received, outcomeWith, Reacted};
 use super::BROKEN;
 use super::DONE;
@@ -16,7 +20,6 @@ use super::NO_MESSAGE;
 use super::Outcome;
 use super::SILENT;
 use super::SMALL_BUFFER;
-use super::State;
 use super::sign_ok;
 use acl::ENTRIES;
 use acl::Entry;
@@ -37,41 +40,37 @@ use interaction::StatusResponse;
 use interaction::status_response;
 use replies::ENVELOPE;
 use replies::MAX_MESSAGE;
-use replies::Row;
+use replies::Standing;
 use replies::begin::begin_read;
 use replies::begin::begin_write;
 use replies::kept::next_part;
 use replies::kept::resend;
+use replies::words::put_standing;
+use replies::words::read_standing;
+use schema::ATTRIBUTES;
+use schema::CLUSTERS;
 use schema::WORDS;
 use schema::subject_served;
+use selection::request::ROW_WORDS;
 
 // A refusal, which leaves everything as it was.
-fn refuse(state: State, number: u8) -> Outcome
-    ensures { λ r. ⌜ r ≡ record { state = state; number = number; len = 0 } ⌝ }
+fn refuse(number: u8) -> Outcome
+    ensures { λ r. ⌜ r ≡ record { number = number; len = 0 } ⌝ }
 {
-    Outcome {
-        state,
-        number,
-        len: 0,
-    }
+    Outcome { number, len: 0 }
 }
 
 // A reply that stands in the buffer, or silence.
-fn answer(state: State, len: usize) -> Outcome
-    ensures { λ r. ⌜ r ≡ outcomeWith state len ⌝ }
+fn answer(len: usize) -> Outcome
+    ensures { λ r. ⌜ r ≡ outcomeWith len ⌝ }
 {
     if len == 0 {
         return Outcome {
-            state,
             number: SILENT,
             len,
         };
     }
-    Outcome {
-        state,
-        number: DONE,
-        len,
-    }
+    Outcome { number: DONE, len }
 }
 
 // What the message means for the exchange.
@@ -87,19 +86,22 @@ fn step_of(x: Progress, e: Fields, payload: &[u8]) -> Step
     on_status(x, e.exchange, e.turn, code)
 }
 
-fn closed(x: Row) -> Row
-    ensures { λ r. ⌜ r ≡ closing x ⌝ }
+fn closed(t: Standing) -> Standing
+    ensures { λ r. ⌜ ((row kept : List ℕ) → rowIn row r kept ≡ closing (rowIn row t kept)) ⌝ }
 {
-    let mut next = x;
-    let was = x.progress;
-    let progress = Progress {
-        last: was.last,
-        turn: was.turn,
-        promised: was.promised,
-        closed: true,
-    };
-    next.progress = progress;
-    next
+    let was = t.progress;
+    let place = t.place;
+    Standing {
+        progress: Progress {
+            last: was.last,
+            turn: was.turn,
+            next: was.next,
+            closed: 1,
+        },
+        asked: t.asked,
+        place,
+        len: t.len,
+    }
 }
 
 // A request that begins an exchange.
@@ -107,31 +109,58 @@ fn begin<'a>(
     w: &'a [u64; WORDS],
     defaults: &'a [u8],
     edits: &mut [u8],
-    state: State,
+    words: &mut [u64; ATTRIBUTES],
+    nulls: &mut [bool; ATTRIBUTES],
+    edited: &mut [bool; ATTRIBUTES],
+    versions: &mut [u32; CLUSTERS],
+    row: &mut [u64; ROW_WORDS],
+    kept: &mut [u8; MAX_MESSAGE],
+    t: Standing,
     g: Grants,
     e: Fields,
     payload: &'a [u8],
     out: &mut [u8],
 ) -> Outcome
-    requires { ⌜ (signRight (now w) (now defaults) (now edits) state ≡ true) × ((e .exchange < 2 ^ 40) × (maxMessage ≤ length (now out))) ⌝ }
-    ensures { λ r. ⌜ Reacted (begun (now (w .entry)) (now (defaults .entry)) g state (now (edits .entry)) e (now (payload .entry))) r (now (edits .exit)) (now (out .entry)) (now (out .exit)) ⌝ }
+    requires { ⌜ (t ≡ standingIn (now row)) × ((signRight (now w) (now defaults) (now edits) (stateIn (valuesOf (now words) (now nulls) (now edited) (now versions)) (now row) (now kept)) ≡ true) × ((e .exchange < 2 ^ 40) × (maxMessage ≤ length (now out)))) ⌝ }
+    ensures { λ r. ⌜ Reacted (begun (now (w .entry)) (now (defaults .entry)) g (stateIn (valuesOf (now (words .entry)) (now (nulls .entry)) (now (edited .entry)) (now (versions .entry))) (now (row .entry)) (now (kept .entry))) (now (edits .entry)) e (now (payload .entry))) r (heldOf (now (words .exit)) (now (nulls .exit)) (now (edited .exit)) (now (versions .exit)) (now (edits .exit))) (now (row .entry)) (now (row .exit)) (now (kept .exit)) (now (out .entry)) (now (out .exit)) ⌝ }
 {
-    let held = state.values;
-    let row = state.row;
     if e.opcode == READ {
-        let next = begin_read(w, held, defaults, edits, g, row, e.exchange, payload, out);
-        return answer(
-            State {
-                values: held,
-                row: next,
-            },
-            next.len,
+        let n = begin_read(
+            w,
+            words,
+            nulls,
+            edited,
+            versions,
+            defaults,
+            edits,
+            g,
+            row,
+            kept,
+            t,
+            e.exchange,
+            payload,
+            out,
         );
+        put_standing(row, n);
+        return answer(n.len);
     }
-    let b = begin_write(w, g, defaults, edits, held, row, e.exchange, payload, out);
-    let values = b.values;
-    let next = b.row;
-    answer(State { values, row: next }, next.len)
+    let n = begin_write(
+        w,
+        g,
+        defaults,
+        edits,
+        words,
+        nulls,
+        edited,
+        versions,
+        kept,
+        t,
+        e.exchange,
+        payload,
+        out,
+    );
+    put_standing(row, n);
+    answer(n.len)
 }
 
 // What the message gets.
@@ -139,42 +168,66 @@ fn react<'a>(
     w: &'a [u64; WORDS],
     defaults: &'a [u8],
     edits: &mut [u8],
-    state: State,
+    words: &mut [u64; ATTRIBUTES],
+    nulls: &mut [bool; ATTRIBUTES],
+    edited: &mut [bool; ATTRIBUTES],
+    versions: &mut [u32; CLUSTERS],
+    row: &mut [u64; ROW_WORDS],
+    kept: &mut [u8; MAX_MESSAGE],
+    t: Standing,
     g: Grants,
     e: Fields,
     payload: &'a [u8],
     step: Step,
     out: &mut [u8],
 ) -> Outcome
-    requires { ⌜ (signRight (now w) (now defaults) (now edits) state ≡ true) × ((e .exchange < 2 ^ 40) × ((step ≡ steps.Next → state .row .progress .turn < maxTurn) × (maxMessage ≤ length (now out)))) ⌝ }
-    ensures { λ r. ⌜ Reacted (reacted (now (w .entry)) (now (defaults .entry)) g state (now (edits .entry)) e (now (payload .entry)) step) r (now (edits .exit)) (now (out .entry)) (now (out .exit)) ⌝ }
+    requires { ⌜ (t ≡ standingIn (now row)) × ((signRight (now w) (now defaults) (now edits) (stateIn (valuesOf (now words) (now nulls) (now edited) (now versions)) (now row) (now kept)) ≡ true) × ((e .exchange < 2 ^ 40) × ((step ≡ steps.Next → t .progress .turn < maxTurn) × (maxMessage ≤ length (now out))))) ⌝ }
+    ensures { λ r. ⌜ Reacted (reacted (now (w .entry)) (now (defaults .entry)) g (stateIn (valuesOf (now (words .entry)) (now (nulls .entry)) (now (edited .entry)) (now (versions .entry))) (now (row .entry)) (now (kept .entry))) (now (edits .entry)) e (now (payload .entry)) step) r (heldOf (now (words .exit)) (now (nulls .exit)) (now (edited .exit)) (now (versions .exit)) (now (edits .exit))) (now (row .entry)) (now (row .exit)) (now (kept .exit)) (now (out .entry)) (now (out .exit)) ⌝ }
 {
-    let held = state.values;
-    let row = state.row;
     match step {
-        Step::Silence => answer(state, 0),
-        Step::Begin => begin(w, defaults, edits, state, g, e, payload, out),
+        Step::Silence => answer(0),
+        Step::Begin => begin(
+            w,
+            defaults,
+            edits,
+            words,
+            nulls,
+            edited,
+            versions,
+            row,
+            kept,
+            t,
+            g,
+            e,
+            payload,
+            out,
+        ),
         Step::Repeat => {
-            resend(row, out);
-            answer(state, row.len)
+            resend(kept, t.len, out);
+            answer(t.len)
         }
         Step::Next => {
-            let next = next_part(w, held, defaults, edits, g, row, out);
-            answer(
-                State {
-                    values: held,
-                    row: next,
-                },
-                next.len,
-            )
+            let n = next_part(
+                w,
+                words,
+                nulls,
+                edited,
+                versions,
+                defaults,
+                edits,
+                g,
+                row,
+                kept,
+                t,
+                out,
+            );
+            put_standing(row, n);
+            answer(n.len)
         }
-        Step::Close => answer(
-            State {
-                values: held,
-                row: closed(row),
-            },
-            0,
-        ),
+        Step::Close => {
+            put_standing(row, closed(t));
+            answer(0)
+        }
     }
 }
 
@@ -183,43 +236,64 @@ pub fn serve<'a>(
     w: &'a [u64; WORDS],
     defaults: &'a [u8],
     edits: &mut [u8],
-    state: State,
+    words: &mut [u64; ATTRIBUTES],
+    nulls: &mut [bool; ATTRIBUTES],
+    edited: &mut [bool; ATTRIBUTES],
+    versions: &mut [u32; CLUSTERS],
+    row: &mut [u64; ROW_WORDS],
+    kept: &mut [u8; MAX_MESSAGE],
     table: bool,
     g: Grants,
     subject: u64,
     message: &'a [u8],
     out: &mut [u8],
 ) -> Outcome
-    ensures { λ r. ⌜ Reacted (received (now (w .entry)) (now (defaults .entry)) (now (edits .entry)) state table g subject (now (message .entry)) (length (now (out .entry)))) r (now (edits .exit)) (now (out .entry)) (now (out .exit)) ⌝ }
+    ensures { λ r. ⌜ Reacted (received (now (w .entry)) (now (defaults .entry)) (now (edits .entry)) (stateIn (valuesOf (now (words .entry)) (now (nulls .entry)) (now (edited .entry)) (now (versions .entry))) (now (row .entry)) (now (kept .entry))) table g subject (now (message .entry)) (length (now (out .entry)))) r (heldOf (now (words .exit)) (now (nulls .exit)) (now (edited .exit)) (now (versions .exit)) (now (edits .exit))) (now (row .entry)) (now (row .exit)) (now (kept .exit)) (now (out .entry)) (now (out .exit)) ⌝ }
 {
-    if !sign_ok(w, defaults, edits, state) {
-        return refuse(state, BROKEN);
+    let t = read_standing(row);
+    if !sign_ok(w, defaults, edits, words, nulls, edited, t) {
+        return refuse(BROKEN);
     }
     if !table {
-        return refuse(state, BROKEN);
+        return refuse(BROKEN);
     }
     if out.len() < MAX_MESSAGE {
-        return refuse(state, SMALL_BUFFER);
+        return refuse(SMALL_BUFFER);
     }
     let Envelope::Whole(e) = envelope_of(message) else {
-        return refuse(state, NO_MESSAGE);
+        return refuse(NO_MESSAGE);
     };
     if MAX_MESSAGE < message.len() {
-        return refuse(state, NO_MESSAGE);
+        return refuse(NO_MESSAGE);
     }
     if e.edition != 0 {
-        return refuse(state, NO_MESSAGE);
+        return refuse(NO_MESSAGE);
     }
     if !is_for_server(e.opcode) {
-        return refuse(state, NO_MESSAGE);
+        return refuse(NO_MESSAGE);
     }
     if subject != subject_served(w) {
-        return answer(state, 0);
+        return answer(0);
     }
-    let row = state.row;
     let payload = &message[ENVELOPE..message.len()];
-    let step = step_of(row.progress, e, payload);
-    react(w, defaults, edits, state, g, e, payload, step, out)
+    let step = step_of(t.progress, e, payload);
+    react(
+        w,
+        defaults,
+        edits,
+        words,
+        nulls,
+        edited,
+        versions,
+        row,
+        kept,
+        t,
+        g,
+        e,
+        payload,
+        step,
+        out,
+    )
 }
 
 // A message from a subject: any bytes, any buffer, any state, any access table.
@@ -227,20 +301,30 @@ pub fn receive<'a>(
     w: &'a [u64; WORDS],
     defaults: &'a [u8],
     edits: &mut [u8],
-    state: State,
+    words: &mut [u64; ATTRIBUTES],
+    nulls: &mut [bool; ATTRIBUTES],
+    edited: &mut [bool; ATTRIBUTES],
+    versions: &mut [u32; CLUSTERS],
+    row: &mut [u64; ROW_WORDS],
+    kept: &mut [u8; MAX_MESSAGE],
     table: &[Entry],
     subject: u64,
     message: &'a [u8],
     out: &mut [u8],
 ) -> Outcome
-    ensures { λ r. ⌜ Reacted (received (now (w .entry)) (now (defaults .entry)) (now (edits .entry)) state (tableOk (now (table .entry))) (grantsOf (now (table .entry)) subject (now (w .entry))) subject (now (message .entry)) (length (now (out .entry)))) r (now (edits .exit)) (now (out .entry)) (now (out .exit)) ⌝ }
+    ensures { λ r. ⌜ Reacted (received (now (w .entry)) (now (defaults .entry)) (now (edits .entry)) (stateIn (valuesOf (now (words .entry)) (now (nulls .entry)) (now (edited .entry)) (now (versions .entry))) (now (row .entry)) (now (kept .entry))) (tableOk (now (table .entry))) (grantsOf (now (table .entry)) subject (now (w .entry))) subject (now (message .entry)) (length (now (out .entry)))) r (heldOf (now (words .exit)) (now (nulls .exit)) (now (edited .exit)) (now (versions .exit)) (now (edits .exit))) (now (row .entry)) (now (row .exit)) (now (kept .exit)) (now (out .entry)) (now (out .exit)) ⌝ }
 {
     let access = search(table, table.len(), subject, w);
     serve(
         w,
         defaults,
         edits,
-        state,
+        words,
+        nulls,
+        edited,
+        versions,
+        row,
+        kept,
         access.right,
         access.grants,
         subject,
@@ -254,14 +338,19 @@ pub fn receive_in<'a>(
     w: &'a [u64; WORDS],
     defaults: &'a [u8],
     edits: &mut [u8],
-    state: State,
+    words: &mut [u64; ATTRIBUTES],
+    nulls: &mut [bool; ATTRIBUTES],
+    edited: &mut [bool; ATTRIBUTES],
+    versions: &mut [u32; CLUSTERS],
+    row: &mut [u64; ROW_WORDS],
+    kept: &mut [u8; MAX_MESSAGE],
     entries: [Entry; ENTRIES],
     count: usize,
     subject: u64,
     message: &'a [u8],
     out: &mut [u8],
 ) -> Outcome
-    ensures { λ r. ⌜ Reacted (received (now (w .entry)) (now (defaults .entry)) (now (edits .entry)) state (tableRight count entries) (grantsOf (take count entries) subject (now (w .entry))) subject (now (message .entry)) (length (now (out .entry)))) r (now (edits .exit)) (now (out .entry)) (now (out .exit)) ⌝ }
+    ensures { λ r. ⌜ Reacted (received (now (w .entry)) (now (defaults .entry)) (now (edits .entry)) (stateIn (valuesOf (now (words .entry)) (now (nulls .entry)) (now (edited .entry)) (now (versions .entry))) (now (row .entry)) (now (kept .entry))) (tableRight count entries) (grantsOf (take count entries) subject (now (w .entry))) subject (now (message .entry)) (length (now (out .entry)))) r (heldOf (now (words .exit)) (now (nulls .exit)) (now (edited .exit)) (now (versions .exit)) (now (edits .exit))) (now (row .entry)) (now (row .exit)) (now (kept .exit)) (now (out .entry)) (now (out .exit)) ⌝ }
 {
     let access = search_in(entries, count, subject, w);
     let grants = access.grants;
@@ -269,7 +358,12 @@ pub fn receive_in<'a>(
         w,
         defaults,
         edits,
-        state,
+        words,
+        nulls,
+        edited,
+        versions,
+        row,
+        kept,
         access.right,
         grants,
         subject,

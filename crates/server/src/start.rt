@@ -1,26 +1,23 @@
 // A fresh sign, and a change made at the sign itself.
 ghost use mathlib.Core.Path.{_≡_};
+ghost use mathlib.Core.List.{List};
 ghost use Prim.Native.Nat.{ℕ};
-ghost use Rattle.server.specs.Start.{freshRow, started, alteredBy, Alters};
+ghost use Rattle.values.specs.Values.{valuesOf};
+ghost use Rattle.writes.specs.Offer.{heldOf};
+ghost use Rattle.server.specs.State.{stateIn};
+ghost use Rattle.server.specs.Start.{started, Starts, alteredBy, Alters};
 use super::BROKEN;
 use super::DONE;
 use super::SCHEMA_REFUSED;
 use super::State;
 use super::sign_ok;
-use exchange::Progress;
-use interaction::MAX_FILTERS;
-use interaction::MAX_PATHS;
-use interaction::Wanted;
 use replies::MAX_MESSAGE;
-use replies::Row;
-use report::Place;
-use report::part::Request;
+use replies::words::read_standing;
 use schema::ATTRIBUTES;
 use schema::CLUSTERS;
 use schema::WORDS;
-use selection::asked::Asked;
+use selection::request::ROW_WORDS;
 use tlv::Value;
-use values::Values;
 use values::fresh::fresh;
 
 // 0 and a fresh sign, or 11 and none.
@@ -29,75 +26,27 @@ pub struct Started {
     pub state: State,
 }
 
-// Document 01's number, and the state afterwards.
-pub struct Changed {
-    pub number: u8,
-    pub state: State,
-}
-
-const UNASKED: Asked = Asked {
-    any_endpoint: false,
-    endpoint: 0,
-    any_cluster: false,
-    cluster: 0,
-    any_attribute: false,
-    attribute: 0,
-};
-
-const UNWANTED: Wanted = Wanted {
-    endpoint: 0,
-    cluster: 0,
-    version: 0,
-};
-
-// A sign that serves no exchange yet.
-pub fn fresh_row() -> Row
-    ensures { λ r. ⌜ r ≡ freshRow ⌝ }
-{
-    Row {
-        progress: Progress {
-            last: 0,
-            turn: 0,
-            promised: false,
-            closed: false,
-        },
-        request: Request {
-            paths: [UNASKED; MAX_PATHS],
-            asked: 0,
-            filters: [UNWANTED; MAX_FILTERS],
-            filtered: 0,
-        },
-        place: Place { path: 0, index: 0 },
-        kept: [0u8; MAX_MESSAGE],
-        len: 0,
-    }
-}
-
-// A fresh sign of a schema and a factory page. Its page of edits may be any bytes of the size that the schema leads to.
-pub fn start(w: &[u64; WORDS], defaults: &[u8]) -> Started
-    ensures { λ r. ⌜ r ≡ started (now (w .entry)) (now (defaults .entry)) ⌝ }
+// A fresh sign of a schema and a factory page; where they break the rules there is none, and what was lent stays as it was. Its page of edits may be any bytes
+// of the size that the schema leads to.
+pub fn start<'a>(
+    w: &'a [u64; WORDS],
+    defaults: &'a [u8],
+    words: &mut [u64; ATTRIBUTES],
+    nulls: &mut [bool; ATTRIBUTES],
+    edited: &mut [bool; ATTRIBUTES],
+    versions: &mut [u32; CLUSTERS],
+    row: &mut [u64; ROW_WORDS],
+    kept: &mut [u8; MAX_MESSAGE],
+) -> u8
+    ensures { λ r. ⌜ Starts (started (now (w .entry)) (now (defaults .entry))) r (valuesOf (now (words .entry)) (now (nulls .entry)) (now (edited .entry)) (now (versions .entry))) (valuesOf (now (words .exit)) (now (nulls .exit)) (now (edited .exit)) (now (versions .exit))) (now (row .entry)) (now (row .exit)) (now (kept .entry)) (now (kept .exit)) ⌝ }
 {
     if node::check(w, defaults) != 0 {
-        return Started {
-            number: SCHEMA_REFUSED,
-            state: State {
-                values: Values {
-                    words: [0u64; ATTRIBUTES],
-                    nulls: [false; ATTRIBUTES],
-                    edited: [false; ATTRIBUTES],
-                    versions: [0u32; CLUSTERS],
-                },
-                row: fresh_row(),
-            },
-        };
+        return SCHEMA_REFUSED;
     }
-    Started {
-        number: DONE,
-        state: State {
-            values: fresh(w),
-            row: fresh_row(),
-        },
-    }
+    fresh(w, words, nulls, edited, versions);
+    *row = [0u64; ROW_WORDS];
+    *kept = [0u8; MAX_MESSAGE];
+    DONE
 }
 
 // A change made at the sign itself.
@@ -105,37 +54,35 @@ pub fn change<'a>(
     w: &'a [u64; WORDS],
     defaults: &'a [u8],
     edits: &mut [u8],
-    state: State,
+    words: &mut [u64; ATTRIBUTES],
+    nulls: &mut [bool; ATTRIBUTES],
+    edited: &mut [bool; ATTRIBUTES],
+    versions: &mut [u32; CLUSTERS],
+    row: &'a [u64; ROW_WORDS],
     endpoint: u16,
     cluster: u32,
     attribute: u32,
     new: Value,
     src: &'a [u8],
-) -> Changed
-    ensures { λ r. ⌜ Alters (alteredBy (now (w .entry)) (now (defaults .entry)) (now (edits .entry)) state endpoint cluster attribute (now (src .entry)) new) r (now (edits .exit)) ⌝ }
+) -> u8
+    ensures { λ r. ⌜ ((kept : List ℕ) → Alters (alteredBy (now (w .entry)) (now (defaults .entry)) (now (edits .entry)) (stateIn (valuesOf (now (words .entry)) (now (nulls .entry)) (now (edited .entry)) (now (versions .entry))) (now (row .entry)) kept) endpoint cluster attribute (now (src .entry)) new) r (heldOf (now (words .exit)) (now (nulls .exit)) (now (edited .exit)) (now (versions .exit)) (now (edits .exit)))) ⌝ }
 {
-    if !sign_ok(w, defaults, edits, state) {
-        return Changed {
-            number: BROKEN,
-            state,
-        };
+    let t = read_standing(row);
+    if !sign_ok(w, defaults, edits, words, nulls, edited, t) {
+        return BROKEN;
     }
-    let row = state.row;
-    let held = state.values;
-    let done = writes::change(
+    writes::change(
         w,
         defaults,
         edits,
-        held,
+        words,
+        nulls,
+        edited,
+        versions,
         endpoint,
         cluster,
         attribute,
         new,
         src,
-    );
-    let values = done.values;
-    Changed {
-        number: done.code,
-        state: State { values, row },
-    }
+    )
 }

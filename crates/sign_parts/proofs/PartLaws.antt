@@ -21,6 +21,7 @@ use Rattle.values.specs.declared.Values.{Values}
 use Rattle.values.specs.Valid.{valuesRight}
 use Rattle.exchange.specs.Rules.{reportOpcode}
 use Rattle.selection.specs.Asked.{askedFor}
+use Rattle.selection.specs.Filters.{filterWords}
 use Rattle.selection.proofs.AskedLaws.{cluster-of}
 use Rattle.report.specs.declared.Place as report
 use Rattle.report.specs.Blocks.{View, viewOf, Placed, blocksFrom}
@@ -52,7 +53,7 @@ module _ (w defaults edits : List ℕ) (v : Values) (g : Grants) (fs : List Want
     (fit : (k : ℕ) → getD (v .versions) k 0 < 2 ^ 32) (words-fit : (k : ℕ) → getD w k 0 < 2 ^ 64)
     (held : ClustersAs w defaults edits v clusters) where
   abbrev view : View
-  view = viewOf w v defaults edits g fs
+  view = viewOf w v defaults edits g (filterWords w fs)
 
   -- the blocks from row index on
   abbrev pub blocks : ℕ → List Placed
@@ -97,11 +98,11 @@ module _ (w defaults edits : List ℕ) (v : Values) (g : Grants) (fs : List Want
 
   matches : (index : ℕ) → (n : ℕ) × Matches index n
   unfolding left
-  matches index = go (takes w defaults edits v g fs clusters formed held (attributeCount w - index) index blockRoom refl)
+  matches index = go (takes w defaults edits v g fs clusters formed fit held (attributeCount w - index) index blockRoom refl)
     where
       -- some place from row i on is not skipped exactly if there is a block
       shown-from : (i : ℕ) → anyShown skip (ahead i) ≡ any (blocks i)
-      shown-from i = more-ahead w defaults edits v g fs clusters formed held (attributeCount w - i) i refl
+      shown-from i = more-ahead w defaults edits v g fs clusters formed fit held (attributeCount w - i) i refl
 
       go : Takes w defaults edits v g fs clusters (ahead index) (taken blockRoom (blocks index)) → (n : ℕ) × Matches index n
       go (none e) =

@@ -1,8 +1,8 @@
 -- A read of everything, row by row: the blocks ahead are the values of those attributes that the panel may read and that its filters do not skip.
-use mathlib.Core.Path.{_≡_, refl, _∙_}
+use mathlib.Core.Path.{_≡_, refl, ap, _∙_}
 use mathlib.Core.Bool.{Bool, true, false, not, _&&_}
 use mathlib.Core.List.{List, [], _∷_}
-use Prim.Native.Nat.{ℕ, suc, _+_, _-_, _≤_, _<_}
+use Prim.Native.Nat.{ℕ, suc, _+_, _-_, _^_, _≤_, _<_}
 use native.Mathlib.Omega.{arith}
 use lib.Dec.{eqb}
 use lib.ListN.{getD}
@@ -25,9 +25,10 @@ use Rattle.selection.specs.declared.asked.Asked.{Asked}
 use Rattle.selection.specs.declared.items.Item.the-variants as item
 use Rattle.selection.specs.Status.{unsupportedRead, unsupportedAccess}
 use Rattle.selection.specs.Asked.{askedFor, asksFor, concrete}
-use Rattle.selection.specs.Filters.{skipsAt, skipsOf}
+use Rattle.selection.specs.Filters.{skipsAt, skipsOf, filterWords}
 use Rattle.selection.specs.Items.{silent, readItem, wildcardItem, span, itemAt}
 use Rattle.selection.proofs.AskedLaws.{cluster-of}
+use Rattle.selection.proofs.FilterLaws.{judged-skips}
 use Rattle.report.specs.Blocks.{View, viewOf, valueBlock, blockOf, blockAt, Placed, entry, blocksFrom, pathsBlocks}
 use Rattle.report.proofs.BlockLaws.{path-past, path-step}
 use Rattle.round_trip.specs.Meant.{everything}
@@ -62,7 +63,7 @@ places-past w g i h = let q : attributeCount w - i ≡ 0 = omega arith in rw q
 
 module _ (w defaults edits : List ℕ) (v : Values) (g : Grants) (fs : List Wanted) (clusters : ℕ → Cluster Datum) where
   abbrev view : View
-  view = viewOf w v defaults edits g fs
+  view = viewOf w v defaults edits g (filterWords w fs)
 
   abbrev skip : Place → Bool
   skip = skips (filtersAs w fs) clusters
@@ -73,7 +74,7 @@ module _ (w defaults edits : List ℕ) (v : Values) (g : Grants) (fs : List Want
     skipped : skip (placeAt w i) ≡ true → blocksAt view i ≡ blocksAt view (i + 1) → placesAt w g i ≡ placeAt w i ∷ placesAt w g (i + 1) → Row i
     shown : skip (placeAt w i) ≡ false → blocksAt view i ≡ placed w defaults edits v i ∷ blocksAt view (i + 1) → placesAt w g i ≡ placeAt w i ∷ placesAt w g (i + 1) → Row i
 
-  module _ (formed : wellFormed w ≡ true) (held : ClustersAs w defaults edits v clusters) (i : ℕ) (row : i < attributeCount w) where
+  module _ (formed : wellFormed w ≡ true) (fit : (k : ℕ) → getD (v .versions) k 0 < 2 ^ 32) (held : ClustersAs w defaults edits v clusters) (i : ℕ) (row : i < attributeCount w) where
     abbrev k : ℕ
     k = attributeRow w i .clusterIndex
 
@@ -81,7 +82,8 @@ module _ (w defaults edits : List ℕ) (v : Values) (g : Grants) (fs : List Want
     unfolding skipsOf
     skips-row =
         let there = cluster-of w formed i row in
-        filled-at false (skipsAt w fs (v .versions)) clusterLimit (clusterCount w) k false there
+        ap (λ (l : List Bool). getD l k false) (judged-skips w fs (v .versions) fit)
+        ∙ filled-at false (skipsAt w fs (v .versions)) clusterLimit (clusterCount w) k false there
         ∙ skips-same w (well-formed-rules w .0 formed) k there clusters (getD (v .versions) k 0) (held .versions k there) fs i
 
     -- what may be read and is not skipped has a block

@@ -2,9 +2,10 @@
 use mathlib.Core.Path.{_≡_, refl, sym, ap, _∙_}
 use mathlib.Core.Bool.{Bool, true, false, not, true≢false}
 use mathlib.Core.List.{List, [], _∷_, map}
-use Prim.Native.Nat.{ℕ, zero, suc, _+_, _-_, _<_}
+use Prim.Native.Nat.{ℕ, zero, suc, _+_, _-_, _^_, _<_}
 use native.Mathlib.Omega.{arith}
 use lib.Dec.{leb}
+use lib.ListN.{getD}
 use Rattle.tlv.specs.Tree.{Tree}
 use Rattle.tlv.specs.Value.{Datum}
 use Rattle.interaction.specs.declared.Wanted.{Wanted}
@@ -14,6 +15,7 @@ use Rattle.schema.specs.Check.{wellFormed}
 use Rattle.schema.proofs.BoolLaws.{by-test}
 use Rattle.acl.specs.declared.Grants.{Grants}
 use Rattle.values.specs.declared.Values.{Values}
+use Rattle.selection.specs.Filters.{filterWords}
 use Rattle.selection.proofs.AskedLaws.{cluster-of}
 use Rattle.report.specs.declared.Place as report
 use Rattle.report.specs.Blocks.{Placed, viewOf, valueBlock}
@@ -52,7 +54,7 @@ treesAs w clusters l = map blockTree (map (blockAs w) (map (entryAt clusters) l)
 
 module _ (w defaults edits : List ℕ) (v : Values) (g : Grants) (fs : List Wanted) (clusters : ℕ → Cluster Datum) where
   abbrev blocks : ℕ → List Placed
-  blocks = blocksAt (viewOf w v defaults edits g fs)
+  blocks = blocksAt (viewOf w v defaults edits g (filterWords w fs))
 
   abbrev ahead : ℕ → List Place
   ahead = placesAt w g
@@ -81,7 +83,7 @@ module _ (w defaults edits : List ℕ) (v : Values) (g : Grants) (fs : List Want
         leaves = remaining-past skip p l s n ∙ r .leaves;
       })
 
-  module _ (formed : wellFormed w ≡ true) (held : ClustersAs w defaults edits v clusters) where
+  module _ (formed : wellFormed w ≡ true) (fit : (k : ℕ) → getD (v .versions) k 0 < 2 ^ 32) (held : ClustersAs w defaults edits v clusters) where
     block-same : (i : ℕ) → i < attributeCount w → valueBlock w v defaults edits i ≡ blockAs w (entryAt clusters (placeAt w i))
     unfolding valueBlock
     block-same i row = rw (held .versions (attributeRow w i .clusterIndex) (cluster-of w formed i row), held .values i row)
@@ -95,12 +97,12 @@ module _ (w defaults edits : List ℕ) (v : Values) (g : Grants) (fs : List Want
         some (suc n) (record { end = r .end; last = λ at. r .last _; same = rw (s, block-same i row, r .same); leaves = rw s (r .leaves) })
 
     abbrev at : (i : ℕ) → i < attributeCount w → Row w defaults edits v g fs clusters i
-    at = at-row w defaults edits v g fs clusters formed held
+    at = at-row w defaults edits v g fs clusters formed fit held
 
     -- the m rows from i on
     pub takes : (m i room : ℕ) → attributeCount w - i ≡ m → Takes (ahead i) (taken room (blocks i))
     unfolding taken
-    takes zero i room z = none (rw (blocks-past (viewOf w v defaults edits g fs) i (omega arith)))
+    takes zero i room z = none (rw (blocks-past (viewOf w v defaults edits g (filterWords w fs)) i (omega arith)))
     takes (suc m) i room z = go (at i (omega arith)) (λ room′. takes m (i + 1) room′ (omega arith))
       where
         go : Row w defaults edits v g fs clusters i → ((room′ : ℕ) → Takes (ahead (i + 1)) (taken room′ (blocks (i + 1)))) → Takes (ahead i) (taken room (blocks i))
@@ -113,7 +115,7 @@ module _ (w defaults edits : List ℕ) (v : Values) (g : Grants) (fs : List Want
     -- some place ahead is not skipped exactly if there is a block
     pub more-ahead : (m i : ℕ) → attributeCount w - i ≡ m → anyShown skip (ahead i) ≡ chunk.any (blocks i)
     more-ahead zero i z =
-        rw (blocks-past (viewOf w v defaults edits g fs) i (omega arith), places-past w g i (omega arith))
+        rw (blocks-past (viewOf w v defaults edits g (filterWords w fs)) i (omega arith), places-past w g i (omega arith))
     more-ahead (suc m) i z = go (at i (omega arith)) (more-ahead m (i + 1) (omega arith))
       where
         go : Row w defaults edits v g fs clusters i → anyShown skip (ahead (i + 1)) ≡ chunk.any (blocks (i + 1)) → anyShown skip (ahead i) ≡ chunk.any (blocks i)

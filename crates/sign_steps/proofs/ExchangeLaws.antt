@@ -1,6 +1,6 @@
 -- A REQUEST and A SUCCESS, whatever they ask: the exchange rules decide what the sign does, and the protocol decides the same.
 use mathlib.Core.Path.{_≡_, refl, sym, ap, _∙_}
-use mathlib.Core.Bool.{Bool, true, false, cond, not, or-true}
+use mathlib.Core.Bool.{Bool, true, false, cond, or-true}
 use mathlib.Core.List.{List, []}
 use Prim.Native.Nat.{ℕ, suc, _≤_, _<_}
 use borrow.Author.Tests.{eqb-true, lt-ltb}
@@ -23,6 +23,7 @@ use Rattle.replies.specs.Messages.{envelopeLength, maxMessage}
 use Rattle.server.specs.Receive.{Reaction, stepOf, reacted}
 use Rattle.server.proofs.ReceiveLaws.{served}
 use Rattle.protocol.specs.Model.{Message, success, Node, System, Store, partOf, send, sendAgain, serve}
+use Rattle.refinement.proofs.Sign.{promised}
 use Rattle.sign_steps.proofs.Standing.{Standing}
 use Rattle.sign_steps.proofs.RuleLaws.{fields, repeats, request-step, own, newest, earlier, success-step, newest-only, own-same, newest-same, earlier-same}
 use Rattle.sign_steps.proofs.ServeLaws.{Serving, Served, Valid, silence-as, repeat-as, reaction, reacted-as}
@@ -86,8 +87,8 @@ module _ {w defaults : List ℕ} {g : Grants} {sent : List (List ℕ)} (here : S
     success-same size stores =
         rw (own-same (s .row) (sys .row) (stands .row) x, earlier-same (s .row) (sys .row) (stands .row) turn, newest-same (s .row) (sys .row) (stands .row) turn)
 
-    pub success-served : (now .promised ≡ true → now .turn < maxTurn)
-        → (x ≡ sys .row .exchange → now .promised ≡ true → Valid here (then Next) → (size : ℕ) × Serving here (next size) (then Next))
+    pub success-served : (promised now ≡ true → now .turn < maxTurn)
+        → (x ≡ sys .row .exchange → promised now ≡ true → Valid here (then Next) → (size : ℕ) × Serving here (next size) (then Next))
         → Served here node (success x turn) (reaction here m room)
     success-served turns goes =
         reacted-as here m room (Served here node (success x turn)) (opened statusOpcode x turn found for-status ∙ ap then (success-step now turn x payload status)) (go (own now x) (newest now turn) refl refl success-same)
@@ -96,8 +97,8 @@ module _ {w defaults : List ℕ} {g : Grants} {sent : List (List ℕ)} (here : S
         go false b p q e valid = (0, [], rw (e 0 []) (silence-as here (fields statusOpcode x turn) payload))
         go true false p q e valid = (0, [], rw (e 0 []) (repeat-as here (fields statusOpcode x turn) payload (earlier now turn)))
         go true true p q e valid =
-            let promised : now .promised ≡ true = right (eqb turn (now .turn)) (now .promised) q in
-            let l = lt-ltb (now .turn) maxTurn (turns promised) in
-            let served-here : x ≡ sys .row .exchange = eqb-true x (now .last) (left (eqb x (now .last)) (not (now .closed)) p) ∙ sym (stands .row .exchange) in
-            let (size, h) = goes served-here promised (rw l at valid) in
+            let more : promised now ≡ true = right (eqb turn (now .turn)) (promised now) q in
+            let l = lt-ltb (now .turn) maxTurn (turns more) in
+            let served-here : x ≡ sys .row .exchange = eqb-true x (now .last) (left (eqb x (now .last)) (eqb (now .closed) 0) p) ∙ sym (stands .row .exchange) in
+            let (size, h) = goes served-here more (rw l at valid) in
             (size, [], rw (l, e size [], newest-only now turn q) h)

@@ -22,6 +22,7 @@ use Rattle.acl.specs.declared.Grants.{Grants}
 use Rattle.values.specs.Fresh.{firstVersions, freshValues}
 use Rattle.values.proofs.FreshLaws.{fresh-version}
 use Rattle.replies.specs.Messages.{maxMessage}
+use Rattle.replies.specs.Row.{standingIn}
 use Rattle.server.specs.Start.{freshRow, started}
 use Rattle.server.proofs.StartLaws.{accepted-schema}
 use Rattle.server.proofs.FreshLaws.{fresh-valid}
@@ -60,7 +61,7 @@ module _ (w defaults : List ℕ) (h : accepted w defaults ≡ true) where
     fresh-held = record { versions = λ k l. mod-eq-of-lt (fresh-fit k); values = λ i l. refl }
 
     fresh-row : RowAs w g sent freshRow (begun .row)
-    unfolding freshRow
+    unfolding freshRow standingIn
     fresh-row =
         record {
           exchange = refl;

@@ -1,19 +1,24 @@
 -- A PART of the read of everything: the row that keeps it stands for the protocol's.
 use mathlib.Core.Path.{_≡_, refl, ap, _∙_}
+use mathlib.Core.Bool.{Bool, true, false, not}
 use mathlib.Core.List.{List, [], _∷_}
 use Prim.Native.Nat.{ℕ, _-_, _^_, _<_}
+use lib.Dec.{eqb}
 use lib.ListN.{length, getD}
 use Rattle.tlv.specs.Value.{Datum}
+use Rattle.interaction.specs.declared.Wanted.{Wanted}
 use Rattle.schema.specs.Rows.{attributeCount}
 use Rattle.acl.specs.declared.Grants.{Grants}
 use Rattle.selection.specs.Asked.{askedFor}
+use Rattle.selection.specs.Filters.{filterWords}
+use Rattle.exchange.specs.Rules.{nothing}
 use Rattle.round_trip.specs.Meant.{everything}
 use Rattle.report.specs.declared.Place as report
 use Rattle.report.specs.declared.part.Request.{Request}
 use Rattle.report.specs.Blocks.{Placed, viewOf, blocksFrom}
 use Rattle.replies.specs.declared.Row as replies
 use Rattle.replies.specs.Messages.{maxMessage, reportMessage}
-use Rattle.replies.specs.Row.{keeping, keptReply, pathsOf, filtersOf, blocksOf, reported}
+use Rattle.replies.specs.Row.{keeping, keptReply, pathsOf, blocksOf, nextOf, reported}
 use Rattle.replies.proofs.MessageLaws.{report-length}
 use Rattle.replies.proofs.RowLaws.{kept-back}
 use Rattle.replies.proofs.KeptLaws.{keeping-whole}
@@ -27,11 +32,16 @@ use Rattle.sign_parts.proofs.PartLaws.{Makes, part-made}
 use Rattle.sign_steps.proofs.Standing.{Standing, right-of}
 use Rattle.sign_steps.proofs.ServeLaws.{Serving, part-as}
 
+-- what a success then brings says whether more is promised
+next-promised : (more : Bool) → more ≡ not (eqb (nextOf more) nothing)
+next-promised true = refl
+next-promised false = refl
+
 module _ {w defaults : List ℕ} {g : Grants} {sent : List (List ℕ)} (here : Standing w defaults g sent) (words-fit : (k : ℕ) → getD w k 0 < 2 ^ 64) where
   open Standing here using (edits, state as s, system as sys, stands)
 
-  -- a request for everything, and the place that it has come to
-  module _ (x turn : ℕ) (q : Request) (index : ℕ) (all : pathsOf q ≡ askedFor everything ∷ []) where
+  -- a request for everything with these filters, and the place that it has come to
+  module _ (x turn : ℕ) (q : Request) (index : ℕ) (all : pathsOf q ≡ askedFor everything ∷ []) (fs : List Wanted) (judged : q .filters ≡ filterWords w fs) where
     abbrev at : report.Place
     at = record { path = 0; index = index }
 
@@ -44,13 +54,13 @@ module _ {w defaults : List ℕ} {g : Grants} {sent : List (List ℕ)} (here : S
 
     -- the part of the protocol, of so many entries
     abbrev part : (ℕ → ℕ) → ℕ → Part Datum
-    part since size = partOf (sys .clusters) x turn (readableFrom w g (attributeCount w - index) index) (filtersAs w (filtersOf q)) since size
+    part since size = partOf (sys .clusters) x turn (readableFrom w g (attributeCount w - index) index) (filtersAs w fs) since size
 
     abbrev Made : Part Datum → Type 0
-    Made = Makes w defaults edits (s .values) g (filtersOf q) (sys .clusters) (right-of here .schema) (right-of here .values) (stands .versions-fit) words-fit (stands .held) x turn index
+    Made = Makes w defaults edits (s .values) g fs (sys .clusters) (right-of here .schema) (right-of here .values) (stands .versions-fit) words-fit (stands .held) x turn index
 
-    same-blocks : blocks ≡ blocksFrom (viewOf w (s .values) defaults edits g (filtersOf q)) (askedFor everything ∷ []) at
-    same-blocks = ap (λ ps. blocksFrom (viewOf w (s .values) defaults edits g (filtersOf q)) ps at) all
+    same-blocks : blocks ≡ blocksFrom (viewOf w (s .values) defaults edits g (filterWords w fs)) (askedFor everything ∷ []) at
+    same-blocks = λ j. blocksFrom (viewOf w (s .values) defaults edits g (judged j)) (all j) at
 
     kept-bytes : keptReply row ≡ reportMessage x turn blocks
     kept-bytes = kept-back (s .row) (stands .row .whole) _ _ _ _ (report-length x turn blocks)
@@ -64,9 +74,9 @@ module _ {w defaults : List ℕ} {g : Grants} {sent : List (List ℕ)} (here : S
         record {
           exchange = refl;
           turn = refl;
-          more = rw same-blocks (m .more);
+          more = rw same-blocks (m .more ∙ next-promised _);
           closed = refl;
-          going = λ h. record { paths = all; filters = refl; path = rw same-blocks (m .path h); ahead = rw same-blocks (m .ahead h) };
+          going = λ h. record { paths = all; asked = fs; judged = judged; filters = refl; path = rw same-blocks (m .path h); ahead = rw same-blocks (m .ahead h) };
           kept = reports (part since size) (kept-bytes ∙ ap (reportMessage x turn) same-blocks ∙ m .bytes) refl (m .right);
           whole = kept-whole;
         }
@@ -74,5 +84,5 @@ module _ {w defaults : List ℕ} {g : Grants} {sent : List (List ℕ)} (here : S
     -- A PART is made, and the sign replies with it
     pub part-served : x < 2 ^ 40 → turn < 2 ^ 16 → (since : ℕ → ℕ) → ValidSign w defaults edits (withRow s row) → (size : ℕ) × Serving here (send sys (part since size)) (replied s edits row)
     part-served fx ft since valid =
-        let (size, m) = part-made w defaults edits (s .values) g (filtersOf q) (sys .clusters) (right-of here .schema) (right-of here .values) (stands .versions-fit) words-fit (stands .held) x turn index since fx ft in
+        let (size, m) = part-made w defaults edits (s .values) g fs (sys .clusters) (right-of here .schema) (right-of here .values) (stands .versions-fit) words-fit (stands .held) x turn index since fx ft in
         (size, part-as here row (part since size) valid (row-as since size m))

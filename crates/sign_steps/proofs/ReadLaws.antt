@@ -1,5 +1,5 @@
 -- WHAT A PANEL'S READ ASKS, as a sign's row has it: everything, with the filters that were given; its first part and its next ones.
-use mathlib.Core.Path.{_≡_, refl, sym}
+use mathlib.Core.Path.{_≡_, refl, sym, ap}
 use mathlib.Core.List.{List, [], _∷_}
 use Prim.Native.Nat.{ℕ, suc, _+_, _-_, _^_, _≤_, _<_}
 use native.Mathlib.Omega.{arith}
@@ -9,15 +9,17 @@ use Rattle.tlv.specs.Value.{Datum}
 use Rattle.interaction.specs.declared.Wanted.{Wanted}
 use Rattle.interaction.specs.Message.{firstOf}
 use Rattle.interaction.specs.Read.{maxFilters, unwanted, readIn, readRead}
-use Rattle.schema.specs.Rows.{attributeCount}
+use Rattle.schema.specs.Rows.{attributeCount, rowsFrom}
 use Rattle.acl.specs.declared.Grants.{Grants}
 use Rattle.selection.specs.Asked.{askedFor}
+use Rattle.selection.specs.Filters.{filterWords}
+use Rattle.selection.specs.Request.{pathsWords, askedAt}
 use Rattle.round_trip.specs.Meant.{everything, readAnswer}
 use Rattle.report.specs.declared.Place as report
 use Rattle.report.specs.declared.part.Request.{Request}
 use Rattle.exchange.specs.Rules.{maxTurn}
 use Rattle.writes.proofs.StatusLaws.{take-first}
-use Rattle.replies.specs.Row.{pathsOf, filtersOf, blocksOf, reported, nextPart}
+use Rattle.replies.specs.Row.{pathsOf, blocksOf, reported, nextPart}
 use Rattle.replies.specs.Begin.{beginningPlace, requestOf, readBegun}
 use Rattle.replies.proofs.RowLaws.{row-right}
 use Rattle.replies.proofs.BeginLaws.{read-answered}
@@ -30,17 +32,17 @@ use Rattle.sign_steps.proofs.ServeLaws.{Serving, Valid}
 use Rattle.sign_steps.proofs.PartLaws.{part-served}
 
 -- the request of a read with these filters
-module _ (fs : List Wanted) where
+module _ (w : List ℕ) (fs : List Wanted) where
   abbrev request : Request
-  request = requestOf (readAnswer fs)
+  request = requestOf w (readAnswer fs)
 
   all-asked : pathsOf request ≡ askedFor everything ∷ []
-  unfolding requestOf firstOf
+  unfolding requestOf firstOf pathsWords askedAt rowsFrom
   all-asked = refl
 
-  filters-asked : length fs ≤ maxFilters → filtersOf request ≡ fs
+  filters-judged : length fs ≤ maxFilters → request .filters ≡ filterWords w fs
   unfolding requestOf
-  filters-asked few = take-first maxFilters unwanted fs (length fs) refl few
+  filters-judged few = ap (filterWords w) (take-first maxFilters unwanted fs (length fs) refl few)
 
 module _ {w defaults : List ℕ} {g : Grants} {sent : List (List ℕ)} (here : Standing w defaults g sent) (words-fit : (k : ℕ) → getD w k 0 < 2 ^ 64) where
   open Standing here using (edits, state as s, system as sys, stands)
@@ -54,17 +56,17 @@ module _ {w defaults : List ℕ} {g : Grants} {sent : List (List ℕ)} (here : S
     abbrev first : ℕ → Part Datum
     first size = partOf (sys .clusters) x 1 (nodeOf w defaults start g .readable) (filtersAs w fs) (changesOf (sys .clusters)) size
 
-    begun-as : readBegun w (s .values) defaults edits g (s .row) x payload ≡ reported (s .row) x 1 (request fs) beginningPlace (blocksOf w (s .values) defaults edits g (request fs) beginningPlace)
-    begun-as = read-answered payload (sym read) w (s .values) defaults edits g (s .row) x refl refl
+    begun-as : readBegun w (s .values) defaults edits g (s .row) x payload ≡ reported (s .row) x 1 (request w fs) beginningPlace (blocksOf w (s .values) defaults edits g (request w fs) beginningPlace)
+    begun-as = read-answered payload (sym read) w (s .values) defaults edits g (s .row) x refl
 
-    same-first : (size : ℕ) → partOf (sys .clusters) x 1 (readableFrom w g (attributeCount w - 0) 0) (filtersAs w (filtersOf (request fs))) (changesOf (sys .clusters)) size ≡ first size
+    same-first : (size : ℕ) → partOf (sys .clusters) x 1 (readableFrom w g (attributeCount w - 0) 0) (filtersAs w fs) (changesOf (sys .clusters)) size ≡ first size
     same-first size =
         let whole : attributeCount w - 0 ≡ attributeCount w = omega arith in
-        rw (whole, filters-asked fs few)
+        rw whole
 
     pub first-served : Valid here begun → (size : ℕ) × Serving here (send sys (first size)) begun
     first-served valid =
-        let (size, m) = part-served here words-fit x 1 (request fs) 0 (all-asked fs) fx (omega arith) (changesOf (sys .clusters)) (rw begun-as at valid) in
+        let (size, m) = part-served here words-fit x 1 (request w fs) 0 (all-asked w fs) fs (filters-judged w fs few) fx (omega arith) (changesOf (sys .clusters)) (rw begun-as at valid) in
         (size, rw (begun-as, ← (same-first size)) m)
 
   -- THE NEXT PART, of a read that goes on
@@ -85,11 +87,11 @@ module _ {w defaults : List ℕ} {g : Grants} {sent : List (List ℕ)} (here : S
     unfolding nextPart
     after-as = rw same-place
 
-    same-next : (size : ℕ) → partOf (sys .clusters) (s .row .progress .last) (s .row .progress .turn + 1) (readableFrom w g (attributeCount w - s .row .place .index) (s .row .place .index)) (filtersAs w (filtersOf (s .row .request))) (sys .row .since) size ≡ next size
+    same-next : (size : ℕ) → partOf (sys .clusters) (s .row .progress .last) (s .row .progress .turn + 1) (readableFrom w g (attributeCount w - s .row .place .index) (s .row .place .index)) (filtersAs w (going .asked)) (sys .row .since) size ≡ next size
     same-next size = rw (own, stands .row .exchange, stands .row .turn, going .ahead, going .filters, add-one)
 
     pub next-served : Valid here after → (size : ℕ) × Serving here (send sys (next size)) after
     next-served valid =
         let l = row-right (s .row) (right-of here .row) .exchange in
-        let (size, m) = part-served here words-fit (s .row .progress .last) (s .row .progress .turn + 1) (s .row .request) (s .row .place .index) (going .paths) l (omega (arith, left, stands .row .turn)) (sys .row .since) (rw after-as at valid) in
+        let (size, m) = part-served here words-fit (s .row .progress .last) (s .row .progress .turn + 1) (s .row .request) (s .row .place .index) (going .paths) (going .asked) (going .judged) l (omega (arith, left, stands .row .turn)) (sys .row .since) (rw after-as at valid) in
         (size, rw (after-as, ← (same-next size)) m)

@@ -1,6 +1,6 @@
 -- THE EXCHANGE RULES: the tests of the code and those of the protocol are the same.
 use mathlib.Core.Path.{_≡_, refl}
-use mathlib.Core.Bool.{Bool, true, false, not, _&&_, and-false, and-assoc, and-comm}
+use mathlib.Core.Bool.{Bool, true, false, not, _&&_, and-false, and-assoc, and-comm, Bool·not-not}
 use mathlib.Core.List.{List}
 use Prim.Native.Nat.{ℕ, suc, _+_}
 use native.Mathlib.Omega.{arith}
@@ -20,7 +20,7 @@ use Rattle.exchange.specs.Rules.{statusOpcode, maxTurn, beginning, onRequest, o
 use Rattle.replies.specs.declared.Row as replies
 use Rattle.server.specs.Receive.{stepOf}
 use Rattle.protocol.specs.Model.{Row}
-use Rattle.refinement.proofs.Sign.{RowAs}
+use Rattle.refinement.proofs.Sign.{promised, RowAs}
 
 abbrev pub fields : ℕ → ℕ → ℕ → Fields
 fields opcode x turn = record { edition = 0; opcode = opcode; exchange = x; turn = turn }
@@ -28,7 +28,7 @@ fields opcode x turn = record { edition = 0; opcode = opcode; exchange = x; turn
 module _ (p : Progress) (x : ℕ) where
   -- the request of the exchange whose first reply is the newest
   abbrev pub repeats : Bool
-  repeats = eqb x (p .last) && (eqb (p .turn) 1 && not (p .closed))
+  repeats = eqb x (p .last) && (eqb (p .turn) 1 && eqb (p .closed) 0)
 
   pub request-step : (opcode : ℕ) → beginning opcode ≡ true → (payload : List ℕ) → stepOf p (fields opcode x 0) payload ≡ pick (ltb (p .last) x) Begin (pick repeats Repeat Silence)
   unfolding stepOf onRequest
@@ -36,12 +36,12 @@ module _ (p : Progress) (x : ℕ) where
 
   -- a message of the exchange that is served
   abbrev pub own : Bool
-  own = eqb x (p .last) && not (p .closed)
+  own = eqb x (p .last) && eqb (p .closed) 0
 
 module _ (p : Progress) (turn : ℕ) where
   -- a success for the newest reply, and one for the reply before that
   abbrev pub newest : Bool
-  newest = eqb turn (p .turn) && p .promised
+  newest = eqb turn (p .turn) && promised p
 
   abbrev pub earlier : Bool
   earlier = leb 1 turn && eqb (turn + 1) (p .turn)
@@ -62,10 +62,10 @@ module _ {w : List ℕ} {g : Grants} {sent : List (List ℕ)} (y : replies.Row) 
 
   pub repeats-same : (x : ℕ) → (eqb x (r .exchange) && eqb (r .turn) 1 && not (r .closed)) ≡ repeats (y .progress) x
   repeats-same x =
-      rw (h .exchange, h .turn, h .closed) (and-assoc (eqb x (y .progress .last)) (eqb (y .progress .turn) 1) (not (y .progress .closed)))
+      rw (h .exchange, h .turn, h .closed, Bool·not-not (eqb (y .progress .closed) 0)) (and-assoc (eqb x (y .progress .last)) (eqb (y .progress .turn) 1) (eqb (y .progress .closed) 0))
 
   pub own-same : (x : ℕ) → (eqb x (r .exchange) && not (r .closed)) ≡ own (y .progress) x
-  own-same x = rw (h .exchange, h .closed)
+  own-same x = rw (h .exchange, h .closed, Bool·not-not (eqb (y .progress .closed) 0))
 
   pub newest-same : (turn : ℕ) → (eqb turn (r .turn) && r .more) ≡ newest (y .progress) turn
   newest-same turn = rw (h .turn, h .more)

@@ -1,12 +1,12 @@
 -- A WRITE of the panel, of one entry: at most one change of the protocol, and an answer that is no part of a report.
 use mathlib.Core.Path.{_≡_, refl, sym, ap, _∙_}
 use mathlib.Core.Logic.{inl, inr}
-use mathlib.Core.Bool.{Bool, true≢false}
+use mathlib.Core.Bool.{Bool, not, true≢false}
 use mathlib.Core.List.{List, [], _∷_, List·Memᴰ}
 use Prim.Native.Nat.{ℕ, _^_, _<_}
 use native.Mathlib.Omega.{arith}
 use lib.Dec.{eqb}
-use lib.ListN.{drop}
+use lib.ListN.{length, drop}
 use Rattle.tlv.specs.Octet.{pick}
 use Rattle.tlv.specs.Value.{Datum, valueIn}
 use Rattle.members.specs.Scalar.{ABSENT}
@@ -24,15 +24,14 @@ use Rattle.writes.proofs.EntryLaws.{may-index}
 use Rattle.writes.proofs.StatusLaws.{codes-octets}
 use Rattle.cache_request.specs.Messages.{writeMessage}
 use Rattle.exchange.specs.declared.Progress.{Progress}
-use Rattle.replies.specs.Messages.{statusMessage, responseMessage}
+use Rattle.replies.specs.Messages.{maxMessage, statusMessage, responseMessage}
 use Rattle.replies.specs.Row.{keeping, keptReply}
 use Rattle.replies.specs.Begin.{Left, answered, responseTo, writeBy, writeBegun}
-use Rattle.replies.proofs.KeptLaws.{write-reply}
+use Rattle.replies.proofs.KeptLaws.{keeping-whole, write-reply}
 use Rattle.server.specs.Receive.{wrote}
-use Rattle.server.proofs.ReactLaws.{write-whole}
 use Rattle.protocol.specs.Model.{System, Store, storeAll, written}
 use Rattle.refinement.proofs.Bytes.{WriteFits, answerBytes, answers}
-use Rattle.refinement.proofs.Sign.{RowAs}
+use Rattle.refinement.proofs.Sign.{promised, RowAs}
 use Rattle.sign_steps.proofs.Standing.{Standing}
 use Rattle.sign_steps.proofs.ChangeLaws.{heldBy, Reached, placed-as, stored-beside}
 use Rattle.sign_steps.proofs.ServeLaws.{Serving, Valid}
@@ -65,6 +64,11 @@ module _ {w defaults : List ℕ} {g : Grants} {sent : List (List ℕ)} (here : S
     unfolding writeBegun keeping firstOf
     begun-progress = ap (λ (q : WriteRequest). writeBy w g defaults now (s .row) x payload q .row .progress) read
 
+    begun-whole : length (begun .row .kept) ≡ maxMessage
+    unfolding writeBegun firstOf
+    begun-whole =
+        ap (λ (q : WriteRequest). length (writeBy w g defaults now (s .row) x payload q .row .kept)) read ∙ keeping-whole (s .row) _ _ _ _ ∙ stands .row .whole
+
     begun-reply : keptReply (begun .row) ≡ answerBytes x outcome
     unfolding codesOf firstOf responseMessage responsePayload answerTrees answerBytes
     begun-reply =
@@ -81,11 +85,11 @@ module _ {w defaults : List ℕ} {g : Grants} {sent : List (List ℕ)} (here : S
         record {
           exchange = sym (ap (λ (p : Progress). p .last) begun-progress);
           turn = sym (ap (λ (p : Progress). p .turn) begun-progress);
-          more = sym (ap (λ (p : Progress). p .promised) begun-progress);
-          closed = sym (ap (λ (p : Progress). p .closed) begun-progress);
+          more = sym (ap promised begun-progress);
+          closed = sym (ap (λ (p : Progress). not (eqb (p .closed) 0)) begun-progress);
           going = λ h. absurd (true≢false (sym h));
           kept = answers x outcome begun-reply refl fx outcome-fits (record { given = given; version = version; value = d; fits = fits; there = there });
-          whole = write-whole w g defaults now (s .row) x payload ∙ stands .row .whole;
+          whole = begun-whole;
         }
 
     reached : Reached here (entryWritten w g defaults payload now entry .held)

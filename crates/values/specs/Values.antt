@@ -18,6 +18,10 @@ use Rattle.node.specs.Attributes.{kindOf}
 use Rattle.node.specs.Pages.{shownText}
 use Rattle.values.specs.declared.Values.{Values}
 
+-- the values, of arrays that are lent
+abbrev pub valuesOf : List ℕ → List Bool → List Bool → List ℕ → Values
+valuesOf words nulls edited versions = record { words = words; nulls = nulls; edited = edited; versions = versions }
+
 -- the shown text of attribute i, with the length and the mark that it is stored with: "that very part of one page or the other"
 unfoldable pub textAt : List ℕ → List ℕ → List ℕ → ℕ → ℕ → Bool → List ℕ
 textAt w defaults edits i word edited =

@@ -8,9 +8,8 @@ ghost use Rattle.tlv.specs.Value.{datumIn};
 ghost use Rattle.schema.specs.Layout.{attributeLimit, clusterLimit};
 ghost use Rattle.schema.specs.Rows.{attributeRow};
 ghost use Rattle.node.specs.Pages.{place};
-ghost use Rattle.values.specs.Values.{textAt};
+ghost use Rattle.values.specs.Values.{valuesOf, textAt};
 ghost use Rattle.values.specs.Change.{textOf, isText, wordFor, differsFrom, setAt, editsSet, storedValues, storedEdits};
-use super::Values;
 use super::text_at;
 use kinds::limits::is_null;
 use kinds::stored::next_version;
@@ -18,6 +17,8 @@ use kinds::stored::same_bytes;
 use kinds::stored::word_of;
 use node::pages::part;
 use node::pages::store_text;
+use schema::ATTRIBUTES;
+use schema::CLUSTERS;
 use schema::WORDS;
 use tlv::Value;
 
@@ -88,19 +89,26 @@ fn differs_at<'a>(
 }
 
 // Attribute i holds another value from now on.
-pub fn set_value(w: &[u64; WORDS], v: Values, i: usize, new: Value, src: &[u8]) -> Values
+pub fn set_value(
+    w: &[u64; WORDS],
+    words: &mut [u64; ATTRIBUTES],
+    nulls: &mut [bool; ATTRIBUTES],
+    edited: &mut [bool; ATTRIBUTES],
+    versions: &mut [u32; CLUSTERS],
+    i: usize,
+    new: Value,
+    src: &[u8],
+)
     requires { ⌜ (i < attributeLimit) × (attributeRow (now w) i .clusterIndex < clusterLimit) ⌝ }
-    ensures { λ r. ⌜ r ≡ setAt (now (w .entry)) v i (datumIn (now (src .entry)) new) ⌝ }
+    ensures { λ _. ⌜ valuesOf (now (words .exit)) (now (nulls .exit)) (now (edited .exit)) (now (versions .exit)) ≡ setAt (now (w .entry)) (valuesOf (now (words .entry)) (now (nulls .entry)) (now (edited .entry)) (now (versions .entry))) i (datumIn (now (src .entry)) new) ⌝ }
 {
-    let mut next = v;
     let k = schema::attribute_cluster(w, i);
-    next.words[i] = stored_word(new, src);
-    next.nulls[i] = is_null(new);
+    words[i] = stored_word(new, src);
+    nulls[i] = is_null(new);
     if is_text(new) {
-        next.edited[i] = true;
+        edited[i] = true;
     }
-    next.versions[k] = next_version(next.versions[k]);
-    next
+    versions[k] = next_version(versions[k]);
 }
 
 // Its text, if it is one, goes to its place in the page of edits.
@@ -119,20 +127,29 @@ pub fn store<'a>(
     w: &'a [u64; WORDS],
     defaults: &'a [u8],
     edits: &mut [u8],
-    v: Values,
+    words: &mut [u64; ATTRIBUTES],
+    nulls: &mut [bool; ATTRIBUTES],
+    edited: &mut [bool; ATTRIBUTES],
+    versions: &mut [u32; CLUSTERS],
     i: usize,
     new: Value,
     src: &'a [u8],
-) -> Values
+)
     requires { ⌜ (i < attributeLimit) × (attributeRow (now w) i .clusterIndex < clusterLimit) × (isText (datumIn (now src) new) ≡ true → place (attributeRow (now w) i .first) + length (textOf (datumIn (now src) new)) ≤ length (now edits)) ⌝ }
-    ensures { λ r. ⌜ (r ≡ storedValues (now (w .entry)) (now (defaults .entry)) (now (edits .entry)) v i (datumIn (now (src .entry)) new)) × (now (edits .exit) ≡ storedEdits (now (w .entry)) (now (defaults .entry)) (now (edits .entry)) v i (datumIn (now (src .entry)) new)) ⌝ }
+    ensures { λ _. ⌜ (valuesOf (now (words .exit)) (now (nulls .exit)) (now (edited .exit)) (now (versions .exit)) ≡ storedValues (now (w .entry)) (now (defaults .entry)) (now (edits .entry)) (valuesOf (now (words .entry)) (now (nulls .entry)) (now (edited .entry)) (now (versions .entry))) i (datumIn (now (src .entry)) new)) × (now (edits .exit) ≡ storedEdits (now (w .entry)) (now (defaults .entry)) (now (edits .entry)) (valuesOf (now (words .entry)) (now (nulls .entry)) (now (edited .entry)) (now (versions .entry))) i (datumIn (now (src .entry)) new)) ⌝ }
 {
-    let word = v.words[i];
-    let null = v.nulls[i];
-    let edited = v.edited[i];
-    if !differs_at(w, defaults, edits, i, word, null, edited, new, src) {
-        return v;
+    if differs_at(
+        w,
+        defaults,
+        edits,
+        i,
+        words[i],
+        nulls[i],
+        edited[i],
+        new,
+        src,
+    ) {
+        set_text(w, edits, i, new, src);
+        set_value(w, words, nulls, edited, versions, i, new, src);
     }
-    set_text(w, edits, i, new, src);
-    set_value(w, v, i, new, src)
 }

@@ -2,8 +2,8 @@
 ghost use mathlib.Core.Path.{_≡_};
 ghost use mathlib.Core.Bool.{true};
 ghost use Rattle.schema.specs.Check.{wellFormed};
+ghost use Rattle.values.specs.Values.{valuesOf};
 ghost use Rattle.values.specs.Fresh.{firstWords, firstVersions, freshValues};
-use super::Values;
 use node::decode::first_word;
 use schema::ATTRIBUTES;
 use schema::CLUSTERS;
@@ -36,14 +36,19 @@ fn first_versions(w: &[u64; WORDS]) -> [u32; CLUSTERS]
     versions
 }
 
-pub fn fresh(w: &[u64; WORDS]) -> Values
+// A fresh sign's values, whatever stood there.
+pub fn fresh(
+    w: &[u64; WORDS],
+    words: &mut [u64; ATTRIBUTES],
+    nulls: &mut [bool; ATTRIBUTES],
+    edited: &mut [bool; ATTRIBUTES],
+    versions: &mut [u32; CLUSTERS],
+)
     requires { ⌜ wellFormed (now w) ≡ true ⌝ }
-    ensures { λ r. ⌜ r ≡ freshValues (now (w .entry)) ⌝ }
+    ensures { λ _. ⌜ valuesOf (now (words .exit)) (now (nulls .exit)) (now (edited .exit)) (now (versions .exit)) ≡ freshValues (now (w .entry)) ⌝ }
 {
-    Values {
-        words: first_words(w),
-        nulls: [false; ATTRIBUTES],
-        edited: [false; ATTRIBUTES],
-        versions: first_versions(w),
-    }
+    *words = first_words(w);
+    *nulls = [false; ATTRIBUTES];
+    *edited = [false; ATTRIBUTES];
+    *versions = first_versions(w);
 }

@@ -12,8 +12,7 @@ use Rattle.interaction.proofs.KeepLaws.{length-snoc, first-none, keep-one}
 use Rattle.interaction_write.specs.declared.Entry.{Entry}
 use Rattle.interaction_write.specs.Write.{maxWrites}
 use Rattle.acl.specs.declared.Grants.{Grants}
-use Rattle.writes.specs.declared.Written.{Written}
-use Rattle.writes.specs.Offer.{Held, writtenOf}
+use Rattle.writes.specs.Offer.{Held, Outcome}
 use Rattle.writes.specs.Entry.{entryWritten, heldAfter, codesOf, codesIn}
 
 -- one of the first n of a list, and those after it
@@ -40,21 +39,19 @@ module _ (w : List ℕ) (g : Grants) (defaults s : List ℕ) where
   writing-begins h xs = record { seen = []; counted = refl; kept = sym (first-none maxWrites 0); statuses = refl; leads = refl }
 
   module _ {first : Held} {xs : List Entry} {h : Held} {codes : List ℕ} {i : ℕ} (u : Writing first xs h codes i) where
-    pub writing-goes : (x : Entry) (one : Written) (edits : List ℕ) → i < maxWrites → drop i xs ≡ x ∷ drop (i + 1) xs → one ≡ writtenOf (entryWritten w g defaults s h x) → edits ≡ entryWritten w g defaults s h x .held .edits → Writing first xs (record { values = one .values; edits = edits }) (set codes i (one .code)) (i + 1)
+    pub writing-goes : (x : Entry) (o : Outcome) → i < maxWrites → drop i xs ≡ x ∷ drop (i + 1) xs → o ≡ entryWritten w g defaults s h x → Writing first xs (o .held) (set codes i (o .code)) (i + 1)
     unfolding codesOf heldAfter
-    writing-goes x one edits l here e f =
-        let o = entryWritten w g defaults s h x in
-        let same : record { values = one .values; edits = edits } ≡ o .held = λ j. record { values = e j .values; edits = f j } in
+    writing-goes x o l here e =
         record {
           seen = snoc (u .seen) (o .code);
           counted = omega (arith, length-snoc (u .seen) (o .code), u .counted);
-          kept = (λ j. set (u .kept j) (sym (u .counted) j) (e j .code)) ∙ store-one maxWrites 0 (u .seen) (o .code) (omega (arith, u .counted));
+          kept = (λ j. set (u .kept j) (sym (u .counted) j) (o .code)) ∙ store-one maxWrites 0 (u .seen) (o .code) (omega (arith, u .counted));
           statuses =
               u .statuses
               ∙ ap (λ (r : List Entry). u .seen ++ codesOf w g defaults s h r) here
-              ∙ ap (λ (k : Held). u .seen ++ (o .code ∷ codesOf w g defaults s k (drop (i + 1) xs))) (sym same)
-              ∙ sym (append-assoc (u .seen) (o .code ∷ []) (codesOf w g defaults s (record { values = one .values; edits = edits }) (drop (i + 1) xs)));
-          leads = u .leads ∙ ap (heldAfter w g defaults s h) here ∙ ap (λ (k : Held). heldAfter w g defaults s k (drop (i + 1) xs)) (sym same);
+              ∙ ap (λ (k : Outcome). u .seen ++ (k .code ∷ codesOf w g defaults s (k .held) (drop (i + 1) xs))) (sym e)
+              ∙ sym (append-assoc (u .seen) (o .code ∷ []) (codesOf w g defaults s (o .held) (drop (i + 1) xs)));
+          leads = u .leads ∙ ap (heldAfter w g defaults s h) here ∙ ap (λ (k : Outcome). heldAfter w g defaults s (k .held) (drop (i + 1) xs)) (sym e);
         }
 
     pub writing-ends : length xs ≤ i → (heldAfter w g defaults s first xs ≡ h) × (codes ≡ codesIn (codesOf w g defaults s first xs))

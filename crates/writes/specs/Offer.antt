@@ -1,4 +1,5 @@
 -- A value offered to an attribute, and a local change (document 01, What the sign answers, and When either end says no).
+use mathlib.Core.Bool.{Bool}
 use mathlib.Core.List.{List}
 use Prim.Native.Nat.{ℕ}
 use lib.Dec.{eqb}
@@ -10,16 +11,20 @@ use Rattle.kinds.specs.Limits.{statusCode, judgedIn}
 use Rattle.schema.specs.Rows.{attributeRow}
 use Rattle.node.specs.Attributes.{kindOf}
 use Rattle.values.specs.declared.Values.{Values}
+use Rattle.values.specs.Values.{valuesOf}
 use Rattle.values.specs.Change.{storedValues, storedEdits}
 use Rattle.selection.specs.declared.locate.Located.{Located}
 use Rattle.selection.specs.declared.locate.Located.the-variants.{Here, Refused}
 use Rattle.selection.specs.Locate.{located}
-use Rattle.writes.specs.declared.Written.{Written}
 
 -- what storing moves: the values and the page of edits
 pub record Held : Type 0 where
   pub values : Values
   pub edits : List ℕ
+
+-- the same, of arrays that are lent
+abbrev pub heldOf : List ℕ → List Bool → List Bool → List ℕ → List ℕ → Held
+heldOf words nulls edited versions edits = record { values = valuesOf words nulls edited versions; edits = edits }
 
 -- the status that a value gets, and what is held afterwards
 pub record Outcome : Type 0 where
@@ -56,7 +61,3 @@ byPlace w defaults h src new (Refused code) = refused h code
 -- A LOCAL CHANGE: "the first that applies of 7F, C3, 86, 8D, 87, 00, and touches nothing unless it is 00"
 unfoldable pub changed : List ℕ → List ℕ → Held → ℕ → ℕ → ℕ → List ℕ → Value → Outcome
 changed w defaults h e c a src new = byPlace w defaults h src new (located w e c a)
-
--- as the code has it; the page of edits is lent
-abbrev pub writtenOf : Outcome → Written
-writtenOf o = record { code = o .code; values = o .held .values }

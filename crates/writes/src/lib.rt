@@ -6,54 +6,57 @@ ghost use lib.ListN.{length};
 ghost use Rattle.schema.specs.Layout.{textSize};
 ghost use Rattle.schema.specs.Rows.{attributeCount};
 ghost use Rattle.schema.specs.Check.{wellFormed, textCount};
-ghost use Rattle.writes.specs.Offer.{offered, changed, writtenOf};
+ghost use Rattle.writes.specs.Offer.{heldOf, offered, changed};
 use kinds::Verdict;
 use kinds::limits::judge;
 use kinds::limits::status_code;
 use node::decode::kind_of;
+use schema::ATTRIBUTES;
+use schema::CLUSTERS;
 use schema::WORDS;
 use selection::locate::Located;
 use selection::locate::locate;
 use tlv::Value;
-use values::Values;
 use values::change::store;
 
 pub mod entry; // entry.rt: the entries of a write action
 pub mod response; // response.rt: the statuses of a write, written
-
-// The status that a value gets, and the values afterwards.
-pub struct Written {
-    pub code: u8,
-    pub values: Values,
-}
 
 // A value offered to attribute i: 8D, 87, or 00 stored.
 pub fn offer<'a>(
     w: &'a [u64; WORDS],
     defaults: &'a [u8],
     edits: &mut [u8],
-    v: Values,
+    words: &mut [u64; ATTRIBUTES],
+    nulls: &mut [bool; ATTRIBUTES],
+    edited: &mut [bool; ATTRIBUTES],
+    versions: &mut [u32; CLUSTERS],
     i: usize,
     new: Value,
     src: &'a [u8],
-) -> Written
+) -> u8
     requires { ⌜ (wellFormed (now w) ≡ true) × ((i < attributeCount (now w)) × (length (now edits) ≡ textSize * textCount (now w))) ⌝ }
-    ensures { λ r. ⌜ (r ≡ writtenOf (offered (now (w .entry)) (now (defaults .entry)) (record { values = v; edits = now (edits .entry) }) i (now (src .entry)) new)) × (now (edits .exit) ≡ offered (now (w .entry)) (now (defaults .entry)) (record { values = v; edits = now (edits .entry) }) i (now (src .entry)) new .held .edits) ⌝ }
+    ensures { λ r. ⌜ record { code = r; held = heldOf (now (words .exit)) (now (nulls .exit)) (now (edited .exit)) (now (versions .exit)) (now (edits .exit)) } ≡ offered (now (w .entry)) (now (defaults .entry)) (heldOf (now (words .entry)) (now (nulls .entry)) (now (edited .entry)) (now (versions .entry)) (now (edits .entry))) i (now (src .entry)) new ⌝ }
 {
     let verdict = judge(kind_of(w, i), schema::is_nullable(w, i), new, src);
     match verdict {
-        Verdict::Success => Written {
-            code: status_code(Verdict::Success),
-            values: store(w, defaults, edits, v, i, new, src),
-        },
-        Verdict::ConstraintError => Written {
-            code: status_code(Verdict::ConstraintError),
-            values: v,
-        },
-        Verdict::InvalidDataType => Written {
-            code: status_code(Verdict::InvalidDataType),
-            values: v,
-        },
+        Verdict::Success => {
+            store(
+                w,
+                defaults,
+                edits,
+                words,
+                nulls,
+                edited,
+                versions,
+                i,
+                new,
+                src,
+            );
+            status_code(Verdict::Success)
+        }
+        Verdict::ConstraintError => status_code(Verdict::ConstraintError),
+        Verdict::InvalidDataType => status_code(Verdict::InvalidDataType),
     }
 }
 
@@ -62,18 +65,32 @@ pub fn change<'a>(
     w: &'a [u64; WORDS],
     defaults: &'a [u8],
     edits: &mut [u8],
-    v: Values,
+    words: &mut [u64; ATTRIBUTES],
+    nulls: &mut [bool; ATTRIBUTES],
+    edited: &mut [bool; ATTRIBUTES],
+    versions: &mut [u32; CLUSTERS],
     endpoint: u16,
     cluster: u32,
     attribute: u32,
     new: Value,
     src: &'a [u8],
-) -> Written
+) -> u8
     requires { ⌜ (wellFormed (now w) ≡ true) × (length (now edits) ≡ textSize * textCount (now w)) ⌝ }
-    ensures { λ r. ⌜ (r ≡ writtenOf (changed (now (w .entry)) (now (defaults .entry)) (record { values = v; edits = now (edits .entry) }) endpoint cluster attribute (now (src .entry)) new)) × (now (edits .exit) ≡ changed (now (w .entry)) (now (defaults .entry)) (record { values = v; edits = now (edits .entry) }) endpoint cluster attribute (now (src .entry)) new .held .edits) ⌝ }
+    ensures { λ r. ⌜ record { code = r; held = heldOf (now (words .exit)) (now (nulls .exit)) (now (edited .exit)) (now (versions .exit)) (now (edits .exit)) } ≡ changed (now (w .entry)) (now (defaults .entry)) (heldOf (now (words .entry)) (now (nulls .entry)) (now (edited .entry)) (now (versions .entry)) (now (edits .entry))) endpoint cluster attribute (now (src .entry)) new ⌝ }
 {
     match locate(w, endpoint, cluster, attribute) {
-        Located::Here(i) => offer(w, defaults, edits, v, i, new, src),
-        Located::Refused(code) => Written { code, values: v },
+        Located::Here(i) => offer(
+            w,
+            defaults,
+            edits,
+            words,
+            nulls,
+            edited,
+            versions,
+            i,
+            new,
+            src,
+        ),
+        Located::Refused(code) => code,
     }
 }

@@ -24,11 +24,11 @@ returns-4 c = let a = c .before .before .before .before .before .before .before 
 
 returns-5 : tie.Need-returns-5
 unfolding onRequest
-returns-5 c = let a = c .before .before .before .before .before .before .before .before .args in rw (eq-eqb (a .turn) 0 (c .before .before .before .before .before .before .before .if1 .left), le-ltb (a .x .last) (a .exchange) (c .before .before .before .before .before .if2 .left), eq-eqb (a .exchange) (a .x .last) (c .before .before .before .if3 .left), eq-eqb (a .x .turn) 1 (c .before .if4 .left), c .if5 .taken) refl
+returns-5 c = let a = c .before .before .before .before .before .before .before .before .before .args in rw (eq-eqb (a .turn) 0 (c .before .before .before .before .before .before .before .before .if1 .left), le-ltb (a .x .last) (a .exchange) (c .before .before .before .before .before .before .if2 .left), eq-eqb (a .exchange) (a .x .last) (c .before .before .before .before .if3 .left), eq-eqb (a .x .turn) 1 (c .before .before .if4 .left), ne-eqb (a .x .closed) 0 (c .if5 .taken)) refl
 
 returns-6 : tie.Need-returns-6
 unfolding onRequest
-returns-6 c = let a = c .before .before .before .before .before .before .before .before .args in rw (eq-eqb (a .turn) 0 (c .before .before .before .before .before .before .before .if1 .left), le-ltb (a .x .last) (a .exchange) (c .before .before .before .before .before .if2 .left), eq-eqb (a .exchange) (a .x .last) (c .before .before .before .if3 .left), eq-eqb (a .x .turn) 1 (c .before .if4 .left), c .if5 .left) refl
+returns-6 c = let a = c .before .before .before .before .before .before .before .before .before .args in rw (eq-eqb (a .turn) 0 (c .before .before .before .before .before .before .before .before .if1 .left), le-ltb (a .x .last) (a .exchange) (c .before .before .before .before .before .before .if2 .left), eq-eqb (a .exchange) (a .x .last) (c .before .before .before .before .if3 .left), eq-eqb (a .x .turn) 1 (c .before .before .if4 .left), eq-eqb (a .x .closed) 0 (c .if5 .left)) refl
 
 pub on-request-spec : {M : Type 1} → statement M
 on-request-spec = tie.close (tie.spec returns returns-2 returns-3 returns-4 returns-5 returns-6)

@@ -17,7 +17,7 @@ enum-known-i : tie.Need-enum-known-i
 enum-known-i c = search needs
 
 offer-requires : tie.Need-offer-requires
-offer-requires c κs = let a = c .before .before .before .before .before .before .before .before .args in (c .before .before .before .before .before .before .before .before .pre .0, (located-here (a .w .now) (a .endpoint) (a .cluster) (a .attribute) _ (sym (c .before .before .before .before .locate .ensures) ∙ c .before .before .i .given .1) .0, c .before .before .before .before .before .before .before .before .pre .1))
+offer-requires c κs = let a = c .before .before .before .before .before .before .before .before .before .before .before .before .args in (c .before .before .before .before .before .before .before .before .before .before .before .before .pre .0, (located-here (a .w .now) (a .endpoint) (a .cluster) (a .attribute) _ (sym (c .before .before .before .before .before .before .before .before .locate .ensures) ∙ c .before .before .before .before .before .before .i .given .1) .0, c .before .before .before .before .before .before .before .before .before .before .before .before .pre .1))
 
 enum-known-code : tie.Need-enum-known-code
 enum-known-code c = search needs
@@ -27,11 +27,15 @@ same-length c = search needs
 
 returns : tie.Need-returns
 unfolding changed
-returns c = let q : located (c .before .before .before .before .before .before .before .before .before .before .before .args .w .now) (c .before .before .before .before .before .before .before .before .before .before .before .args .endpoint) (c .before .before .before .before .before .before .before .before .before .before .before .args .cluster) (c .before .before .before .before .before .before .before .before .before .before .before .args .attribute) ≡ _ = sym (c .before .before .before .before .before .before .before .locate .ensures) ∙ c .before .before .before .before .before .i .given .1 in rw q (c .before .before .offer .ensures)
+returns c = let a = c .before .before .before .before .before .before .before .before .before .before .before .before .before .before .before .args in
+    let q : located (a .w .now) (a .endpoint) (a .cluster) (a .attribute) ≡ _ = sym (c .before .before .before .before .before .before .before .before .before .before .before .locate .ensures) ∙ c .before .before .before .before .before .before .before .before .before .i .given .1 in
+    rw q (c .before .before .offer .ensures)
 
 returns-2 : tie.Need-returns-2
 unfolding changed
-returns-2 c = let q : located (c .before .before .before .before .before .before .before .args .w .now) (c .before .before .before .before .before .before .before .args .endpoint) (c .before .before .before .before .before .before .before .args .cluster) (c .before .before .before .before .before .before .before .args .attribute) ≡ _ = sym (c .before .before .before .locate .ensures) ∙ c .before .code .given .1 in rw q (refl, refl)
+returns-2 c = let a = c .before .before .before .before .before .before .before .args in
+    let q : located (a .w .now) (a .endpoint) (a .cluster) (a .attribute) ≡ _ = sym (c .before .before .before .locate .ensures) ∙ c .before .code .given .1 in
+    rw q refl
 
 pub change-spec : {M : Type 1} → statement M
 change-spec =

@@ -1,18 +1,12 @@
-use mathlib.Core.Path.{_≡_, refl, _∙_}
+use mathlib.Core.Path.{_≡_, _∙_}
 use native.Mathlib.Omega.{arith}
-use borrow.Author.Needs.{needs}
 use Rattle.schema.proofs.RulesLaws.{well-formed-rules}
 use Rattle.writes.specs.Offer.{verdictOn}
 use Rattle.writes.proofs.OfferLaws.{verdict-asked, offered-by, cluster-room, text-room}
+use Rattle.writes.specs.Offer.{heldOf}
+use borrow.Author.Needs.{needs}
 use Rattle.writes.proofs.offer.Statement.{statement}
 use Rattle.writes.proofs.offer.Tie as tie
-use Rattle.writes.proofs.offer.Reads as reads
-use Rattle.writes.proofs.offer.Lts as lts
-use Rattle.kinds.proofs.limits.judge.Reads as judge-reads
-use Rattle.kinds.proofs.limits.status_code.Reads as status-code-reads
-use Rattle.node.proofs.decode.kind_of.Reads as kind-of-reads
-use Rattle.schema.proofs.is_nullable.Reads as is-nullable-reads
-use Rattle.values.proofs.change.store.Reads as store-reads
 
 kind-of-requires : tie.Need-kind-of-requires
 kind-of-requires c κs = search needs
@@ -26,17 +20,17 @@ judge-requires c κs = search needs
 enum-told : tie.Need-enum-told
 enum-told c = search needs
 
-status-code-requires : tie.Need-status-code-requires
-status-code-requires c κs = search needs
-
 -- the verdict that was given is that of the definition
 seen : (c : tie.After-judge) → verdictOn (c .before .before .before .before .before .before .args .w .now) (c .before .before .before .before .before .before .args .i) (c .before .before .before .before .before .before .args .src .now) (c .before .before .before .before .before .before .args .new) ≡ c .judge .result
 seen c = let a = c .before .before .before .before .before .before .args in verdict-asked (a .w .now) (a .i) (a .src .now) (a .new) (c .before .before .kind-of .ensures) (c .before .is-nullable .ensures) (c .judge .ensures)
 
 store-requires : tie.Need-store-requires
-store-requires c κs = let a = c .before .before .before .before .before .before .before .before .before .before .args in let p = c .before .before .before .before .before .before .before .before .before .before .pre in
+store-requires c κs = let a = c .before .before .before .before .before .before .before .before .before .before .before .before .before .args in let p = c .before .before .before .before .before .before .before .before .before .before .before .before .before .pre in
     let r = well-formed-rules (a .w .now) .0 (p .0) in
-    (omega (arith, p .1 .0), cluster-room (a .w .now) r (a .i) (p .1 .0), text-room (a .w .now) r (a .i) (p .1 .0) (a .src .now) (a .edits .now) (p .1 .1) (a .new) (seen (c .before .before .before .before) ∙ c .before .before .enum-told .given .1))
+    (omega (arith, p .1 .0), cluster-room (a .w .now) r (a .i) (p .1 .0), text-room (a .w .now) r (a .i) (p .1 .0) (a .src .now) (a .edits .now) (p .1 .1) (a .new) (seen (c .before .before .before .before .before .before .before) ∙ c .before .before .before .before .before .enum-told .given .1))
+
+status-code-requires : tie.Need-status-code-requires
+status-code-requires c κs = search needs
 
 enum-told-2 : tie.Need-enum-told-2
 enum-told-2 c = search needs
@@ -54,19 +48,19 @@ same-length : tie.Need-same-length
 same-length c = search needs
 
 returns : tie.Need-returns
-returns c = let a = c .before .before .before .before .before .before .before .before .before .before .before .before .before .args in
-    rw (offered-by (a .w .now) (a .defaults .now) (record { values = a .v; edits = a .edits .now }) (a .i) (a .src .now) (a .new) (seen (c .before .before .before .before .before .before .before) ∙ c .before .before .before .before .before .enum-told .given .1))
-    (λ j. record { code = c .before .before .before .before .status-code .ensures j; values = c .before .before .store .ensures .0 j }, c .before .before .store .ensures .1)
+returns c = let a = c .before .before .before .before .before .before .before .before .before .before .before .before .before .before .before .before .before .args in let e = c .before .before .before .store .ensures in
+    rw (offered-by (a .w .now) (a .defaults .now) (heldOf (a .words .now) (a .nulls .now) (a .edited .now) (a .versions .now) (a .edits .now)) (a .i) (a .src .now) (a .new) (seen (c .before .before .before .before .before .before .before .before .before .before .before) ∙ c .before .before .before .before .before .before .before .before .before .enum-told .given .1))
+    (λ j. record { code = c .status-code .ensures j; held = record { values = e .0 j; edits = e .1 j } })
 
 returns-2 : tie.Need-returns-2
 returns-2 c = let a = c .before .before .before .before .before .before .before .before .before .args in
-    rw (offered-by (a .w .now) (a .defaults .now) (record { values = a .v; edits = a .edits .now }) (a .i) (a .src .now) (a .new) (seen (c .before .before .before) ∙ c .before .enum-told2 .given .1))
-    (λ j. record { code = c .status-code2 .ensures j; values = a .v }, refl)
+    rw (offered-by (a .w .now) (a .defaults .now) (heldOf (a .words .now) (a .nulls .now) (a .edited .now) (a .versions .now) (a .edits .now)) (a .i) (a .src .now) (a .new) (seen (c .before .before .before) ∙ c .before .enum-told2 .given .1))
+    (λ j. record { code = c .status-code2 .ensures j; held = heldOf (a .words .now) (a .nulls .now) (a .edited .now) (a .versions .now) (a .edits .now) })
 
 returns-3 : tie.Need-returns-3
 returns-3 c = let a = c .before .before .before .before .before .before .before .before .before .args in
-    rw (offered-by (a .w .now) (a .defaults .now) (record { values = a .v; edits = a .edits .now }) (a .i) (a .src .now) (a .new) (seen (c .before .before .before) ∙ c .before .enum-told3 .given .1))
-    (λ j. record { code = c .status-code3 .ensures j; values = a .v }, refl)
+    rw (offered-by (a .w .now) (a .defaults .now) (heldOf (a .words .now) (a .nulls .now) (a .edited .now) (a .versions .now) (a .edits .now)) (a .i) (a .src .now) (a .new) (seen (c .before .before .before) ∙ c .before .enum-told3 .given .1))
+    (λ j. record { code = c .status-code3 .ensures j; held = heldOf (a .words .now) (a .nulls .now) (a .edited .now) (a .versions .now) (a .edits .now) })
 
 pub offer-spec : {M : Type 1} → statement M
 offer-spec =
@@ -76,8 +70,8 @@ offer-spec =
     is-nullable-requires
     judge-requires
     enum-told
-    status-code-requires
     store-requires
+    status-code-requires
     enum-told-2
     status-code-requires-2
     enum-told-3

@@ -1,21 +1,54 @@
-use mathlib.Core.Path.{_≡_, sym, _∙_}
+use mathlib.Core.Path.{_≡_, sym, ap, _∙_}
 use borrow.Author.Needs.{needs}
-use lib.ListN.{length}
-use Rattle.replies.specs.Messages.{maxMessage}
-use Rattle.replies.proofs.RowLaws.{report-within, report-short, part-given}
-use Rattle.replies.proofs.BeginLaws.{read-fits, request-few, read-refused, read-answered}
+use native.Mathlib.Omega.{arith}
+use Prim.Native.Nat.{_≤_}
+use lib.ListN.{length, take}
+use Rattle.octets.specs.Store.{store}
+use Rattle.selection.specs.Request.{filtersAt, standingAt}
+use Rattle.selection.specs.Filters.{filterWords}
+use Rattle.selection.proofs.RequestLaws.{filters-length}
+use Rattle.values.specs.Values.{valuesOf}
+use Rattle.report.specs.declared.part.Request.{Request}
+use Rattle.replies.specs.declared.Row.{Row}
+use Rattle.replies.specs.Row.{rowIn, requestIn, keeping, blocksOf, putRequest}
+use Rattle.replies.specs.Begin.{beginningPlace, requestOf}
+use Rattle.replies.proofs.MessageLaws.{sent-of}
+use Rattle.replies.proofs.RowLaws.{report-within, report-short, report-end, part-given}
+use Rattle.replies.proofs.LentLaws.{begins-same, begins-anew, request-back}
+use Rattle.replies.proofs.BeginLaws.{read-fits, request-few, request-length, read-refused, read-answered}
 use Rattle.replies.proofs.begin.begin_read.Statement.{statement}
 use Rattle.replies.proofs.begin.begin_read.Tie as tie
+use Rattle.replies.proofs.begin.begin_read.Reads as reads
+use Rattle.replies.proofs.begin.begin_read.Lts as lts
+use Rattle.interaction.proofs.read_request.Reads as read-request-reads
+use Rattle.replies.proofs.begin.refuse.Reads as refuse-reads
+use Rattle.replies.proofs.kept.keep.Reads as keep-reads
+use Rattle.replies.proofs.kept.next_of.Reads as next-of-reads
+use Rattle.replies.proofs.message.put_part.Reads as put-part-reads
+use Rattle.selection.proofs.filters.put_filters.Reads as put-filters-reads
+use Rattle.selection.proofs.request.put_paths.Reads as put-paths-reads
 
--- what owning the row tells: its array has all its elements
-whole : (c : tie.Start) → length (c .args .x .kept) ≡ maxMessage
-whole c = search needs
+-- the request in the row's words
+stored-request : (c : tie.After-put-filters) → c .put-filters .last .1 .1 .1 .0 ≡ putRequest (c .before .before .before .before .before .before .before .before .before .before .before .before .before .before .before .args .row .now) (requestOf (c .before .before .before .before .before .before .before .before .before .before .before .before .before .before .before .args .w .now) (c .before .before .before .before .before .before .before .before .before .before .read-request .result))
+unfolding putRequest requestOf
+stored-request c =
+    c .put-filters .ensures
+    ∙ ap (λ (l : _). store l filtersAt (filterWords (c .before .before .before .before .before .before .before .before .before .before .before .before .before .before .before .args .w .now) (take (c .before .before .before .before .before .before .before .before .before .before .read-request .result .filters .count) (c .before .before .before .before .before .before .before .before .before .before .read-request .result .filters .kept)))) (c .before .before .put-paths .ensures)
+
+-- and read back from them
+kept-request : (c : tie.After-put-filters) → requestIn (c .put-filters .last .1 .1 .1 .0) (c .before .before .before .before .before .before .before .before .before .before .read-request .result .paths .count) ≡ requestOf (c .before .before .before .before .before .before .before .before .before .before .before .before .before .before .before .args .w .now) (c .before .before .before .before .before .before .before .before .before .before .read-request .result)
+unfolding requestOf
+kept-request c =
+    let r = c .before .before .before .before .before .before .before .before .before .before .read-request in
+    let room : standingAt ≤ length (c .before .before .before .before .before .before .before .before .before .before .before .before .before .before .before .args .row .now) = search needs in
+    ap (λ (l : _). requestIn l (r .result .paths .count)) (stored-request c)
+    ∙ request-back (c .before .before .before .before .before .before .before .before .before .before .before .before .before .before .before .args .row .now) (requestOf (c .before .before .before .before .before .before .before .before .before .before .before .before .before .before .before .args .w .now) (r .result)) (request-length (c .before .before .before .before .before .before .before .before .before .before .before .before .before .before .before .args .payload .now) (r .ensures)) (filters-length (c .before .before .before .before .before .before .before .before .before .before .before .before .before .before .before .args .w .now) _) room
 
 read-request-requires : tie.Need-read-request-requires
 read-request-requires c κs = search needs
 
 cast-refuse : tie.Need-cast-refuse
-cast-refuse c = record { fits = read-fits (c .before .before .before .before .before .before .before .before .args .payload .now) (c .before .before .before .read-request .ensures) }
+cast-refuse c = record { fits = read-fits (c .before .before .before .before .before .before .before .before .before .args .payload .now) (c .before .before .before .before .read-request .ensures) }
 
 refuse-requires : tie.Need-refuse-requires
 refuse-requires c κs = search needs
@@ -24,13 +57,16 @@ same-length : tie.Need-same-length
 same-length c = search needs
 
 returns : tie.Need-returns
-returns c = let a = c .before .before .before .before .before .before .before .before .before .before .before .before .args in let f = c .before .before .refuse .ensures in (f .0 ∙ sym (read-refused (a .payload .now) (c .before .before .before .before .before .before .before .read-request .ensures) (a .w .now) (a .v) (a .defaults .now) (a .edits .now) (a .g) (a .x) (a .exchange) (c .before .before .before .before .before .if1 .taken)), f .1)
+returns c = let a = c .before .before .before .before .before .before .before .before .before .before .before .before .before .args in let f = c .before .before .refuse .ensures (a .row .now) in begins-same (f .0 ∙ sym (read-refused (a .payload .now) (c .before .before .before .before .before .before .before .before .read-request .ensures) (a .w .now) (valuesOf (a .words .now) (a .nulls .now) (a .edited .now) (a .versions .now)) (a .defaults .now) (a .edits .now) (a .g) (rowIn (a .row .now) (a .t) (a .kept .now)) (a .exchange) (c .before .before .before .before .before .before .if1 .taken))) (f .1)
 
-request-of-requires : tie.Need-request-of-requires
-request-of-requires c κs = search needs
+put-paths-requires : tie.Need-put-paths-requires
+put-paths-requires c κs = search needs
+
+put-filters-requires : tie.Need-put-filters-requires
+put-filters-requires c κs = (request-few (c .before .before .before .before .before .before .before .before .before .before .before .before .before .before .args .payload .now) (c .before .before .before .before .before .before .before .before .before .read-request .ensures) (c .before .before .before .before .before .before .before .if1 .left) .1, search needs)
 
 put-part-requires : tie.Need-put-part-requires
-put-part-requires c κs = let p = c .before .before .before .before .before .before .before .before .before .pre in let f = request-few (c .before .before .before .before .before .before .before .before .before .args .payload .now) (c .before .before .before .before .read-request .ensures) (c .before .before .if1 .left) (c .before .request-of .ensures) in (p .0, (f .0, (f .1, (p .1 .0, p .1 .1))))
+put-part-requires c κs = let p = c .before .before .before .before .before .before .before .before .before .before .before .before .before .before .before .before .before .pre in (p .0, (request-few (c .before .before .before .before .before .before .before .before .before .before .before .before .before .before .before .before .before .args .payload .now) (c .before .before .before .before .before .before .before .before .before .before .before .before .read-request .ensures) (c .before .before .before .before .before .before .before .before .before .before .if1 .left) .0, (p .1 .0, p .1 .1)))
 
 sub-keep : tie.Need-sub-keep
 sub-keep c = search needs
@@ -39,16 +75,32 @@ part-keep-start : tie.Need-part-keep-start
 part-keep-start c = search needs
 
 part-keep-end : tie.Need-part-keep-end
-part-keep-end c = report-within (c .before .before .before .before .put-part .ensures) (c .before .before .before .before .before .before .before .before .before .before .before .before .before .before .pre .1 .1)
+part-keep-end c = report-within (c .before .before .before .before .before .put-part .ensures) (c .before .before .before .before .before .before .before .before .before .before .before .before .before .before .before .before .before .before .before .before .before .before .before .pre .1 .1)
 
 keep-requires : tie.Need-keep-requires
-keep-requires c κs = report-short (c .before .before .before .before .before .put-part .ensures) (c .before .before .before .before .before .before .before .before .before .before .before .before .before .before .before .pre .1 .1)
+keep-requires c κs = report-short (c .before .before .before .before .before .before .put-part .ensures) (c .before .before .before .before .before .before .before .before .before .before .before .before .before .before .before .before .before .before .before .before .before .before .before .before .pre .1 .1)
+
+next-of-requires : tie.Need-next-of-requires
+next-of-requires c κs = search needs
 
 same-length-2 : tie.Need-same-length-2
 same-length-2 c = search needs
 
 returns-2 : tie.Need-returns-2
-returns-2 c = let a = c .before .before .before .before .before .before .before .before .before .before .before .before .before .before .before .before .args in let f = part-given (a .x) (whole (c .before .before .before .before .before .before .before .before .before .before .before .before .before .before .before .before)) (c .before .before .before .before .before .before .put-part .ensures) (c .before .before .before .before .before .before .before .before .before .before .before .before .before .before .before .before .pre .1 .1) (c .before .before .before .before .before .before .before .before .request-of .result) (c .keep .ensures) in (f .0 ∙ sym (read-answered (a .payload .now) (c .before .before .before .before .before .before .before .before .before .before .before .read-request .ensures) (a .w .now) (a .v) (a .defaults .now) (a .edits .now) (a .g) (a .x) (a .exchange) (c .before .before .before .before .before .before .before .before .before .if1 .left) (c .before .before .before .before .before .before .before .before .request-of .ensures)), f .1)
+unfolding keeping
+returns-2 c =
+    let a = c .before .before .before .before .before .before .before .before .before .before .before .before .before .before .before .before .before .before .before .before .before .before .before .before .before .before .args in
+    let room = c .before .before .before .before .before .before .before .before .before .before .before .before .before .before .before .before .before .before .before .before .before .before .before .before .before .before .pre .1 .1 in
+    let v = valuesOf (a .words .now) (a .nulls .now) (a .edited .now) (a .versions .now) in
+    let x = rowIn (a .row .now) (a .t) (a .kept .now) in
+    let e = c .before .before .before .before .before .before .before .before .before .before .before .before .before .before .before .before .before .before .before .before .before .read-request .ensures in
+    let q : Request = requestOf (a .w .now) (c .before .before .before .before .before .before .before .before .before .before .before .before .before .before .before .before .before .before .before .before .before .read-request .result) in
+    let y = read-answered (a .payload .now) e (a .w .now) v (a .defaults .now) (a .edits .now) (a .g) x (a .exchange) (c .before .before .before .before .before .before .before .before .before .before .before .before .before .before .before .before .before .before .before .if1 .left) in
+    let s = sent-of (ap (λ (p : Request). blocksOf (a .w .now) v (a .defaults .now) (a .edits .now) (a .g) p beginningPlace) (kept-request (c .before .before .before .before .before .before .before .before .before .before .before))) (c .before .before .before .before .before .before .before .before .put-part .ensures) in
+    let f = c .before .before .before .before .before .before .before .before .put-part .result in
+    let g = part-given x (c .before .keep .ensures .1) s room q
+    (λ j. record { progress = record { last = a .exchange; turn = 1; next = c .next-of .ensures j; closed = 0 }; request = kept-request (c .before .before .before .before .before .before .before .before .before .before .before) j; place = f .place; kept = c .before .keep .ensures .0 j; len = report-end s room j }) in
+    begins-anew (g .0 ∙ sym y) (stored-request (c .before .before .before .before .before .before .before .before .before .before .before) ∙ ap (λ (z : Row). putRequest (a .row .now) (z .request)) (sym y)) (g .1)
 
 pub begin-read-spec : {M : Type 1} → statement M
 begin-read-spec =
@@ -59,11 +111,13 @@ begin-read-spec =
     refuse-requires
     same-length
     returns
-    request-of-requires
+    put-paths-requires
+    put-filters-requires
     put-part-requires
     sub-keep
     part-keep-start
     part-keep-end
     keep-requires
+    next-of-requires
     same-length-2
     returns-2)

@@ -2,16 +2,13 @@ use mathlib.Core.Path.{_≡_}
 use native.Mathlib.Omega.{arith}
 use borrow.Author.Needs.{needs}
 use lib.ListN.{length}
-use Rattle.replies.specs.Messages.{maxMessage, statusMessage}
+use Rattle.replies.specs.Messages.{statusMessage}
+use Rattle.replies.specs.Row.{requestIn, rowIn}
 use Rattle.replies.specs.Begin.{answered}
 use Rattle.replies.proofs.MessageLaws.{status-length}
 use Rattle.replies.proofs.RowLaws.{ends-within, part-short, both-given}
 use Rattle.replies.proofs.begin.refuse.Statement.{statement}
 use Rattle.replies.proofs.begin.refuse.Tie as tie
-
--- what owning the row tells: its array has all its elements
-whole : (c : tie.Start) → length (c .args .x .kept) ≡ maxMessage
-whole c = search needs
 
 size : (c : tie.Start) → length (statusMessage (c .args .exchange) (c .args .code)) ≡ 16
 size c = status-length (c .args .exchange) (c .args .code) (c .fits .code .fits)
@@ -26,16 +23,16 @@ part-once-kept-start : tie.Need-part-once-kept-start
 part-once-kept-start c = search needs
 
 part-once-kept-end : tie.Need-part-once-kept-end
-part-once-kept-end c = ends-within (c .before .before .before .put-status .ensures) (omega (arith, c .before .before .before .before .before .before .pre .1, size (c .before .before .before .before .before .before)))
+part-once-kept-end c = ends-within (c .before .before .before .before .put-status .ensures) (omega (arith, c .before .before .before .before .before .before .before .pre .1, size (c .before .before .before .before .before .before .before)))
 
 once-kept-requires : tie.Need-once-kept-requires
-once-kept-requires c κs = omega (arith, part-short (c .before .before .before .before .put-status .ensures) (omega (arith, c .before .before .before .before .before .before .before .pre .1, size (c .before .before .before .before .before .before .before))), size (c .before .before .before .before .before .before .before))
+once-kept-requires c κs = omega (arith, part-short (c .before .before .before .before .before .put-status .ensures) (omega (arith, c .before .before .before .before .before .before .before .before .pre .1, size (c .before .before .before .before .before .before .before .before))), size (c .before .before .before .before .before .before .before .before))
 
 same-length : tie.Need-same-length
 same-length c = search needs
 
 returns : tie.Need-returns
-returns c = let a = c .before .before .before .before .before .before .before .before .args in both-given (a .x) (whole (c .before .before .before .before .before .before .before .before)) (answered (a .exchange)) (a .x .request) (a .x .place) (c .before .before .before .before .before .put-status .ensures) (omega (arith, size (c .before .before .before .before .before .before .before .before))) (c .before .before .before .before .before .before .before .before .pre .1) (c .once-kept .ensures)
+returns c = let a = c .before .before .before .before .before .before .before .before .before .args in λ row. both-given (rowIn row (a .t) (a .kept .now)) (c .once-kept .ensures .1) (answered (a .exchange)) (requestIn row (a .t .asked)) (a .t .place) (c .before .before .before .before .before .before .put-status .ensures) (omega (arith, size (c .before .before .before .before .before .before .before .before .before))) (c .before .before .before .before .before .before .before .before .before .pre .1) (c .once-kept .ensures .0 row)
 
 pub refuse-spec : {M : Type 1} → statement M
 refuse-spec =

@@ -5,7 +5,7 @@ use native.Mathlib.Omega.{arith}
 use borrow.Author.Needs.{needs}
 use lib.ListN.{getD}
 use Rattle.schema.specs.Layout.{clusterLimit}
-use Rattle.report.specs.Blocks.{valuesOf}
+use Rattle.values.specs.Values.{valuesOf}
 use Rattle.report.proofs.OfferLaws.{offered-as}
 use Rattle.report.proofs.ValueLaws.{value-inside, cluster-within, endpoint-fits, value-block}
 use Rattle.report.proofs.block.offer_value.Statement.{statement}

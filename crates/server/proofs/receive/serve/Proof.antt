@@ -1,36 +1,41 @@
 use Rattle.server.proofs.ReceiveLaws.{long-enough}
-use mathlib.Core.Path.{_≡_, refl, sym, _∙_}
+use mathlib.Core.Path.{_≡_, refl, sym, ap, _∙_}
 use mathlib.Core.Bool.{true}
 use native.Mathlib.Omega.{arith}
 use borrow.Author.Tests.{not-true, not-false}
-use lib.ListN.{length}
+use Prim.Native.Nat.{_-_}
+use lib.ListN.{length, take, drop}
 use Rattle.envelope.specs.Envelope.{envelopeIn}
 use Rattle.envelope.specs.declared.Envelope.the-variants.{Whole}
-use Rattle.server.specs.State.{signRight}
+use Rattle.values.specs.Values.{valuesOf}
+use Rattle.replies.specs.declared.Standing.{Standing}
+use Rattle.replies.specs.Row.{rowIn}
+use Rattle.server.specs.State.{signRight, stateIn}
+use Rattle.server.specs.Receive.{stepOf}
 use Rattle.server.proofs.StepLaws.{next-turn}
 use Rattle.server.proofs.ReactLaws.{silence-as, refused-as}
 use Rattle.server.proofs.ReceiveLaws.{exchange-below, broken, bad-table, small, short, too-long, other-edition, other-opcode, other-subject, served-as, payload-of}
 use borrow.Author.Needs.{needs}
 use Rattle.server.proofs.receive.serve.Statement.{statement}
 use Rattle.server.proofs.receive.serve.Tie as tie
-use Rattle.server.proofs.receive.serve.Reads as reads
-use Rattle.server.proofs.receive.serve.Lts as lts
-use Rattle.envelope.proofs.envelope_of.Reads as envelope-of-reads
-use Rattle.exchange.proofs.is_for_server.Reads as is-for-server-reads
-use Rattle.schema.proofs.subject_served.Reads as subject-served-reads
-use Rattle.server.proofs.receive.answer.Reads as answer-reads
-use Rattle.server.proofs.receive.react.Reads as react-reads
-use Rattle.server.proofs.receive.refuse.Reads as refuse-reads
-use Rattle.server.proofs.receive.step_of.Reads as step-of-reads
-use Rattle.server.proofs.sign_ok.Reads as sign-ok-reads
+
+-- what was tested is the sign's state
+tested : (c : tie.After-sign-ok) → let a = c .before .before .before .before .before .before .before .before .before .before .before .args in c .sign-ok .result ≡ signRight (a .w .now) (a .defaults .now) (a .edits .now) (stateIn (valuesOf (a .words .now) (a .nulls .now) (a .edited .now) (a .versions .now)) (a .row .now) (a .kept .now))
+tested c =
+    let a = c .before .before .before .before .before .before .before .before .before .before .before .args in
+    c .sign-ok .ensures (a .versions .now) (a .row .now) (a .kept .now)
+    ∙ ap (λ (u : Standing). signRight (a .w .now) (a .defaults .now) (a .edits .now) (record { values = (valuesOf (a .words .now) (a .nulls .now) (a .edited .now) (a .versions .now)); row = rowIn (a .row .now) u (a .kept .now) })) (c .before .before .before .before .before .read-standing .ensures)
 
 -- the sign is right
-right-here : (c : tie.Else1) → signRight (c .before .before .before .before .before .before .before .args .w .now) (c .before .before .before .before .before .before .before .args .defaults .now) (c .before .before .before .before .before .before .before .args .edits .now) (c .before .before .before .before .before .before .before .args .state) ≡ true
-right-here c = sym (c .before .sign-ok .ensures) ∙ not-false _ (c .if1 .left)
+right-here : (c : tie.Else1) → let a = c .before .before .before .before .before .before .before .before .before .before .before .before .args in signRight (a .w .now) (a .defaults .now) (a .edits .now) (stateIn (valuesOf (a .words .now) (a .nulls .now) (a .edited .now) (a .versions .now)) (a .row .now) (a .kept .now)) ≡ true
+right-here c = sym (tested (c .before)) ∙ not-false _ (c .if1 .left)
 
 -- the envelope that was found
-found-here : (c : tie.After-e) → envelopeIn (c .before .before .before .before .before .before .before .before .before .before .before .before .args .message .now) ≡ Whole (c .e .given .0 .0)
+found-here : (c : tie.After-e) → envelopeIn (c .before .before .before .before .before .before .before .before .before .before .before .before .before .before .before .before .before .args .message .now) ≡ Whole (c .e .given .0 .0)
 found-here c = sym (c .before .before .envelope-of .ensures) ∙ c .e .given .1
+
+read-standing-requires : tie.Need-read-standing-requires
+read-standing-requires c κs = search needs
 
 sign-ok-requires : tie.Need-sign-ok-requires
 sign-ok-requires c κs = search needs
@@ -42,7 +47,7 @@ same-length : tie.Need-same-length
 same-length c = search needs
 
 returns : tie.Need-returns
-returns c = let a = c .before .before .before .before .before .before .before .before .args in rw (broken (a .w .now) (a .defaults .now) (a .edits .now) (a .state) (a .table) (a .g) (a .subject) (a .message .now) (length (a .out .now)) (sym (c .before .before .sign-ok .ensures) ∙ not-true _ (c .before .if1 .taken))) (refused-as 2 (a .state) (a .edits .now) (c .refuse .ensures) refl refl)
+returns c = let a = c .before .before .before .before .before .before .before .before .before .before .before .before .before .args in rw (broken (a .w .now) (a .defaults .now) (a .edits .now) (stateIn (valuesOf (a .words .now) (a .nulls .now) (a .edited .now) (a .versions .now)) (a .row .now) (a .kept .now)) (a .table) (a .g) (a .subject) (a .message .now) (length (a .out .now)) (sym (tested (c .before .before)) ∙ not-true _ (c .before .if1 .taken))) (refused-as (valuesOf (a .words .now) (a .nulls .now) (a .edited .now) (a .versions .now)) (a .edits .now) (a .row .now) (a .kept .now) 2 (c .refuse .ensures) refl)
 
 refuse-requires-2 : tie.Need-refuse-requires-2
 refuse-requires-2 c κs = search needs
@@ -51,7 +56,7 @@ same-length-2 : tie.Need-same-length-2
 same-length-2 c = search needs
 
 returns-2 : tie.Need-returns-2
-returns-2 c = let a = c .before .before .before .before .before .before .before .before .before .args in rw (bad-table (a .w .now) (a .defaults .now) (a .edits .now) (a .state) (a .table) (a .g) (a .subject) (a .message .now) (length (a .out .now)) (right-here (c .before .before)) (not-true _ (c .before .if2 .taken))) (refused-as 2 (a .state) (a .edits .now) (c .refuse2 .ensures) refl refl)
+returns-2 c = let a = c .before .before .before .before .before .before .before .before .before .before .before .before .before .before .args in rw (bad-table (a .w .now) (a .defaults .now) (a .edits .now) (stateIn (valuesOf (a .words .now) (a .nulls .now) (a .edited .now) (a .versions .now)) (a .row .now) (a .kept .now)) (a .table) (a .g) (a .subject) (a .message .now) (length (a .out .now)) (right-here (c .before .before)) (not-true _ (c .before .if2 .taken))) (refused-as (valuesOf (a .words .now) (a .nulls .now) (a .edited .now) (a .versions .now)) (a .edits .now) (a .row .now) (a .kept .now) 2 (c .refuse2 .ensures) refl)
 
 refuse-requires-3 : tie.Need-refuse-requires-3
 refuse-requires-3 c κs = search needs
@@ -60,7 +65,7 @@ same-length-3 : tie.Need-same-length-3
 same-length-3 c = search needs
 
 returns-3 : tie.Need-returns-3
-returns-3 c = let a = c .before .before .before .before .before .before .before .before .before .before .args in rw (small (a .w .now) (a .defaults .now) (a .edits .now) (a .state) (a .table) (a .g) (a .subject) (a .message .now) (length (a .out .now)) (right-here (c .before .before .before)) (not-false _ (c .before .before .if2 .left)) (c .before .if3 .taken)) (refused-as 3 (a .state) (a .edits .now) (c .refuse3 .ensures) refl refl)
+returns-3 c = let a = c .before .before .before .before .before .before .before .before .before .before .before .before .before .before .before .args in rw (small (a .w .now) (a .defaults .now) (a .edits .now) (stateIn (valuesOf (a .words .now) (a .nulls .now) (a .edited .now) (a .versions .now)) (a .row .now) (a .kept .now)) (a .table) (a .g) (a .subject) (a .message .now) (length (a .out .now)) (right-here (c .before .before .before)) (not-false _ (c .before .before .if2 .left)) (c .before .if3 .taken)) (refused-as (valuesOf (a .words .now) (a .nulls .now) (a .edited .now) (a .versions .now)) (a .edits .now) (a .row .now) (a .kept .now) 3 (c .refuse3 .ensures) refl)
 
 envelope-of-requires : tie.Need-envelope-of-requires
 envelope-of-requires c κs = search needs
@@ -78,7 +83,7 @@ same-length-4 : tie.Need-same-length-4
 same-length-4 c = search needs
 
 returns-4 : tie.Need-returns-4
-returns-4 c = let a = c .before .before .before .before .before .before .before .before .before .before .before .before .before .args in rw (short (a .w .now) (a .defaults .now) (a .edits .now) (a .state) (a .table) (a .g) (a .subject) (a .message .now) (length (a .out .now)) (right-here (c .before .before .before .before .before .before)) (not-false _ (c .before .before .before .before .before .if2 .left)) (c .before .before .before .before .if3 .left) (sym (c .before .before .before .envelope-of .ensures) ∙ c .before .enum-told .given .1)) (refused-as 4 (a .state) (a .edits .now) (c .refuse4 .ensures) refl refl)
+returns-4 c = let a = c .before .before .before .before .before .before .before .before .before .before .before .before .before .before .before .before .before .before .args in rw (short (a .w .now) (a .defaults .now) (a .edits .now) (stateIn (valuesOf (a .words .now) (a .nulls .now) (a .edited .now) (a .versions .now)) (a .row .now) (a .kept .now)) (a .table) (a .g) (a .subject) (a .message .now) (length (a .out .now)) (right-here (c .before .before .before .before .before .before)) (not-false _ (c .before .before .before .before .before .if2 .left)) (c .before .before .before .before .if3 .left) (sym (c .before .before .before .envelope-of .ensures) ∙ c .before .enum-told .given .1)) (refused-as (valuesOf (a .words .now) (a .nulls .now) (a .edited .now) (a .versions .now)) (a .edits .now) (a .row .now) (a .kept .now) 4 (c .refuse4 .ensures) refl)
 
 refuse-requires-5 : tie.Need-refuse-requires-5
 refuse-requires-5 c κs = search needs
@@ -87,7 +92,7 @@ same-length-5 : tie.Need-same-length-5
 same-length-5 c = search needs
 
 returns-5 : tie.Need-returns-5
-returns-5 c = let a = c .before .before .before .before .before .before .before .before .before .before .before .before .before .before .before .args in rw (too-long (a .w .now) (a .defaults .now) (a .edits .now) (a .state) (a .table) (a .g) (a .subject) (a .message .now) (length (a .out .now)) (right-here (c .before .before .before .before .before .before .before .before)) (not-false _ (c .before .before .before .before .before .before .before .if2 .left)) (c .before .before .before .before .before .before .if3 .left) (found-here (c .before .before .before)) (c .before .if4 .taken)) (refused-as 4 (a .state) (a .edits .now) (c .refuse5 .ensures) refl refl)
+returns-5 c = let a = c .before .before .before .before .before .before .before .before .before .before .before .before .before .before .before .before .before .before .before .before .args in rw (too-long (a .w .now) (a .defaults .now) (a .edits .now) (stateIn (valuesOf (a .words .now) (a .nulls .now) (a .edited .now) (a .versions .now)) (a .row .now) (a .kept .now)) (a .table) (a .g) (a .subject) (a .message .now) (length (a .out .now)) (right-here (c .before .before .before .before .before .before .before .before)) (not-false _ (c .before .before .before .before .before .before .before .if2 .left)) (c .before .before .before .before .before .before .if3 .left) (found-here (c .before .before .before)) (c .before .if4 .taken)) (refused-as (valuesOf (a .words .now) (a .nulls .now) (a .edited .now) (a .versions .now)) (a .edits .now) (a .row .now) (a .kept .now) 4 (c .refuse5 .ensures) refl)
 
 refuse-requires-6 : tie.Need-refuse-requires-6
 refuse-requires-6 c κs = search needs
@@ -96,7 +101,7 @@ same-length-6 : tie.Need-same-length-6
 same-length-6 c = search needs
 
 returns-6 : tie.Need-returns-6
-returns-6 c = let a = c .before .before .before .before .before .before .before .before .before .before .before .before .before .before .before .before .before .args in rw (other-edition (a .w .now) (a .defaults .now) (a .edits .now) (a .state) (a .table) (a .g) (a .subject) (a .message .now) (length (a .out .now)) (right-here (c .before .before .before .before .before .before .before .before .before .before)) (not-false _ (c .before .before .before .before .before .before .before .before .before .if2 .left)) (c .before .before .before .before .before .before .before .before .if3 .left) (found-here (c .before .before .before .before .before)) (c .before .before .before .if4 .left) (c .before .if5 .taken)) (refused-as 4 (a .state) (a .edits .now) (c .refuse6 .ensures) refl refl)
+returns-6 c = let a = c .before .before .before .before .before .before .before .before .before .before .before .before .before .before .before .before .before .before .before .before .before .before .args in rw (other-edition (a .w .now) (a .defaults .now) (a .edits .now) (stateIn (valuesOf (a .words .now) (a .nulls .now) (a .edited .now) (a .versions .now)) (a .row .now) (a .kept .now)) (a .table) (a .g) (a .subject) (a .message .now) (length (a .out .now)) (right-here (c .before .before .before .before .before .before .before .before .before .before)) (not-false _ (c .before .before .before .before .before .before .before .before .before .if2 .left)) (c .before .before .before .before .before .before .before .before .if3 .left) (found-here (c .before .before .before .before .before)) (c .before .before .before .if4 .left) (c .before .if5 .taken)) (refused-as (valuesOf (a .words .now) (a .nulls .now) (a .edited .now) (a .versions .now)) (a .edits .now) (a .row .now) (a .kept .now) 4 (c .refuse6 .ensures) refl)
 
 is-for-server-requires : tie.Need-is-for-server-requires
 is-for-server-requires c κs = search needs
@@ -108,7 +113,7 @@ same-length-7 : tie.Need-same-length-7
 same-length-7 c = search needs
 
 returns-7 : tie.Need-returns-7
-returns-7 c = let a = c .before .before .before .before .before .before .before .before .before .before .before .before .before .before .before .before .before .before .before .args in rw (other-opcode (a .w .now) (a .defaults .now) (a .edits .now) (a .state) (a .table) (a .g) (a .subject) (a .message .now) (length (a .out .now)) (right-here (c .before .before .before .before .before .before .before .before .before .before .before .before)) (not-false _ (c .before .before .before .before .before .before .before .before .before .before .before .if2 .left)) (c .before .before .before .before .before .before .before .before .before .before .if3 .left) (found-here (c .before .before .before .before .before .before .before)) (c .before .before .before .before .before .if4 .left) (c .before .before .before .if5 .left) (sym (c .before .before .is-for-server .ensures) ∙ not-true _ (c .before .if6 .taken))) (refused-as 4 (a .state) (a .edits .now) (c .refuse7 .ensures) refl refl)
+returns-7 c = let a = c .before .before .before .before .before .before .before .before .before .before .before .before .before .before .before .before .before .before .before .before .before .before .before .before .args in rw (other-opcode (a .w .now) (a .defaults .now) (a .edits .now) (stateIn (valuesOf (a .words .now) (a .nulls .now) (a .edited .now) (a .versions .now)) (a .row .now) (a .kept .now)) (a .table) (a .g) (a .subject) (a .message .now) (length (a .out .now)) (right-here (c .before .before .before .before .before .before .before .before .before .before .before .before)) (not-false _ (c .before .before .before .before .before .before .before .before .before .before .before .if2 .left)) (c .before .before .before .before .before .before .before .before .before .before .if3 .left) (found-here (c .before .before .before .before .before .before .before)) (c .before .before .before .before .before .if4 .left) (c .before .before .before .if5 .left) (sym (c .before .before .is-for-server .ensures) ∙ not-true _ (c .before .if6 .taken))) (refused-as (valuesOf (a .words .now) (a .nulls .now) (a .edited .now) (a .versions .now)) (a .edits .now) (a .row .now) (a .kept .now) 4 (c .refuse7 .ensures) refl)
 
 subject-served-requires : tie.Need-subject-served-requires
 subject-served-requires c κs = search needs
@@ -120,13 +125,13 @@ same-length-8 : tie.Need-same-length-8
 same-length-8 c = search needs
 
 returns-8 : tie.Need-returns-8
-returns-8 c = let a = c .before .before .before .before .before .before .before .before .before .before .before .before .before .before .before .before .before .before .before .before .before .args in rw (other-subject (a .w .now) (a .defaults .now) (a .edits .now) (a .state) (a .table) (a .g) (a .subject) (a .message .now) (length (a .out .now)) (right-here (c .before .before .before .before .before .before .before .before .before .before .before .before .before .before)) (not-false _ (c .before .before .before .before .before .before .before .before .before .before .before .before .before .if2 .left)) (c .before .before .before .before .before .before .before .before .before .before .before .before .if3 .left) (found-here (c .before .before .before .before .before .before .before .before .before)) (c .before .before .before .before .before .before .before .if4 .left) (c .before .before .before .before .before .if5 .left) (sym (c .before .before .before .before .is-for-server .ensures) ∙ not-false _ (c .before .before .before .if6 .left)) (λ z. c .before .if7 .taken (z ∙ sym (c .before .before .subject-served .ensures)))) (silence-as (a .state) (a .edits .now) (c .answer .ensures) refl refl)
+returns-8 c = let a = c .before .before .before .before .before .before .before .before .before .before .before .before .before .before .before .before .before .before .before .before .before .before .before .before .before .before .args in rw (other-subject (a .w .now) (a .defaults .now) (a .edits .now) (stateIn (valuesOf (a .words .now) (a .nulls .now) (a .edited .now) (a .versions .now)) (a .row .now) (a .kept .now)) (a .table) (a .g) (a .subject) (a .message .now) (length (a .out .now)) (right-here (c .before .before .before .before .before .before .before .before .before .before .before .before .before .before)) (not-false _ (c .before .before .before .before .before .before .before .before .before .before .before .before .before .if2 .left)) (c .before .before .before .before .before .before .before .before .before .before .before .before .if3 .left) (found-here (c .before .before .before .before .before .before .before .before .before)) (c .before .before .before .before .before .before .before .if4 .left) (c .before .before .before .before .before .if5 .left) (sym (c .before .before .before .before .is-for-server .ensures) ∙ not-false _ (c .before .before .before .if6 .left)) (λ z. c .before .if7 .taken (z ∙ sym (c .before .before .subject-served .ensures)))) (silence-as (valuesOf (a .words .now) (a .nulls .now) (a .edited .now) (a .versions .now)) (a .edits .now) (a .row .now) (a .kept .now) (c .answer .ensures) refl)
 
 sub-payload : tie.Need-sub-payload
-sub-payload c = omega (arith, long-enough (c .before .before .before .before .before .before .before .before .before .before .before .before .before .before .before .before .before .before .before .before .before .args .message .now) (found-here (c .before .before .before .before .before .before .before .before .before)))
+sub-payload c = omega (arith, long-enough (c .before .before .before .before .before .before .before .before .before .before .before .before .before .before .before .before .before .before .before .before .before .before .before .before .before .args .message .now) (found-here (c .before .before .before .before .before .before .before .before)))
 
 part-payload-start : tie.Need-part-payload-start
-part-payload-start c = omega (arith, long-enough (c .before .before .before .before .before .before .before .before .before .before .before .before .before .before .before .before .before .before .before .before .before .args .message .now) (found-here (c .before .before .before .before .before .before .before .before .before)))
+part-payload-start c = omega (arith, long-enough (c .before .before .before .before .before .before .before .before .before .before .before .before .before .before .before .before .before .before .before .before .before .before .before .before .before .args .message .now) (found-here (c .before .before .before .before .before .before .before .before)))
 
 part-payload-end : tie.Need-part-payload-end
 part-payload-end c = search needs
@@ -135,7 +140,7 @@ step-of-requires : tie.Need-step-of-requires
 step-of-requires c κs = search needs
 
 react-requires : tie.Need-react-requires
-react-requires c κs = let a = c .before .before .before .before .before .before .before .before .before .before .before .before .before .before .before .before .before .before .before .before .before .before .before .before .before .args in (right-here (c .before .before .before .before .before .before .before .before .before .before .before .before .before .before .before .before .before .before), (exchange-below (a .message .now) (found-here (c .before .before .before .before .before .before .before .before .before .before .before .before .before)), ((λ z. next-turn (a .state .row .progress) _ _ (sym (c .before .before .step-of .ensures) ∙ z)), c .before .before .before .before .before .before .before .before .before .before .before .before .before .before .before .before .if3 .left)))
+react-requires c κs = let a = c .before .before .before .before .before .before .before .before .before .before .before .before .before .before .before .before .before .before .before .before .before .before .before .before .before .before .before .before .before .before .before .before .before .before .before .args in (c .before .before .before .before .before .before .before .before .before .before .before .before .before .before .before .before .before .before .before .before .before .before .before .before .before .before .before .before .before .read-standing .ensures, (right-here (c .before .before .before .before .before .before .before .before .before .before .before .before .before .before .before .before .before .before .before .before .before .before .before), (exchange-below (a .message .now) (found-here (c .before .before .before .before .before .before .before .before .before .before .before .before .before .before .before .before .before .before)), ((λ z. next-turn (c .before .before .before .before .before .before .before .before .before .before .before .before .before .before .before .before .before .before .before .before .before .before .before .before .before .before .before .before .before .read-standing .result .progress) _ _ (sym (c .before .before .before .before .before .before .before .before .step-of .ensures) ∙ z)), c .before .before .before .before .before .before .before .before .before .before .before .before .before .before .before .before .before .before .before .before .before .if3 .left))))
 
 same-length-9 : tie.Need-same-length-9
 same-length-9 c = search needs
@@ -144,12 +149,13 @@ same-length-10 : tie.Need-same-length-10
 same-length-10 c = search needs
 
 returns-9 : tie.Need-returns-9
-returns-9 c = let a = c .before .before .before .before .before .before .before .before .before .before .before .before .before .before .before .before .before .before .before .before .before .before .before .before .before .before .before .before .before .before .args in rw (served-as (a .w .now) (a .defaults .now) (a .edits .now) (a .state) (a .table) (a .g) (a .subject) (a .message .now) (length (a .out .now)) (right-here (c .before .before .before .before .before .before .before .before .before .before .before .before .before .before .before .before .before .before .before .before .before .before .before)) (not-false _ (c .before .before .before .before .before .before .before .before .before .before .before .before .before .before .before .before .before .before .before .before .before .before .if2 .left)) (c .before .before .before .before .before .before .before .before .before .before .before .before .before .before .before .before .before .before .before .before .before .if3 .left) (found-here (c .before .before .before .before .before .before .before .before .before .before .before .before .before .before .before .before .before .before)) (c .before .before .before .before .before .before .before .before .before .before .before .before .before .before .before .before .if4 .left) (c .before .before .before .before .before .before .before .before .before .before .before .before .before .before .if5 .left) (sym (c .before .before .before .before .before .before .before .before .before .before .before .before .before .is-for-server .ensures) ∙ not-false _ (c .before .before .before .before .before .before .before .before .before .before .before .before .if6 .left)) (c .before .before .before .before .before .before .before .before .before .before .if7 .left ∙ c .before .before .before .before .before .before .before .before .before .before .before .subject-served .ensures) (payload-of (a .message .now)) (c .before .before .before .before .before .before .before .step-of .ensures)) (c .before .before .before .before .react .ensures)
+returns-9 c = let a = c .before .before .before .before .before .before .before .before .before .before .before .before .before .before .before .before .before .before .before .before .before .before .before .before .before .before .before .before .before .before .before .before .before .before .before .before .before .before .before .before .args in rw (served-as (a .w .now) (a .defaults .now) (a .edits .now) (stateIn (valuesOf (a .words .now) (a .nulls .now) (a .edited .now) (a .versions .now)) (a .row .now) (a .kept .now)) (a .table) (a .g) (a .subject) (a .message .now) (length (a .out .now)) (right-here (c .before .before .before .before .before .before .before .before .before .before .before .before .before .before .before .before .before .before .before .before .before .before .before .before .before .before .before .before)) (not-false _ (c .before .before .before .before .before .before .before .before .before .before .before .before .before .before .before .before .before .before .before .before .before .before .before .before .before .before .before .if2 .left)) (c .before .before .before .before .before .before .before .before .before .before .before .before .before .before .before .before .before .before .before .before .before .before .before .before .before .before .if3 .left) (found-here (c .before .before .before .before .before .before .before .before .before .before .before .before .before .before .before .before .before .before .before .before .before .before .before)) (c .before .before .before .before .before .before .before .before .before .before .before .before .before .before .before .before .before .before .before .before .before .if4 .left) (c .before .before .before .before .before .before .before .before .before .before .before .before .before .before .before .before .before .before .before .if5 .left) (sym (c .before .before .before .before .before .before .before .before .before .before .before .before .before .before .before .before .before .before .is-for-server .ensures) ∙ not-false _ (c .before .before .before .before .before .before .before .before .before .before .before .before .before .before .before .before .before .if6 .left)) (c .before .before .before .before .before .before .before .before .before .before .before .before .before .before .before .if7 .left ∙ c .before .before .before .before .before .before .before .before .before .before .before .before .before .before .before .before .subject-served .ensures) (payload-of (a .message .now)) (c .before .before .before .before .before .before .before .before .before .before .before .before .before .step-of .ensures ∙ ap (λ (u : Standing). stepOf (u .progress) (c .before .before .before .before .before .before .before .before .before .before .before .before .before .before .before .before .before .before .before .before .before .before .before .e .given .0 .0) (take (length (a .message .now) - 8) (drop 8 (a .message .now)))) (c .before .before .before .before .before .before .before .before .before .before .before .before .before .before .before .before .before .before .before .before .before .before .before .before .before .before .before .before .before .before .before .before .before .before .read-standing .ensures))) (c .before .before .before .before .react .ensures)
 
 pub serve-spec : {M : Type 1} → statement M
 serve-spec =
     tie.close
     (tie.spec
+    read-standing-requires
     sign-ok-requires
     refuse-requires
     same-length

@@ -14,7 +14,7 @@ first-versions-requires c κs = search needs
 
 returns : tie.Need-returns
 unfolding freshValues
-returns c = λ j. record { words = c .before .first-words .ensures j; nulls = replicate attributeLimit false; edited = replicate attributeLimit false; versions = c .first-versions .ensures j }
+returns c = λ j. record { words = c .before .before .before .first-words .ensures j; nulls = replicate attributeLimit false; edited = replicate attributeLimit false; versions = c .first-versions .ensures j }
 
 pub fresh-spec : {M : Type 1} → statement M
 fresh-spec = tie.close (tie.spec first-words-requires first-versions-requires returns)

@@ -5,10 +5,6 @@ use Rattle.selection.proofs.LocateLaws.{located-here}
 use Rattle.writes.specs.Entry.{allowedThere, mayWrite}
 use Rattle.writes.proofs.entry.may_write.Statement.{statement}
 use Rattle.writes.proofs.entry.may_write.Tie as tie
-use Rattle.writes.proofs.entry.may_write.Reads as reads
-use Rattle.writes.proofs.entry.may_write.Lts as lts
-use Rattle.selection.proofs.locate.locate.Reads as locate-reads
-use Rattle.writes.proofs.entry.allowed_at.Reads as allowed-at-reads
 
 cast-locate : tie.Need-cast-locate
 cast-locate c = search needs
@@ -33,11 +29,11 @@ enum-known-code c = search needs
 
 returns : tie.Need-returns
 unfolding mayWrite
-returns c = let a = c .before .before .before .before .before .before .before .before .args in c .allowed-at .ensures ∙ sym (ap (allowedThere (a .w .now) (a .g) (a .versions) (a .x .version)) (sym (c .before .before .before .before .locate .ensures) ∙ c .before .before .i .given .1))
+returns c = let a = c .before .before .before .before .before .before .before .before .args in c .allowed-at .ensures ∙ sym (ap (allowedThere (a .w .now) (a .g) (a .versions .now) (a .x .version)) (sym (c .before .before .before .before .locate .ensures) ∙ c .before .before .i .given .1))
 
 returns-2 : tie.Need-returns-2
 unfolding mayWrite
-returns-2 c = let a = c .before .before .before .before .before .before .before .args in sym (ap (allowedThere (a .w .now) (a .g) (a .versions) (a .x .version)) (sym (c .before .before .before .locate .ensures) ∙ c .before .code .given .1))
+returns-2 c = let a = c .before .before .before .before .before .before .before .args in sym (ap (allowedThere (a .w .now) (a .g) (a .versions .now) (a .x .version)) (sym (c .before .before .before .locate .ensures) ∙ c .before .code .given .1))
 
 pub may-write-spec : {M : Type 1} → statement M
 may-write-spec =

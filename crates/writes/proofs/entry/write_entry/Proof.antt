@@ -1,15 +1,10 @@
 use mathlib.Core.Path.{_≡_, refl, sym, _∙_}
-use borrow.Author.Needs.{needs}
 use Rattle.tlv.specs.Value.{valueIn}
 use Rattle.writes.specs.Entry.{mayWrite, entryWritten}
 use Rattle.writes.proofs.EntryLaws.{may-index}
+use borrow.Author.Needs.{needs}
 use Rattle.writes.proofs.entry.write_entry.Statement.{statement}
 use Rattle.writes.proofs.entry.write_entry.Tie as tie
-use Rattle.writes.proofs.entry.write_entry.Reads as reads
-use Rattle.writes.proofs.entry.write_entry.Lts as lts
-use Rattle.writes.proofs.entry.may_write.Reads as may-write-reads
-use Rattle.tlv.proofs.value_in.Reads as value-in-reads
-use Rattle.writes.proofs.offer.Reads as offer-reads
 
 may-write-requires : tie.Need-may-write-requires
 may-write-requires c κs = search needs
@@ -21,7 +16,7 @@ value-in-requires : tie.Need-value-in-requires
 value-in-requires c κs = search needs
 
 offer-requires : tie.Need-offer-requires
-offer-requires c κs = let a = c .before .before .before .before .before .before .before .before .before .before .args in (c .before .before .before .before .before .before .before .before .before .before .pre .0, (may-index (a .w .now) (a .g) (a .v .versions) (a .x) _ (sym (c .before .before .before .before .before .may-write .ensures) ∙ c .before .before .before .i .given .1), c .before .before .before .before .before .before .before .before .before .before .pre .1 .1))
+offer-requires c κs = let a = c .before .before .before .before .before .before .before .before .before .before .before .before .before .before .args in let p = c .before .before .before .before .before .before .before .before .before .before .before .before .before .before .pre in (p .0, (may-index (a .w .now) (a .g) (a .versions .now) (a .x) _ (sym (c .before .before .before .before .before .before .before .before .before .may-write .ensures) ∙ c .before .before .before .before .before .before .before .i .given .1), p .1 .1))
 
 enum-known-code : tie.Need-enum-known-code
 enum-known-code c = search needs
@@ -31,16 +26,16 @@ same-length c = search needs
 
 returns : tie.Need-returns
 unfolding entryWritten
-returns c = let a = c .before .before .before .before .before .before .before .before .before .before .before .before .before .args in
-    let q : mayWrite (a .w .now) (a .g) (a .v .versions) (a .x) ≡ _ = sym (c .before .before .before .before .before .before .before .before .may-write .ensures) ∙ c .before .before .before .before .before .before .i .given .1 in
+returns c = let a = c .before .before .before .before .before .before .before .before .before .before .before .before .before .before .before .before .before .args in
+    let q : mayWrite (a .w .now) (a .g) (a .versions .now) (a .x) ≡ _ = sym (c .before .before .before .before .before .before .before .before .before .before .before .before .may-write .ensures) ∙ c .before .before .before .before .before .before .before .before .before .before .i .given .1 in
     let e : valueIn (a .s .now) (a .x .place) ≡ _ = sym (c .before .before .before .value-in .ensures) in
     rw (q, e) (c .before .before .offer .ensures)
 
 returns-2 : tie.Need-returns-2
 unfolding entryWritten
 returns-2 c = let a = c .before .before .before .before .before .before .before .before .args in
-    let q : mayWrite (a .w .now) (a .g) (a .v .versions) (a .x) ≡ _ = sym (c .before .before .before .may-write .ensures) ∙ c .before .code .given .1 in
-    rw q (refl, refl)
+    let q : mayWrite (a .w .now) (a .g) (a .versions .now) (a .x) ≡ _ = sym (c .before .before .before .may-write .ensures) ∙ c .before .code .given .1 in
+    rw q refl
 
 pub write-entry-spec : {M : Type 1} → statement M
 write-entry-spec =

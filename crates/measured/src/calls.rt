@@ -1,0 +1,164 @@
+// The calls of a sign, with one access entry that grants everything.
+ghost use mathlib.Core.Path.{_≡_};
+ghost use mathlib.Core.List.{List};
+ghost use Prim.Native.Nat.{ℕ};
+ghost use lib.ListN.{length, take};
+ghost use Rattle.acl.specs.Access.{grantsOf};
+ghost use Rattle.acl.specs.Table.{tableRight};
+ghost use Rattle.values.specs.Values.{valuesOf};
+ghost use Rattle.writes.specs.Offer.{heldOf};
+ghost use Rattle.server.specs.State.{stateIn};
+ghost use Rattle.server.specs.Receive.{received, Reacted};
+ghost use Rattle.server.specs.Start.{started, Starts, alteredBy, Alters};
+ghost use Rattle.measured.specs.Calls.{openEntries, outcomeOf, givenValue};
+use acl::ADMINISTER;
+use acl::ENTRIES;
+use acl::Entry;
+use kinds::stored::signed_of;
+use replies::MAX_MESSAGE;
+use schema::ATTRIBUTES;
+use schema::CLUSTERS;
+use schema::WORDS;
+use selection::request::ROW_WORDS;
+use server::receive::receive_in;
+use server::start::change;
+use server::start::start;
+use tlv::Value;
+
+// Document 01's number, and the reply's length in the buffer.
+#[repr(C)]
+pub struct Last {
+    pub number: u8,
+    pub len: usize,
+}
+
+// One access entry: every privilege, for anyone, everywhere.
+fn open_entries() -> [Entry; ENTRIES]
+    ensures { λ r. ⌜ r ≡ openEntries ⌝ }
+{
+    let all = Entry {
+        privilege: ADMINISTER,
+        any_subject: true,
+        subject: 0,
+        any_endpoint: true,
+        endpoint: 0,
+        any_cluster: true,
+        cluster: 0,
+    };
+    [all; ENTRIES]
+}
+
+#[no_mangle]
+pub extern "C" fn sign_start<'a>(
+    w: &'a [u64; WORDS],
+    defaults: &'a [u8],
+    words: &mut [u64; ATTRIBUTES],
+    nulls: &mut [bool; ATTRIBUTES],
+    edited: &mut [bool; ATTRIBUTES],
+    versions: &mut [u32; CLUSTERS],
+    row: &mut [u64; ROW_WORDS],
+    kept: &mut [u8; MAX_MESSAGE],
+) -> u8
+    ensures { λ r. ⌜ Starts (started (now (w .entry)) (now (defaults .entry))) r (valuesOf (now (words .entry)) (now (nulls .entry)) (now (edited .entry)) (now (versions .entry))) (valuesOf (now (words .exit)) (now (nulls .exit)) (now (edited .exit)) (now (versions .exit))) (now (row .entry)) (now (row .exit)) (now (kept .entry)) (now (kept .exit)) ⌝ }
+{
+    start(w, defaults, words, nulls, edited, versions, row, kept)
+}
+
+#[no_mangle]
+pub extern "C" fn sign_receive<'a>(
+    w: &'a [u64; WORDS],
+    defaults: &'a [u8],
+    edits: &mut [u8],
+    words: &mut [u64; ATTRIBUTES],
+    nulls: &mut [bool; ATTRIBUTES],
+    edited: &mut [bool; ATTRIBUTES],
+    versions: &mut [u32; CLUSTERS],
+    row: &mut [u64; ROW_WORDS],
+    kept: &mut [u8; MAX_MESSAGE],
+    subject: u64,
+    message: &'a [u8],
+    out: &mut [u8],
+) -> Last
+    ensures { λ r. ⌜ Reacted (received (now (w .entry)) (now (defaults .entry)) (now (edits .entry)) (stateIn (valuesOf (now (words .entry)) (now (nulls .entry)) (now (edited .entry)) (now (versions .entry))) (now (row .entry)) (now (kept .entry))) (tableRight 1 openEntries) (grantsOf (take 1 openEntries) subject (now (w .entry))) subject (now (message .entry)) (length (now (out .entry)))) (outcomeOf r) (heldOf (now (words .exit)) (now (nulls .exit)) (now (edited .exit)) (now (versions .exit)) (now (edits .exit))) (now (row .entry)) (now (row .exit)) (now (kept .exit)) (now (out .entry)) (now (out .exit)) ⌝ }
+{
+    let t = open_entries();
+    let o = receive_in(
+        w,
+        defaults,
+        edits,
+        words,
+        nulls,
+        edited,
+        versions,
+        row,
+        kept,
+        t,
+        1,
+        subject,
+        message,
+        out,
+    );
+    Last {
+        number: o.number,
+        len: o.len,
+    }
+}
+
+// A value by its code: 1 boolean, 2 unsigned, 3 signed, 4 float, 5 the text, any other null.
+fn given_value(code: u8, word: u64, len: usize) -> Value
+    ensures { λ r. ⌜ r ≡ givenValue code word len ⌝ }
+{
+    if code == 1 {
+        return Value::Boolean(word != 0);
+    }
+    if code == 2 {
+        return Value::Unsigned(word);
+    }
+    if code == 3 {
+        return Value::Signed(signed_of(word));
+    }
+    if code == 4 {
+        return Value::Float((word % 4294967296) as u32);
+    }
+    if code == 5 {
+        return Value::Text { start: 0, len };
+    }
+    Value::Null
+}
+
+#[no_mangle]
+pub extern "C" fn sign_change<'a>(
+    w: &'a [u64; WORDS],
+    defaults: &'a [u8],
+    edits: &mut [u8],
+    words: &mut [u64; ATTRIBUTES],
+    nulls: &mut [bool; ATTRIBUTES],
+    edited: &mut [bool; ATTRIBUTES],
+    versions: &mut [u32; CLUSTERS],
+    row: &'a [u64; ROW_WORDS],
+    endpoint: u16,
+    cluster: u32,
+    attribute: u32,
+    code: u8,
+    word: u64,
+    text: &'a [u8],
+) -> u8
+    ensures { λ r. ⌜ ((kept : List ℕ) → Alters (alteredBy (now (w .entry)) (now (defaults .entry)) (now (edits .entry)) (stateIn (valuesOf (now (words .entry)) (now (nulls .entry)) (now (edited .entry)) (now (versions .entry))) (now (row .entry)) kept) endpoint cluster attribute (now (text .entry)) (givenValue code word (length (now (text .entry))))) r (heldOf (now (words .exit)) (now (nulls .exit)) (now (edited .exit)) (now (versions .exit)) (now (edits .exit)))) ⌝ }
+{
+    let new = given_value(code, word, text.len());
+    change(
+        w,
+        defaults,
+        edits,
+        words,
+        nulls,
+        edited,
+        versions,
+        row,
+        endpoint,
+        cluster,
+        attribute,
+        new,
+        text,
+    )
+}

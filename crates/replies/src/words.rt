@@ -1,0 +1,80 @@
+// How the exchange stands, read from the row's words and put back.
+ghost use mathlib.Core.Path.{_≡_};
+ghost use Prim.Native.Nat.{_≤_};
+ghost use Rattle.octets.specs.Store.{store};
+ghost use Rattle.selection.specs.Request.{standingAt};
+ghost use Rattle.replies.specs.Row.{rowIn, rowRight, standingIn, standingWords};
+use super::MAX_MESSAGE;
+use super::Standing;
+use exchange::MAX_TURN;
+use exchange::PART;
+use exchange::Progress;
+use interaction::MAX_PATHS;
+use report::Place;
+use schema::ATTRIBUTES;
+use selection::request::ROW_WORDS;
+use selection::request::STANDING_AT;
+
+pub fn read_standing(row: &[u64; ROW_WORDS]) -> Standing
+    ensures { λ r. ⌜ r ≡ standingIn (now (row .entry)) ⌝ }
+{
+    Standing {
+        progress: Progress {
+            last: row[STANDING_AT],
+            turn: row[STANDING_AT + 1],
+            next: row[STANDING_AT + 2],
+            closed: row[STANDING_AT + 3],
+        },
+        asked: row[STANDING_AT + 4] as usize,
+        place: Place {
+            path: row[STANDING_AT + 5] as usize,
+            index: row[STANDING_AT + 6] as usize,
+        },
+        len: row[STANDING_AT + 7] as usize,
+    }
+}
+
+pub fn put_standing(row: &mut [u64; ROW_WORDS], t: Standing)
+    ensures { λ _. ⌜ now (row .exit) ≡ store (now (row .entry)) standingAt (standingWords t) ⌝ }
+{
+    let progress = t.progress;
+    let place = t.place;
+    row[STANDING_AT] = progress.last;
+    row[STANDING_AT + 1] = progress.turn;
+    row[STANDING_AT + 2] = progress.next;
+    row[STANDING_AT + 3] = progress.closed;
+    row[STANDING_AT + 4] = t.asked as u64;
+    row[STANDING_AT + 5] = place.path as u64;
+    row[STANDING_AT + 6] = place.index as u64;
+    row[STANDING_AT + 7] = t.len as u64;
+}
+
+// Numbers in their widths, counts, the place reached, and the kept reply's length: refusal 2 where they break the rules.
+pub fn row_ok(t: Standing) -> bool
+    ensures { λ r. ⌜ ((row kept : _) → r ≡ rowRight (rowIn row t kept)) ⌝ }
+{
+    let progress = t.progress;
+    let place = t.place;
+    if 1_099_511_627_776 <= progress.last {
+        return false;
+    }
+    if MAX_TURN < progress.turn {
+        return false;
+    }
+    if PART < progress.next {
+        return false;
+    }
+    if 1 < progress.closed {
+        return false;
+    }
+    if MAX_PATHS < t.asked {
+        return false;
+    }
+    if MAX_PATHS < place.path {
+        return false;
+    }
+    if ATTRIBUTES < place.index {
+        return false;
+    }
+    t.len <= MAX_MESSAGE
+}

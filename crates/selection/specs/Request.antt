@@ -1,0 +1,48 @@
+-- The request that an exchange keeps while it is answered, as words that are lent: its paths, and for each of the schema's clusters what its filters say.
+use mathlib.Core.List.{List, [], _∷_}
+use Prim.Native.Nat.{ℕ, _+_, _*_}
+use lib.ListN.{getD, take, drop}
+use Rattle.schema.specs.Layout.{clusterLimit}
+use Rattle.schema.specs.Rows.{rowsFrom}
+use Rattle.interaction.specs.declared.Target.{Target}
+use Rattle.interaction.specs.Read.{maxPaths}
+use Rattle.selection.specs.declared.asked.Asked.{Asked}
+use Rattle.selection.specs.Asked.{askedFor}
+
+-- a path is three words: endpoint, cluster, attribute
+abbrev pub pathSize : ℕ
+pathSize = 3
+
+-- where the filters start: behind the paths
+abbrev pub filtersAt : ℕ
+filtersAt = maxPaths * pathSize
+
+-- and how the exchange stands: behind them
+abbrev pub standingAt : ℕ
+standingAt = filtersAt + clusterLimit
+
+abbrev pub rowLength : ℕ
+rowLength = standingAt + 10
+
+abbrev pub pathsIn : List ℕ → List ℕ
+pathsIn l = take filtersAt l
+
+abbrev pub filtersIn : List ℕ → List ℕ
+filtersIn l = take clusterLimit (drop filtersAt l)
+
+-- path number k
+unfoldable pub askedAt : List ℕ → ℕ → Asked
+askedAt l k =
+    askedFor (record { endpoint = getD l (k * pathSize) 0; cluster = getD l (k * pathSize + 1) 0; attribute = getD l (k * pathSize + 2) 0 })
+
+-- the first n paths
+abbrev pub askedPaths : List ℕ → ℕ → List Asked
+askedPaths l n = rowsFrom (askedAt l) n 0
+
+-- the words of paths
+abbrev pub targetWords : Target → List ℕ
+targetWords t = t .endpoint ∷ t .cluster ∷ t .attribute ∷ []
+
+unfoldable pub pathsWords : List Target → List ℕ
+pathsWords [] = []
+pathsWords (t ∷ ts) = t .endpoint ∷ t .cluster ∷ t .attribute ∷ pathsWords ts

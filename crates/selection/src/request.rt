@@ -1,0 +1,57 @@
+// The row of an exchange, as words that are lent: the paths of the request that is being answered, then a word for each cluster, to which its filters were
+// judged, then how the exchange stands.
+ghost use mathlib.Core.Path.{_≡_};
+ghost use Prim.Native.Nat.{_≤_, _<_, _+_, _*_};
+ghost use lib.ListN.{length};
+ghost use Rattle.octets.specs.Store.{store};
+ghost use Rattle.interaction.specs.Read.{maxPaths};
+ghost use Rattle.selection.specs.Request.{pathSize, filtersAt, askedAt, targetWords, pathsWords};
+use super::asked::Asked;
+use super::asked::asked_for;
+use interaction::MAX_PATHS;
+use interaction::Target;
+use schema::CLUSTERS;
+
+pub const PATH_SIZE: usize = 3;
+
+pub const FILTERS_AT: usize = MAX_PATHS * PATH_SIZE;
+
+// How the exchange stands is behind the request.
+pub const STANDING_AT: usize = FILTERS_AT + CLUSTERS;
+
+pub const ROW_WORDS: usize = STANDING_AT + 10;
+
+// Path number k.
+pub fn asked_at(row: &[u64; ROW_WORDS], k: usize) -> Asked
+    requires { ⌜ k < maxPaths ⌝ }
+    ensures { λ r. ⌜ r ≡ askedAt (now (row .entry)) k ⌝ }
+{
+    let at = k * PATH_SIZE;
+    asked_for(Target {
+        endpoint: row[at],
+        cluster: row[at + 1],
+        attribute: row[at + 2],
+    })
+}
+
+fn put_path(row: &mut [u64], k: usize, t: Target)
+    requires { ⌜ k * pathSize + pathSize ≤ length (now row) ⌝ }
+    ensures { λ _. ⌜ now (row .exit) ≡ store (now (row .entry)) (k * pathSize) (targetWords t) ⌝ }
+{
+    let at = k * PATH_SIZE;
+    row[at] = t.endpoint;
+    row[at + 1] = t.cluster;
+    row[at + 2] = t.attribute;
+}
+
+// The paths of a request.
+pub fn put_paths(row: &mut [u64], paths: [Target; MAX_PATHS])
+    requires { ⌜ filtersAt ≤ length (now row) ⌝ }
+    ensures { λ _. ⌜ now (row .exit) ≡ store (now (row .entry)) 0 (pathsWords paths) ⌝ }
+{
+    let mut k = 0;
+    while k < MAX_PATHS {
+        put_path(row, k, paths[k]);
+        k += 1;
+    }
+}
