@@ -5,9 +5,12 @@ use mathlib.Core.List.{List, []}
 use Prim.Native.Nat.{ℕ, _*_, _≤_, _<_}
 use borrow.Author.Tests.{eqb-true, eq-eqb, le-leb}
 use lib.Dec.{eqb, leb}
-use lib.ListN.{length, getD}
+use lib.ListN.{length, getD, take, drop}
+use Rattle.utf8.specs.WellFormed.{wellFormed}
+use Rattle.utf8.specs.Boundary.{cutWell}
+use Rattle.utf8.proofs.Cuts.{cut-exactly}
 use Rattle.schema.specs.Layout.{clusterLimit, attributeLimit, textSize}
-use Rattle.schema.specs.Rows.{attributeRow, attributeCount, isText}
+use Rattle.schema.specs.Rows.{attributeRow, attributeCount, isText, factoryStart}
 use Rattle.schema.specs.Check.{every, textCount}
 use Rattle.schema.proofs.BoolLaws.{both, left, right}
 use Rattle.schema.proofs.CheckLaws.{every-at, every-all}
@@ -17,6 +20,7 @@ use Rattle.kinds.specs.Limits.{textMax}
 use Rattle.kinds.specs.Stored.{held}
 use Rattle.node.specs.Attributes.{kindOf}
 use Rattle.node.specs.Check.{numberRight, numbersRight}
+use Rattle.node.specs.Pages.{shownText}
 use Rattle.node.proofs.KindLaws.{kind-text}
 use Rattle.values.specs.declared.Values.{Values}
 use Rattle.values.specs.Values.{textAt}
@@ -60,6 +64,24 @@ module _ (w defaults edits : List ℕ) (i word : ℕ) (isNull edited : Bool) whe
 
     pub shown-text : isText (attributeRow w i) ≡ true → shownRight (textAt w defaults edits i word edited) word ≡ shownAt w defaults edits i word isNull edited
     shown-text t = rw (n, t)
+
+    -- a factory text is a part of the page of defaults
+    pub shown-factory : isText (attributeRow w i) ≡ true → edited ≡ false → shownRight (take word (drop (factoryStart w (attributeRow w i .first)) defaults)) word ≡ shownAt w defaults edits i word isNull edited
+    unfolding textAt shownText
+    shown-factory t e = rw (n, t, e)
+
+-- the part of a well-formed page is right exactly if the page has it and it is cut at boundaries
+module _ (page : List ℕ) (start len : ℕ) where
+  abbrev cutPart : List ℕ
+  cutPart = take len (drop start page)
+
+  pub cut-short : eqb (length cutPart) len ≡ false → false ≡ shownRight cutPart len
+  unfolding shownRight
+  cut-short h = rw h
+
+  pub cut-right : wellFormed page ≡ true → eqb (length cutPart) len ≡ true → cutWell page start len ≡ shownRight cutPart len
+  unfolding shownRight
+  cut-right p h = rw h (sym (cut-exactly page start len p))
 
 -- the limits alone decide where there is no text
 limits-alone : (b n t x : Bool) → t ≡ false → b ≡ (b && pick n true (pick t x true))

@@ -20,7 +20,7 @@ use schema::WORDS;
 const PAGE: usize = ATTRIBUTES * TEXT_SIZE;
 
 // Whether one of the first n marks is this one. No way out of the loop, so that it becomes vector code.
-fn some_mark(marks: &[bool; ATTRIBUTES], n: usize, mark: bool) -> bool
+pub fn some_mark(marks: &[bool; ATTRIBUTES], n: usize, mark: bool) -> bool
     requires { ⌜ n ≤ attributeLimit ⌝ }
     ensures { λ r. ⌜ r ≡ someMark (now (marks .entry)) mark n ⌝ }
 {

@@ -1,9 +1,12 @@
 use mathlib.Core.Path.{sym, ap, _∙_}
+use mathlib.Core.Bool.{false}
 use borrow.Author.Needs.{needs}
 use borrow.Author.Tests.{not-true, not-false}
+use lib.Dec.{leb}
+use lib.ListN.{length}
 use Rattle.schema.specs.Check.{every}
-use Rattle.schema.proofs.BoolLaws.{past, fails}
-use Rattle.values.specs.Quick.{nullAt}
+use Rattle.schema.proofs.BoolLaws.{right, past, fails}
+use Rattle.values.specs.Quick.{someMark, nullAt}
 use Rattle.values.proofs.CloseLaws.{close-right}
 use Rattle.values.proofs.valid.all_right.Statement.{statement}
 use Rattle.values.proofs.valid.all_right.Tie as tie
@@ -29,16 +32,21 @@ returns-2 c =
     let z = c .before .before .before .before .nulls-ok .ensures ∙ ap (every (nullAt (a .w .now) (a .words .now) (a .nulls .now))) (c .before .before .before .before .before .attribute-count .ensures) in
     fails _ _ (sym (c .before .all-quick .ensures) ∙ not-true _ (c .if2 .taken)) ∙ past _ _ (sym z ∙ not-false _ (c .before .before .before .if1 .left)) ∙ close-right (a .w .now) (a .defaults .now) (a .edits .now) (a .words .now) (a .nulls .now) (a .edited .now)
 
+whole-page-requires : tie.Need-whole-page-requires
+whole-page-requires c κs = search needs
+
 all-texts-requires : tie.Need-all-texts-requires
-all-texts-requires c κs = search needs
+all-texts-requires c κs h =
+    let a = c .before .before .before .before .before .before .before .before .before .args in
+    right (leb (length (a .defaults .now)) (length (a .edits .now))) _ (right (someMark (a .edited .now) false _) _ (sym (c .whole-page .ensures) ∙ h))
 
 returns-3 : tie.Need-returns-3
 returns-3 c =
-    let a = c .before .before .before .before .before .before .before .before .before .args in
-    let z = c .before .before .before .before .before .nulls-ok .ensures ∙ ap (every (nullAt (a .w .now) (a .words .now) (a .nulls .now))) (c .before .before .before .before .before .before .attribute-count .ensures) in
+    let a = c .before .before .before .before .before .before .before .before .before .before .args in
+    let z = c .before .before .before .before .before .before .nulls-ok .ensures ∙ ap (every (nullAt (a .w .now) (a .words .now) (a .nulls .now))) (c .before .before .before .before .before .before .before .attribute-count .ensures) in
     c .all-texts .ensures
-    ∙ past _ _ (sym (c .before .before .all-quick .ensures) ∙ not-false _ (c .before .if2 .left))
-    ∙ past _ _ (sym z ∙ not-false _ (c .before .before .before .before .if1 .left))
+    ∙ past _ _ (sym (c .before .before .before .all-quick .ensures) ∙ not-false _ (c .before .before .if2 .left))
+    ∙ past _ _ (sym z ∙ not-false _ (c .before .before .before .before .before .if1 .left))
     ∙ close-right (a .w .now) (a .defaults .now) (a .edits .now) (a .words .now) (a .nulls .now) (a .edited .now)
 
 pub all-right-spec : {M : Type 1} → statement M
@@ -50,5 +58,6 @@ all-right-spec =
     returns
     all-quick-requires
     returns-2
+    whole-page-requires
     all-texts-requires
     returns-3)

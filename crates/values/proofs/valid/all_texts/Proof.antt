@@ -13,11 +13,11 @@ use Rattle.values.proofs.valid.all_texts.Statement.{statement}
 use Rattle.values.proofs.valid.all_texts.Tie as tie
 
 abbrev Inv-loop : tie.InvT-loop
-Inv-loop w defaults edits words nulls edited n i₀ i =
+Inv-loop w defaults edits whole words nulls edited n i₀ i =
     (i ≤ n) × (n ≡ attributeCount w) × (every (λ k. shownAt w defaults edits k (getD words k 0) (getD nulls k false) (getD edited k false)) i ≡ true)
 
 abbrev μ-loop : tie.MeasureT-loop
-μ-loop w defaults edits words nulls edited n i₀ i = n - i
+μ-loop w defaults edits whole words nulls edited n i₀ i = n - i
 
 attribute-count-requires : tie.Need-attribute-count-requires Inv-loop μ-loop
 attribute-count-requires c κs = search needs
@@ -39,7 +39,7 @@ element-copy-out-text-ok-3 : tie.Need-element-copy-out-text-ok-3 Inv-loop μ-loo
 element-copy-out-text-ok-3 c = search needs
 
 text-ok-requires : tie.Need-text-ok-requires Inv-loop μ-loop
-text-ok-requires c κs = search needs
+text-ok-requires c κs = (search needs, c .before .before .before .before .before .before .before .before .pre)
 
 returns : tie.Need-returns Inv-loop μ-loop
 returns c =
