@@ -1,5 +1,5 @@
-//! The proved sign: the functions of the static library as C sees them, what they are lent, and safe calls of them. All that the benchmark knows of the
-//! library's interface stands here.
+//! The proved sign: the functions of the static library as C sees them, the memory that they are lent, and safe calls of them. All that the benchmark knows
+//! of the library's interface stands here.
 
 use std::cell::RefCell;
 
@@ -9,10 +9,6 @@ use reference::value::{Kind, Value};
 use crate::called::{Called, Last};
 use crate::messages::Messages;
 use crate::setup::{rows, word, Row, Setup, ATTRIBUTES, CLUSTERS, MESSAGE};
-
-/// Whether the library exports a start, a local change, and a call for one message that is lent state and access table. Not yet: messages are given in runs,
-/// each from a fresh exchange row on and with `OPEN` for a table.
-pub const CALLS: bool = false;
 
 pub const PAYLOAD: usize = 1024;
 
@@ -30,6 +26,14 @@ const HIGH: usize = LOW + ATTRIBUTES;
 const FIRST: usize = HIGH + ATTRIBUTES;
 const FACTORY: usize = FIRST + ATTRIBUTES;
 const WORDS: usize = FACTORY + ATTRIBUTES;
+
+// The words of an exchange row (crates/selection/src/request.rt): the paths of the request, a filter for each cluster, and how the exchange stands.
+const PATHS: usize = 16;
+const FILTERS_AT: usize = 3 * PATHS;
+const STANDING_AT: usize = FILTERS_AT + CLUSTERS;
+const ROW_WORDS: usize = STANDING_AT + 10;
+/// A field of a path that was left out, and the filter of a cluster that has none.
+const ANY: u64 = 1 << 32;
 
 /// What `sign_part` answers.
 #[repr(C)]
@@ -64,29 +68,61 @@ extern "C" {
         defaults_len: usize,
         edits: *const u8,
         edits_len: usize,
+        row: *const u64,
+        asked: usize,
         path: usize,
         index: usize,
         out: *mut u8,
         out_len: usize,
     ) -> Part;
-    fn sign_run(
+    fn sign_start(
         w: *const u64,
-        words: *const u64,
-        nulls: *const bool,
-        edited: *const bool,
-        versions: *const u32,
+        defaults: *const u8,
+        defaults_len: usize,
+        words: *mut u64,
+        nulls: *mut bool,
+        edited: *mut bool,
+        versions: *mut u32,
+        row: *mut u64,
+        kept: *mut u8,
+    ) -> u8;
+    fn sign_receive(
+        w: *const u64,
         defaults: *const u8,
         defaults_len: usize,
         edits: *mut u8,
         edits_len: usize,
+        words: *mut u64,
+        nulls: *mut bool,
+        edited: *mut bool,
+        versions: *mut u32,
+        row: *mut u64,
+        kept: *mut u8,
         subject: u64,
-        messages: *const u8,
-        messages_len: usize,
-        ends: *const usize,
-        ends_len: usize,
+        message: *const u8,
+        message_len: usize,
         out: *mut u8,
         out_len: usize,
     ) -> Last;
+    fn sign_change(
+        w: *const u64,
+        defaults: *const u8,
+        defaults_len: usize,
+        edits: *mut u8,
+        edits_len: usize,
+        words: *mut u64,
+        nulls: *mut bool,
+        edited: *mut bool,
+        versions: *mut u32,
+        row: *const u64,
+        endpoint: u16,
+        cluster: u32,
+        attribute: u32,
+        code: u8,
+        word: u64,
+        text: *const u8,
+        text_len: usize,
+    ) -> u8;
 }
 
 /// The schema's words.
@@ -127,13 +163,114 @@ fn words_of(setup: &Setup) -> Box<[u64; WORDS]> {
     w
 }
 
-/// A sign with the messages that it was given.
+/// What a sign holds, and the exchange that it serves: memory that each call is lent.
+#[derive(Clone, Debug, PartialEq)]
+struct Held {
+    words: [u64; ATTRIBUTES],
+    nulls: [bool; ATTRIBUTES],
+    edited: [bool; ATTRIBUTES],
+    versions: [u32; CLUSTERS],
+    row: [u64; ROW_WORDS],
+    kept: [u8; MESSAGE],
+}
+
+impl Held {
+    /// What is set up, with nothing served yet.
+    fn of(setup: &Setup) -> Held {
+        Held {
+            words: setup.words,
+            nulls: setup.nulls,
+            edited: setup.edited,
+            versions: setup.versions,
+            row: [0; ROW_WORDS],
+            kept: [0; MESSAGE],
+        }
+    }
+
+    /// Memory that nobody has written to.
+    fn unwritten() -> Held {
+        Held {
+            words: [u64::MAX; ATTRIBUTES],
+            nulls: [true; ATTRIBUTES],
+            edited: [true; ATTRIBUTES],
+            versions: [7; CLUSTERS],
+            row: [u64::MAX; ROW_WORDS],
+            kept: [0xA5; MESSAGE],
+        }
+    }
+
+    fn start(&mut self, schema: &[u64; WORDS], defaults: &[u8]) -> u8 {
+        // SAFETY: the arrays have the lengths that the library declares, each slice its own, and only the arrays of `self` are written.
+        unsafe {
+            sign_start(
+                schema.as_ptr(),
+                defaults.as_ptr(),
+                defaults.len(),
+                self.words.as_mut_ptr(),
+                self.nulls.as_mut_ptr(),
+                self.edited.as_mut_ptr(),
+                self.versions.as_mut_ptr(),
+                self.row.as_mut_ptr(),
+                self.kept.as_mut_ptr(),
+            )
+        }
+    }
+
+    fn receive(
+        &mut self,
+        schema: &[u64; WORDS],
+        defaults: &[u8],
+        edits: &mut [u8],
+        subject: u64,
+        message: &[u8],
+        out: &mut [u8],
+    ) -> Last {
+        // SAFETY: as above; `edits` and `out` are written too.
+        unsafe {
+            sign_receive(
+                schema.as_ptr(),
+                defaults.as_ptr(),
+                defaults.len(),
+                edits.as_mut_ptr(),
+                edits.len(),
+                self.words.as_mut_ptr(),
+                self.nulls.as_mut_ptr(),
+                self.edited.as_mut_ptr(),
+                self.versions.as_mut_ptr(),
+                self.row.as_mut_ptr(),
+                self.kept.as_mut_ptr(),
+                subject,
+                message.as_ptr(),
+                message.len(),
+                out.as_mut_ptr(),
+                out.len(),
+            )
+        }
+    }
+}
+
+/// The code that `sign_change` knows a value by.
+fn code(value: &Value) -> u8 {
+    match value {
+        Value::Null => 0,
+        Value::Bool(_) => 1,
+        Value::Unsigned(_) => 2,
+        Value::Signed(_) => 3,
+        Value::Float(_) => 4,
+        Value::Text(_) => 5,
+    }
+}
+
+/// A sign beside what it is lent. The library's calls have one access entry that grants everything.
 pub struct Sign {
     schema: Box<[u64; WORDS]>,
-    setup: Setup,
+    subject: u64,
+    defaults: Vec<u8>,
     /// May be written by a run, which leaves nothing else behind.
     edits: RefCell<Vec<u8>>,
-    given: Messages,
+    held: Held,
+    /// A row that asks for everything.
+    everything: [u64; ROW_WORDS],
 }
 
 impl Sign {
@@ -142,19 +279,24 @@ impl Sign {
         self.schema[SPARE] = 1;
     }
 
+    /// The exchange row: the request that it keeps, and how the exchange stands, of which refusal 2 asks.
+    pub fn row(&mut self) -> (&mut [u64], &mut [u64]) {
+        self.held.row.split_at_mut(STANDING_AT)
+    }
+
     /// The test of refusal 2: whether schema, values and pages keep the rules.
     pub fn valid(&self) -> bool {
-        let (setup, edits) = (&self.setup, self.edits.borrow());
+        let (held, edits) = (&self.held, self.edits.borrow());
         // SAFETY: the arrays have the lengths that the library declares, each slice its own, and the library writes to none.
         unsafe {
             sign_valid(
                 self.schema.as_ptr(),
-                setup.words.as_ptr(),
-                setup.nulls.as_ptr(),
-                setup.edited.as_ptr(),
-                setup.versions.as_ptr(),
-                setup.defaults.as_ptr(),
-                setup.defaults.len(),
+                held.words.as_ptr(),
+                held.nulls.as_ptr(),
+                held.edited.as_ptr(),
+                held.versions.as_ptr(),
+                self.defaults.as_ptr(),
+                self.defaults.len(),
                 edits.as_ptr(),
                 edits.len(),
             )
@@ -163,19 +305,21 @@ impl Sign {
 
     /// One part of a read of everything, from this place on. The sign must be valid.
     pub fn part(&self, path: usize, index: usize, out: &mut [u8; PAYLOAD]) -> Part {
-        let (setup, edits) = (&self.setup, self.edits.borrow());
-        // SAFETY: as above; `out` is as long as the contract asks, and the schema is well-formed, which `valid` was asked before.
+        let (held, edits) = (&self.held, self.edits.borrow());
+        // SAFETY: as above; `out` is as long as the contract asks, one path is asked for, and the schema is well-formed, which `valid` was asked before.
         unsafe {
             sign_part(
                 self.schema.as_ptr(),
-                setup.words.as_ptr(),
-                setup.nulls.as_ptr(),
-                setup.edited.as_ptr(),
-                setup.versions.as_ptr(),
-                setup.defaults.as_ptr(),
-                setup.defaults.len(),
+                held.words.as_ptr(),
+                held.nulls.as_ptr(),
+                held.edited.as_ptr(),
+                held.versions.as_ptr(),
+                self.defaults.as_ptr(),
+                self.defaults.len(),
                 edits.as_ptr(),
                 edits.len(),
+                self.everything.as_ptr(),
+                1,
                 path,
                 index,
                 out.as_mut_ptr(),
@@ -195,9 +339,17 @@ impl Sign {
         parts
     }
 
-    /// The messages given to the sign as it was set up, one after the other, each by a whole call: the last reply.
+    /// The messages given to the sign as it stands, one after the other, each by a whole call: the last reply. Only the page of edits is written. One function
+    /// of its own in the program, so that a profiler can tell it.
+    #[inline(never)]
     pub fn run(&self, messages: &Messages, out: &mut [u8]) -> Last {
-        self.run_as(self.schema[SUBJECT_WORD], messages, out)
+        let (mut held, mut edits) = (self.held.clone(), self.edits.borrow_mut());
+        let mut last = Last { number: 1, len: 0 };
+        for message in messages.iter() {
+            last =
+                held.receive(&self.schema, &self.defaults, &mut edits, self.subject, message, out);
+        }
+        last
     }
 
     /// The reply to each of these messages, given one after the other.
@@ -210,75 +362,66 @@ impl Sign {
         }
         all
     }
-
-    fn run_as(&self, subject: u64, messages: &Messages, out: &mut [u8]) -> Last {
-        let (setup, mut edits) = (&self.setup, self.edits.borrow_mut());
-        // SAFETY: the arrays have the lengths that the library declares, each slice its own, and only `edits` and `out` may be written.
-        unsafe {
-            sign_run(
-                self.schema.as_ptr(),
-                setup.words.as_ptr(),
-                setup.nulls.as_ptr(),
-                setup.edited.as_ptr(),
-                setup.versions.as_ptr(),
-                setup.defaults.as_ptr(),
-                setup.defaults.len(),
-                edits.as_mut_ptr(),
-                edits.len(),
-                subject,
-                messages.bytes.as_ptr(),
-                messages.bytes.len(),
-                messages.ends.as_ptr(),
-                messages.ends.len(),
-                out.as_mut_ptr(),
-                out.len(),
-            )
-        }
-    }
-
-    fn fresh_page(&self) {
-        self.edits.borrow_mut().copy_from_slice(&self.setup.edits);
-    }
 }
 
 impl Called for Sign {
     fn new(setup: &Setup) -> Sign {
+        let mut everything = [0; ROW_WORDS];
+        everything[..3].fill(ANY);
+        everything[FILTERS_AT..STANDING_AT].fill(ANY);
         Sign {
             schema: words_of(setup),
-            setup: setup.clone(),
+            subject: setup.schema.subject,
+            defaults: setup.defaults.clone(),
             edits: RefCell::new(setup.edits.clone()),
-            given: Messages::default(),
+            held: Held::of(setup),
+            everything,
         }
     }
 
-    /// Of first values the test of refusal 2 asks what a start does.
+    /// Where it is refused, what was lent stays as it was.
     fn start(setup: &Setup) -> Option<Sign> {
-        let sign = Sign::new(setup);
-        sign.valid().then_some(sign)
+        let mut sign = Sign { held: Held::unwritten(), ..Sign::new(setup) };
+        let number = sign.held.start(&sign.schema, &sign.defaults);
+        let untouched = sign.held == Held::unwritten();
+        assert_eq!((number == 0, untouched), (number != 11, number == 11), "0 or 11");
+        (number == 0).then_some(sign)
     }
 
     fn restart(&mut self) {
-        unimplemented!("not exported: see CALLS")
+        assert_eq!(self.held.start(&self.schema, &self.defaults), 0, "it was started before");
     }
 
-    /// All messages that the sign was given are run again. A buffer that is too small and a subject that is not served leave nothing behind, and a run
-    /// has one of each, so such a message is run alone.
     fn receive(&mut self, subject: u64, message: &[u8], out: &mut [u8]) -> Last {
-        self.fresh_page();
-        if subject != self.schema[SUBJECT_WORD] || out.len() < MESSAGE {
-            return self.run_as(subject, &Messages::of(&[message.to_vec()]), out);
-        }
-        let (mut before, mut after) = ([0; MESSAGE], [0; MESSAGE]);
-        self.run(&self.given, &mut before);
-        self.fresh_page();
-        self.given.push(0, message);
-        let last = self.run(&self.given, &mut after);
-        assert_eq!(before[last.len..], after[last.len..], "the rest of the buffer is untouched");
-        out[..last.len].copy_from_slice(&after[..last.len]);
-        last
+        let Sign { schema, defaults, edits, held, .. } = self;
+        held.receive(schema, defaults, edits.get_mut(), subject, message, out)
     }
 
-    fn change(&mut self, _: &Path, _: &Value) -> u8 {
-        unimplemented!("not exported: see CALLS")
+    fn change(&mut self, path: &Path, value: &Value) -> u8 {
+        let Sign { schema, defaults, edits, held, .. } = self;
+        let edits = edits.get_mut();
+        let text: &[u8] = if let Value::Text(text) = value { text } else { &[] };
+        // SAFETY: the arrays have the lengths that the library declares, each slice its own; the row is not written.
+        unsafe {
+            sign_change(
+                schema.as_ptr(),
+                defaults.as_ptr(),
+                defaults.len(),
+                edits.as_mut_ptr(),
+                edits.len(),
+                held.words.as_mut_ptr(),
+                held.nulls.as_mut_ptr(),
+                held.edited.as_mut_ptr(),
+                held.versions.as_mut_ptr(),
+                held.row.as_ptr(),
+                path.endpoint,
+                path.cluster,
+                path.attribute,
+                code(value),
+                word(value),
+                text.as_ptr(),
+                text.len(),
+            )
+        }
     }
 }

@@ -6,15 +6,10 @@ use crate::called::Called;
 use crate::clock::{medians, Run};
 use crate::library::{Sign, PAYLOAD};
 use crate::messages::{whole_read, Messages};
-use crate::setup::{Setup, ATTRIBUTES, MESSAGE};
+use crate::setup::{ATTRIBUTES, MESSAGE};
 use crate::signs::{mixed, scripts, texts};
 
 const SAMPLES: usize = 2001;
-
-fn edited(mut setup: Setup) -> Sign {
-    setup.edit_all();
-    Sign::new(&setup)
-}
 
 /// The answers are held to what they must be; the times are not.
 fn answers_are_right(sign: &Sign, one: &Messages, two: &Messages) -> usize {
@@ -85,8 +80,9 @@ pub fn print() {
     let signs = [
         ("256 of mixed kinds", Sign::new(&mixed(ATTRIBUTES))),
         ("256 texts, ASCII", Sign::new(&texts("BORROW"))),
-        ("256 texts, ASCII, edited", edited(texts("BORROW"))),
+        ("256 texts, ASCII, edited", Sign::new(&texts("BORROW").edited())),
         ("256 texts, one é each", Sign::new(&texts("PRÉT"))),
+        ("256 texts, one é, edited", Sign::new(&texts("PRÉT").edited())),
         ("256 texts, to 3 bytes", Sign::new(&scripts(["a", "é", "借", "り"]))),
         ("256 texts, to 4 bytes", Sign::new(&scripts(["a", "é", "借", "𝄞"]))),
     ];

@@ -103,6 +103,12 @@ impl Setup {
         setup
     }
 
+    /// The same with every text changed once.
+    pub fn edited(mut self) -> Setup {
+        self.edit_all();
+        self
+    }
+
     /// Every text changed once: shown from the page of edits from then on.
     pub fn edit_all(&mut self) {
         for (i, row) in rows(&self.schema).iter().enumerate() {

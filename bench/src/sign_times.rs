@@ -108,12 +108,16 @@ pub fn reads() {
         Case::whole("mixed kinds", &mixed(ATTRIBUTES)),
         Case::whole("booleans, unsigned", &numbers(ATTRIBUTES)),
         Case::whole("mixed, accented", &accented(ATTRIBUTES)),
+        Case::whole("mixed, accented, edited", &accented(ATTRIBUTES).edited()),
     ];
     print("A whole read of everything", SAMPLES, cases);
     let cases = vec![
         Case::whole("texts, ASCII", &texts("BORROW")),
         Case::whole("texts, one é each", &texts("PRÉT")),
         Case::whole("texts, to 3 bytes", &scripts(["a", "é", "借", "り"])),
+        Case::whole("texts, ASCII, edited", &texts("BORROW").edited()),
+        Case::whole("texts, one é, edited", &texts("PRÉT").edited()),
+        Case::whole("texts, to 3 bytes, edited", &scripts(["a", "é", "借", "り"]).edited()),
     ];
     print("The same, texts of 200 bytes", FEWER_SAMPLES, cases);
 }

@@ -6,7 +6,7 @@ use reference::status::{INVALID_ACTION, SUCCESS};
 use reference::value::Value;
 
 use crate::called::Called;
-use crate::library::{Sign, CALLS};
+use crate::library::Sign;
 use crate::messages::{deep_read, filtered_reads, read_all, status, write_all, Messages};
 use crate::ordinary::{Checked, Unchecked};
 use crate::setup::{Setup, ATTRIBUTES, MESSAGE};
@@ -100,15 +100,6 @@ fn of_call<S: Called>(call: &Call) -> usize {
     bytes(&mut || assert_eq!(sign.receive(SUBJECT, last, &mut out).number, call.number))
 }
 
-/// Of ours a run with the messages before it, where the library exports no call.
-fn of_ours(call: &Call) -> usize {
-    if CALLS {
-        return of_call::<Sign>(call);
-    }
-    let (sign, mut out) = (Sign::new(&call.setup), vec![0; call.room]);
-    bytes(&mut || assert_eq!(sign.run(&call.messages, &mut out).number, call.number))
-}
-
 /// A start, and local changes of a number and a text.
 fn of_others<S: Called>() -> [usize; 3] {
     let mut sign = S::new(&accented(ATTRIBUTES));
@@ -121,26 +112,26 @@ fn of_others<S: Called>() -> [usize; 3] {
     ]
 }
 
-fn line(name: &str, ours: Option<usize>, plain: Option<usize>, checked: usize) {
-    let spell = |bytes: Option<usize>| bytes.map_or("-".to_string(), |bytes| bytes.to_string());
-    println!("{name:38} {:>9} {:>9} {checked:9}", spell(ours), spell(plain));
+fn line(name: &str, ours: usize, plain: Option<usize>, checked: usize) {
+    let plain = plain.map_or("-".to_string(), |bytes| bytes.to_string());
+    println!("{name:38} {ours:9} {plain:>9} {checked:9}");
 }
 
 pub fn print() {
     println!("\n{:38} {:>9} {:>9} {:>9}", "Stack, bytes", "ours", "plain", "checked");
     for call in calls() {
         let plain = (call.number != 2).then(|| of_call::<Unchecked>(&call));
-        line(call.name, Some(of_ours(&call)), plain, of_call::<Checked>(&call));
+        line(call.name, of_call::<Sign>(&call), plain, of_call::<Checked>(&call));
     }
     let names = ["a start", "a local change of a number", "a local change of a text"];
-    let ours = CALLS.then(of_others::<Sign>);
+    let ours = of_others::<Sign>();
     let (plain, checked) = (of_others::<Unchecked>(), of_others::<Checked>());
     for (k, name) in names.iter().enumerate() {
-        line(name, ours.map(|bytes| bytes[k]), Some(plain[k]), checked[k]);
+        line(name, ours[k], Some(plain[k]), checked[k]);
     }
     let setup = accented(ATTRIBUTES);
     let (ours, checked) = (Sign::new(&setup), Checked::new(&setup));
     let ours = bytes(&mut || assert!(ours.valid()));
     let checked = bytes(&mut || assert!(checked.valid()));
-    line("the test of refusal 2 alone", Some(ours), None, checked);
+    line("the test of refusal 2 alone", ours, None, checked);
 }

@@ -1,24 +1,28 @@
-//! Refusal 2: signs with one thing broken, or almost, get it from the library and from the checked Rust alike.
+//! Refusal 2: signs with one thing broken, or almost, get it from the library and from the checked Rust alike; and the library gives it for exchange rows
+//! with a number past its limit, and for no others.
 
 use reference::generate::plan::{self, Size};
 use reference::rng::Rng;
 use reference::schema::Attribute;
+use reference::status::SUCCESS;
 use reference::value::{Kind, Value};
 
 use crate::called::Called;
 use crate::library::Sign;
-use crate::messages::whole_read;
+use crate::messages::{read_all, status, whole_read};
 use crate::ordinary::Checked;
 use crate::setup::{Setup, ATTRIBUTES, CLUSTERS, MESSAGE, OPEN, TEXT_SIZE};
 
-/// How many signs kept the rules and how many did not.
+/// How many signs kept the rules and how many did not; of those that did, how many were then lent a row that did, and one that did not.
 pub struct Judged {
     pub kept: u64,
     pub broken: u64,
+    pub rows: u64,
+    pub broken_rows: u64,
 }
 
 pub fn hold(first: u64, count: u64) -> Judged {
-    let mut judged = Judged { kept: 0, broken: 0 };
+    let mut judged = Judged { kept: 0, broken: 0, rows: 0, broken_rows: 0 };
     for seed in first..first + count {
         let mut rng = Rng::new(seed);
         let size = *rng.pick(&[Size::Small, Size::Wordy, Size::Wordy, Size::Full]);
@@ -30,7 +34,7 @@ pub fn hold(first: u64, count: u64) -> Judged {
         for _ in 0..rng.between(1, 2) {
             touch(&mut setup, &mut rng);
         }
-        let (ours, mut checked) = (Sign::new(&setup), Checked::new(&setup));
+        let (mut ours, mut checked) = (Sign::new(&setup), Checked::new(&setup));
         let right = ours.valid();
         assert_eq!(right, checked.valid(), "seed {seed}: whether the sign keeps the rules");
         let (mut a, mut b) = ([7; MESSAGE], [7; MESSAGE]);
@@ -38,9 +42,51 @@ pub fn hold(first: u64, count: u64) -> Judged {
         assert_eq!(last, checked.run(&whole_read(1), &mut b), "seed {seed}: a read");
         assert_eq!(a, b, "seed {seed}: the reply to a read");
         assert_eq!(right, last.number != 2, "seed {seed}: 2 exactly if the rules are broken");
+        if let Some(Attribute { path, first, .. }) = setup.schema.attributes.last() {
+            for value in [Value::Null, first.clone()] {
+                let status = ours.change(path, &value);
+                assert_eq!(status, checked.change(path, &value), "seed {seed}: a change");
+                assert_eq!(right, status != 2, "seed {seed}: 2 at a change too");
+            }
+        }
         *(if right { &mut judged.kept } else { &mut judged.broken }) += 1;
+        if right {
+            let kept = touch_row(&mut ours, &mut rng);
+            hold_row(&mut ours, kept, setup.schema.subject, seed);
+            *(if kept { &mut judged.rows } else { &mut judged.broken_rows }) += 1;
+        }
     }
     judged
+}
+
+/// The highest exchange, turn, mark that more was promised, mark that it is closed, count of paths, place among them and in the schema, and length of a reply.
+const HIGHEST: [u64; 8] = [(1 << 40) - 1, 65_535, 1, 1, 16, 16, 256, MESSAGE as u64];
+
+/// Any paths and filters; of how the exchange stands each word in its limits, or seldom past them. Whether none is.
+fn touch_row(ours: &mut Sign, rng: &mut Rng) -> bool {
+    let (request, standing) = ours.row();
+    for word in request {
+        *word = *rng.pick(&[0, 1, 0x0500, 1 << 32, u64::MAX]);
+    }
+    let mut kept = true;
+    for (word, highest) in standing.iter_mut().zip(HIGHEST) {
+        let past = rng.chance(5);
+        *word = if past {
+            *rng.pick(&[highest + 1, highest + (1 << 32), u64::MAX])
+        } else {
+            *rng.pick(&[0, 1, 1, highest])
+        };
+        kept &= !past;
+    }
+    kept
+}
+
+/// 2 for every call exactly if the row breaks the rules.
+fn hold_row(ours: &mut Sign, kept: bool, subject: u64, seed: u64) {
+    for message in [status(1, SUCCESS), read_all()] {
+        let number = ours.receive(subject, &message, &mut [0; MESSAGE]).number;
+        assert_eq!(kept, number != 2, "seed {seed}: 2 exactly if the row breaks the rules");
+    }
 }
 
 fn touch(setup: &mut Setup, rng: &mut Rng) {

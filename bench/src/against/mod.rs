@@ -28,20 +28,24 @@ pub fn hold(seeds: u64, first: u64) {
             let answers = proved(&steps);
             hold_rust(&format!("{name}, the player"), &steps, &answers);
             player.add(&steps, &answers);
-            let steps = if library::CALLS { steps } else { steps::for_runs(&steps) };
+            let steps = steps::for_library(&steps);
             let answers = play::<library::Sign>(&steps);
             hold_rust(&format!("{name}, the library"), &steps, &answers);
             linked.add(&steps, &answers);
         }
     }
     println!("The proved player and the Rust signs answer alike, {seeds} seeds from {first}:");
-    player.print(true);
+    player.print();
     println!("The linked library and the Rust signs answer alike:");
-    linked.print(library::CALLS);
+    linked.print();
     let judged = broken::hold(20 * first, 20 * seeds);
     println!(
         "Refusal 2: {} signs keep the rules, {} break one; the library and the checked Rust agree",
         judged.kept, judged.broken
+    );
+    println!(
+        "Refusal 2: {} exchange rows keep the rules, {} break one",
+        judged.rows, judged.broken_rows
     );
 }
 

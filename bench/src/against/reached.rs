@@ -84,8 +84,8 @@ impl Reached {
         }
     }
 
-    /// Prints the counts; if `all`, with what never came.
-    pub fn print(&self, all: bool) {
+    /// Prints the counts, with what never came.
+    pub fn print(&self) {
         for Group { name, hex, wanted, counts } in &self.0 {
             let spell =
                 |number: u8| if *hex { format!("{number:02X}") } else { number.to_string() };
@@ -93,12 +93,10 @@ impl Reached {
             for (number, count) in counts {
                 line.push_str(&format!(" {} x {count},", spell(*number)));
             }
-            for number in wanted.iter().filter(|number| all && !counts.contains_key(number)) {
+            for number in wanted.iter().filter(|number| !counts.contains_key(number)) {
                 line.push_str(&format!(" {} never,", spell(*number)));
             }
-            if all || !counts.is_empty() {
-                println!("{}", line.trim_end_matches(','));
-            }
+            println!("{}", line.trim_end_matches(','));
         }
     }
 }

@@ -157,9 +157,9 @@ fn hurt(mut message: Vec<u8>, rng: &mut Rng) -> Vec<u8> {
     message
 }
 
-/// What the linked library can be given in runs: no local change, and one access entry, which it has itself.
-pub fn for_runs(steps: &[Step]) -> Vec<Step> {
+/// What the linked library can be given: one access entry, which it has itself.
+pub fn for_library(steps: &[Step]) -> Vec<Step> {
     let open = Step { text: "access 4 * * *".to_string(), line: Line::Access(OPEN) };
-    let can = |step: &&Step| !matches!(step.line, Line::Change(..) | Line::Access(_));
+    let can = |step: &&Step| !matches!(step.line, Line::Access(_));
     std::iter::once(open).chain(steps.iter().filter(can).cloned()).collect()
 }
