@@ -1,4 +1,4 @@
--- S1 to S12 of document 01, and a read of two parts, as one list, over what `receive` and `change` answer.
+-- S1 to S12 of document 01, a read of two parts and the limits in figures, as one list, over what `receive` and `change` answer.
 use mathlib.Core.Path.{_≡_}
 use mathlib.Core.Bool.{true}
 use mathlib.Core.List.{List, [], _∷_, _++_}
@@ -7,7 +7,16 @@ use lib.IntN.{negsuc}
 use lib.ListN.{getD, replicate}
 use Rattle.tlv.specs.declared.Value.{Value}
 use Rattle.tlv.specs.declared.Value.the-variants.{Signed, Float, Text}
-use Rattle.acl.specs.Access.{grantsOf, tableOk}
+use Rattle.tlv.specs.Tree.{maxDepth}
+use Rattle.interaction.specs.Read.{maxPaths, maxFilters}
+use Rattle.interaction_write.specs.Write.{maxWrites}
+use Rattle.envelope.specs.Envelope.{envelopeLength, maxMessage}
+use Rattle.kinds.specs.Limits.{textMax}
+use Rattle.schema.specs.Layout.{endpointLimit, clusterLimit, attributeLimit, textSize}
+use Rattle.acl.specs.Access.{entryLimit, grantsOf, tableOk}
+use Rattle.exchange.specs.Rules.{maxTurn}
+use Rattle.report.specs.Chunk.{maxPayload}
+use Rattle.cached.specs.Limits as Panel
 use Rattle.server.specs.declared.State.{State}
 use Rattle.server.specs.State.{signRight}
 use Rattle.server.specs.Receive.{Reaction, received}
@@ -141,3 +150,26 @@ pub record All : Type 0 where
   pub standing-6 : standing 6 ≡ 0 ∷ secondPart (texts 1 ++ block (version 5) 6 (id 0) true-data)
   pub altering-5 : altering 5 ≡ 0 ∷ secondPart (texts 1 ++ block (version 6) 6 (id 0) true-data)
   pub altering-6 : altering 6 ≡ 0 ∷ secondPart (texts 1)
+  -- THE LIMITS in figures. "At most 8 endpoints, 32 clusters, 256 attributes, 16 access entries"
+  pub endpoints : endpointLimit ≡ 8
+  pub clusters : clusterLimit ≡ 32
+  pub attributes : attributeLimit ≡ 256
+  pub entries : entryLimit ≡ 16
+  -- "text of up to 200 bytes", and room for as many in the page of edits
+  pub text : textMax ≡ 200
+  pub text-room : textSize ≡ 200
+  -- "Eight bytes, [...] turn 16. Then a payload of at most 1,024 bytes."
+  pub header : envelopeLength ≡ 8
+  pub turns : maxTurn ≡ 65535
+  pub payload : maxPayload ≡ 1024
+  -- 3 and 4: "under 1,032 bytes", "over 1,032 bytes"
+  pub message : maxMessage ≡ 1032
+  -- 80: "depth above 10"; "then C8 over 16 paths; then 89 over 32 filters or 16 writes"
+  pub depth : maxDepth ≡ 10
+  pub paths : maxPaths ≡ 16
+  pub writes : maxWrites ≡ 16
+  pub filters : maxFilters ≡ 32
+  -- 7: "a 257th entry, a 33rd cluster, or text over 200"
+  pub panel-entries : Panel.maxEntries ≡ 256
+  pub panel-clusters : Panel.maxClusters ≡ 32
+  pub panel-text : Panel.textSize ≡ 200
