@@ -2,7 +2,7 @@
 ghost use mathlib.Core.Path.{_≡_};
 ghost use Rattle.tlv.specs.Walk.Got.{bad};
 ghost use Rattle.tlv.specs.Decode.Opt.{nothing};
-ghost use Rattle.interaction.specs.Message.{openPass, wholePass, keepOf, listOn};
+ghost use Rattle.interaction.specs.Message.{openPass, wholePass, listOn};
 ghost use Rattle.interaction.specs.Status.{responseIn, responseRead};
 ghost use Rattle.interaction.specs.Read.{targetOf, askedAt, askedOn, askedRead, wantedOn, wantedRead, pathsAt, pathsRead, pathsEnd, localF, wantedOf, wantedAt, wantsAt, wantsRead, wantsEnd, readVerdict, readIn, readRead, passPaths, passWants, readBy};
 use blocks::Filter;
@@ -161,17 +161,6 @@ fn asked_of(s: &[u8], e: Element, left: usize) -> AskedRead
     AskedRead::Asked(target_of(p), next)
 }
 
-// The kept paths with one more, if there is room.
-fn keep_path(kept: [Target; 16], count: usize, t: Target) -> [Target; 16]
-    ensures { λ r. ⌜ r ≡ keepOf 16 kept count t ⌝ }
-{
-    let mut next = kept;
-    if count < MAX_PATHS {
-        next[count] = t;
-    }
-    next
-}
-
 // The paths of an array from one of its members on: all are checked and counted, the first are kept.
 pub fn paths_from(s: &[u8], c: Cursor, left: usize) -> PathList
     ensures { λ r. ⌜ r ≡ pathsEnd (pathsAt left (now (s .entry)) (c .at)) ⌝ }
@@ -197,8 +186,9 @@ pub fn paths_from(s: &[u8], c: Cursor, left: usize) -> PathList
                 let AskedRead::Asked(t, next) = asked_of(s, e, left) else {
                     return no_path_list();
                 };
-                let more = keep_path(kept, count, t);
-                kept = more;
+                if count < MAX_PATHS {
+                    kept[count] = t;
+                }
                 count += 1;
                 at = next.at;
             }
@@ -303,17 +293,6 @@ fn wanted_at(s: &[u8], e: Element, left: usize) -> WantedRead
     WantedRead::Wanted(wanted_of(p), next)
 }
 
-// The kept filters with one more, if there is room.
-fn keep_filter(kept: [Wanted; 32], count: usize, f: Wanted) -> [Wanted; 32]
-    ensures { λ r. ⌜ r ≡ keepOf 32 kept count f ⌝ }
-{
-    let mut next = kept;
-    if count < MAX_FILTERS {
-        next[count] = f;
-    }
-    next
-}
-
 // The filters of an array from one of its members on: all are checked and counted, the first are kept.
 pub fn wants_from(s: &[u8], c: Cursor, left: usize) -> WantList
     ensures { λ r. ⌜ r ≡ wantsEnd (wantsAt left (now (s .entry)) (c .at)) ⌝ }
@@ -339,8 +318,9 @@ pub fn wants_from(s: &[u8], c: Cursor, left: usize) -> WantList
                 let WantedRead::Wanted(t, next) = wanted_at(s, e, left) else {
                     return no_want_list();
                 };
-                let more = keep_filter(kept, count, t);
-                kept = more;
+                if count < MAX_FILTERS {
+                    kept[count] = t;
+                }
                 count += 1;
                 at = next.at;
             }

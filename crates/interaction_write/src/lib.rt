@@ -2,7 +2,7 @@
 ghost use mathlib.Core.Path.{_≡_};
 ghost use Rattle.tlv.specs.Walk.Got.{bad};
 ghost use Rattle.tlv.specs.Decode.Opt.{nothing};
-ghost use Rattle.interaction.specs.Message.{keepOf, listOn};
+ghost use Rattle.interaction.specs.Message.{listOn};
 ghost use Rattle.interaction_write.specs.Write.{entryOf, entryAt, entryOn, entryRead, entriesAt, entriesRead, entriesEnd, unchunked, writeVerdict, writeIn, writeRead, writeBy};
 use blocks::Data;
 use blocks::DataRead;
@@ -97,17 +97,6 @@ fn entry_at(s: &[u8], e: Element, left: usize) -> EntryRead
     EntryRead::Entry(entry_of(p), next)
 }
 
-// The kept entries with one more, if there is room.
-fn keep_entry(kept: [Entry; 16], count: usize, x: Entry) -> [Entry; 16]
-    ensures { λ r. ⌜ r ≡ keepOf 16 kept count x ⌝ }
-{
-    let mut next = kept;
-    if count < MAX_WRITES {
-        next[count] = x;
-    }
-    next
-}
-
 // The entries of an array from one of its members on: all are checked and counted, the first are kept.
 pub fn entries_from(s: &[u8], c: Cursor, left: usize) -> EntryList
     ensures { λ r. ⌜ r ≡ entriesEnd (entriesAt left (now (s .entry)) (c .at)) ⌝ }
@@ -133,8 +122,9 @@ pub fn entries_from(s: &[u8], c: Cursor, left: usize) -> EntryList
                 let EntryRead::Entry(t, next) = entry_at(s, e, left) else {
                     return no_list();
                 };
-                let more = keep_entry(kept, count, t);
-                kept = more;
+                if count < MAX_WRITES {
+                    kept[count] = t;
+                }
                 count += 1;
                 at = next.at;
             }

@@ -18,6 +18,13 @@ pub fn number(s: &[u8], at: usize, w: usize) -> u64
     requires { ⌜ (w ≤ 8) × (at + w ≤ length (now s)) ⌝ }
     ensures { λ r. ⌜ r ≡ numberAt w (now (s .entry)) at ⌝ }
 {
+    // Most numbers have no byte or one.
+    if w == 0 {
+        return 0;
+    }
+    if w == 1 {
+        return wide(s[at]);
+    }
     let mut v: u64 = 0;
     let mut i = w;
     while 0 < i {
@@ -32,6 +39,10 @@ pub fn put_number(b: &mut [u8], at: usize, w: usize, v: u64) -> usize
     requires { ⌜ at + w ≤ length (now b) ⌝ }
     ensures { λ r. ⌜ Stored (now (b .entry)) at (bytesOf w v) (now (b .exit)) r ⌝ }
 {
+    if w == 1 {
+        b[at] = (v % 256) as u8;
+        return at + 1;
+    }
     let mut x = v;
     let mut i = 0;
     while i < w {

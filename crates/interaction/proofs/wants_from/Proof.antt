@@ -1,10 +1,12 @@
-use mathlib.Core.Path.{refl, sym, ap, _∙_}
+use mathlib.Core.Path.{_≡_, refl, sym, ap, _∙_}
+use mathlib.Core.Logic.{⊎-elim}
 use mathlib.Core.Bool.{true}
 use Prim.Native.Nat.{_-_}
 use native.Mathlib.Omega.{arith}
 use lib.ListN.{length}
-use Rattle.interaction.specs.Message.{firstOf}
+use Rattle.interaction.specs.Message.{firstOf, keepOf}
 use borrow.Author.Needs.{needs}
+use borrow.Author.Tests.{lt-ltb, le-ltb}
 use Rattle.interaction.specs.Read.{unwanted, wantsAt, wantsFrom, wantsEnd, wantedOn}
 use Rattle.interaction.proofs.LoopLaws.{map-same, Loop, loop-starts, loop-bad, loop-ends, loop-refuses, loop-nearer, loop-room, loop-goes}
 use Rattle.interaction.proofs.ReadLaws.{wanted-reads, wanted-none, wanted-some}
@@ -60,8 +62,15 @@ returns-3 : tie.Need-returns-3 Inv-loop μ-loop
 returns-3 c = let a = c .before .before .before .before .before .before .before .before .before .before .args in let d = a .left in let s = a .s .now in let l = c .before .before .before .before .before .before .before .before .loop in let g = wantsAt d s (a .c .at) in
     c .no-want-list2 .ensures ∙ ap wantsEnd (sym (loop-refuses (λ x. x) 32 unwanted d s (wanted-reads d s) g (l .inv) (sym (c .before .before .before .before .before .before .before .item-at .ensures) ∙ c .before .before .before .before .before .item2 .given .1) (wanted-none (wantedOn d s _) (sym (c .before .before .before .wanted-at .ensures) ∙ c .before .enum-told2 .given .1))))
 
-keep-filter-requires : tie.Need-keep-filter-requires Inv-loop μ-loop
-keep-filter-requires c κs = search needs
+mul-kept : tie.Need-mul-kept Inv-loop μ-loop
+mul-kept c = search needs
+
+array-set-from-kept : tie.Need-array-set-from-kept Inv-loop μ-loop
+array-set-from-kept c = search needs
+
+-- one more is kept, if there is room
+joined : (c : tie.Joined1 Inv-loop μ-loop) → let l = c .before .before .before .before .before .before .before .before .before .loop in c .if1 .kept ≡ keepOf 32 (l .kept) (l .count) (c .before .before .t .given .0 .0)
+joined c = ⊎-elim (λ w. w .1 ∙ rw (lt-ltb _ _ (w .0 .taken)) refl) (λ w. w .1 ∙ rw (le-ltb _ _ (w .0 .left)) refl) (c .if1 .came)
 
 add-count : tie.Need-add-count Inv-loop μ-loop
 add-count c = let a = c .before .before .before .before .before .before .before .before .before .before .before .args in let d = a .left in let s = a .s .now in let l = c .before .before .before .before .before .before .before .before .before .loop in let g = wantsAt d s (a .c .at) in
@@ -73,7 +82,7 @@ loop-less c = let a = c .before .before .before .before .before .before .before 
 
 loop-again : tie.Need-loop-again Inv-loop μ-loop
 loop-again c = let a = c .before .before .before .before .before .before .before .before .before .before .before .args in let d = a .left in let s = a .s .now in let l = c .before .before .before .before .before .before .before .before .before .loop in let g = wantsAt d s (a .c .at) in
-    loop-goes (λ x. x) 32 unwanted d s (wanted-reads d s) g (l .inv) (sym (c .before .before .before .before .before .before .before .before .item-at .ensures) ∙ c .before .before .before .before .before .before .item2 .given .1) (wanted-some (wantedOn d s _) (sym (c .before .before .before .before .wanted-at .ensures) ∙ c .before .before .t .given .1)) (c .keep-filter .ensures)
+    loop-goes (λ x. x) 32 unwanted d s (wanted-reads d s) g (l .inv) (sym (c .before .before .before .before .before .before .before .before .item-at .ensures) ∙ c .before .before .before .before .before .before .item2 .given .1) (wanted-some (wantedOn d s _) (sym (c .before .before .before .before .wanted-at .ensures) ∙ c .before .before .t .given .1)) (joined c)
 
 pub wants-from-spec : {M : Type 1} → statement M
 wants-from-spec =
@@ -94,7 +103,8 @@ wants-from-spec =
     enum-told-2
     no-want-list-requires-2
     returns-3
-    keep-filter-requires
+    mul-kept
+    array-set-from-kept
     add-count
     loop-less
     loop-again)

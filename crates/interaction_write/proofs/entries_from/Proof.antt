@@ -1,9 +1,11 @@
-use mathlib.Core.Path.{refl, sym, ap, _∙_}
+use mathlib.Core.Path.{_≡_, refl, sym, ap, _∙_}
+use mathlib.Core.Logic.{⊎-elim}
 use mathlib.Core.Bool.{true}
 use Prim.Native.Nat.{_-_}
 use native.Mathlib.Omega.{arith}
 use lib.ListN.{length}
 use borrow.Author.Needs.{needs}
+use borrow.Author.Tests.{lt-ltb, le-ltb}
 use Rattle.interaction.specs.Message.{keepOf}
 use Rattle.interaction_write.specs.declared.Entry.{Entry}
 use Rattle.interaction_write.specs.Write.{noEntry, entryStruct, entriesAt, entriesFrom, entriesEnd, entryOn}
@@ -61,8 +63,15 @@ returns-3 : tie.Need-returns-3 Inv-loop μ-loop
 returns-3 c = let a = c .before .before .before .before .before .before .before .before .before .before .args in let d = a .left in let s = a .s .now in let l = c .before .before .before .before .before .before .before .before .loop in let g = entriesAt d s (a .c .at) in
     c .no-list2 .ensures ∙ ap entriesEnd (sym (loop-refuses entryStruct 16 noEntry d s (entry-reads d s) g (l .inv) (sym (c .before .before .before .before .before .before .before .item-at .ensures) ∙ c .before .before .before .before .before .item2 .given .1) (entry-none (entryOn d s _) (sym (c .before .before .before .entry-at .ensures) ∙ c .before .enum-told2 .given .1))))
 
-keep-entry-requires : tie.Need-keep-entry-requires Inv-loop μ-loop
-keep-entry-requires c κs = search needs
+mul-kept : tie.Need-mul-kept Inv-loop μ-loop
+mul-kept c = search needs
+
+array-set-from-kept : tie.Need-array-set-from-kept Inv-loop μ-loop
+array-set-from-kept c = search needs
+
+-- one more is kept, if there is room
+joined : (c : tie.Joined1 Inv-loop μ-loop) → let l = c .before .before .before .before .before .before .before .before .before .loop in c .if1 .kept ≡ keepOf 16 (l .kept) (l .count) (c .before .before .t .given .0 .0)
+joined c = ⊎-elim (λ w. w .1 ∙ rw (lt-ltb _ _ (w .0 .taken)) refl) (λ w. w .1 ∙ rw (le-ltb _ _ (w .0 .left)) refl) (c .if1 .came)
 
 add-count : tie.Need-add-count Inv-loop μ-loop
 add-count c = let a = c .before .before .before .before .before .before .before .before .before .before .before .args in let d = a .left in let s = a .s .now in let l = c .before .before .before .before .before .before .before .before .before .loop in let g = entriesAt d s (a .c .at) in let x = entry-some (entryOn d s _) (sym (c .before .before .before .before .entry-at .ensures) ∙ c .before .before .t .given .1) in
@@ -74,7 +83,7 @@ loop-less c = let a = c .before .before .before .before .before .before .before 
 
 loop-again : tie.Need-loop-again Inv-loop μ-loop
 loop-again c = let a = c .before .before .before .before .before .before .before .before .before .before .before .args in let d = a .left in let s = a .s .now in let l = c .before .before .before .before .before .before .before .before .before .loop in let g = entriesAt d s (a .c .at) in let x = entry-some (entryOn d s _) (sym (c .before .before .before .before .entry-at .ensures) ∙ c .before .before .t .given .1) in
-    loop-goes entryStruct 16 noEntry d s (entry-reads d s) g (l .inv) (sym (c .before .before .before .before .before .before .before .before .item-at .ensures) ∙ c .before .before .before .before .before .before .item2 .given .1) (x .found) (c .keep-entry .ensures ∙ ap (λ (y : Entry). keepOf 16 (l .kept) (l .count) y) (x .is))
+    loop-goes entryStruct 16 noEntry d s (entry-reads d s) g (l .inv) (sym (c .before .before .before .before .before .before .before .before .item-at .ensures) ∙ c .before .before .before .before .before .before .item2 .given .1) (x .found) (joined c ∙ ap (λ (y : Entry). keepOf 16 (l .kept) (l .count) y) (x .is))
 
 pub entries-from-spec : {M : Type 1} → statement M
 entries-from-spec =
@@ -95,7 +104,8 @@ entries-from-spec =
     enum-told-2
     no-list-requires-2
     returns-3
-    keep-entry-requires
+    mul-kept
+    array-set-from-kept
     add-count
     loop-less
     loop-again)

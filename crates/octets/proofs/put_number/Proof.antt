@@ -1,5 +1,5 @@
 use mathlib.Core.Path.{_≡_, refl, sym, _∙_}
-use Prim.Native.Nat.{_+_, _-_, _≤_}
+use Prim.Native.Nat.{_+_, _-_, _%_, _≤_}
 use native.Mathlib.Nat.{add-zero, sub-zero}
 use native.Mathlib.Omega.{arith}
 use lib.ListN.{length, length-set}
@@ -16,17 +16,36 @@ Inv-loop b₀ at w v x₀ i₀ b x i = (i ≤ w) × ((length b ≡ length b₀) 
 abbrev μ-loop : tie.MeasureT-loop
 μ-loop b₀ at w v x₀ i₀ b x i = w - i
 
+cast-b : tie.Need-cast-b Inv-loop μ-loop
+cast-b c = omega arith
+
+slice-write-b : tie.Need-slice-write-b Inv-loop μ-loop
+slice-write-b c = omega arith
+
+add-result : tie.Need-add-result Inv-loop μ-loop
+add-result c = omega arith
+
+same-length : tie.Need-same-length Inv-loop μ-loop
+same-length c = let a = c .before .args in length-set (a .b .now) (a .at) (a .v % 256)
+
+returns : tie.Need-returns Inv-loop μ-loop
+unfolding store bytesOf
+returns c =
+    let a = c .before .args in
+    let e : a .w ≡ 1 = c .if1 .taken in
+    record { content = rw e refl; place = rw e refl }
+
 loop-holds : tie.Need-loop-holds Inv-loop μ-loop
 loop-holds c = (omega arith, (refl, simp (add-zero, sub-zero)))
 
-cast-b : tie.Need-cast-b Inv-loop μ-loop
-cast-b c = omega arith
+cast-b-2 : tie.Need-cast-b-2 Inv-loop μ-loop
+cast-b-2 c = omega arith
 
 add-b : tie.Need-add-b Inv-loop μ-loop
 add-b c = omega arith
 
-slice-write-b : tie.Need-slice-write-b Inv-loop μ-loop
-slice-write-b c = omega arith
+slice-write-b-2 : tie.Need-slice-write-b-2 Inv-loop μ-loop
+slice-write-b-2 c = omega arith
 
 add-i : tie.Need-add-i Inv-loop μ-loop
 add-i c = omega arith
@@ -36,20 +55,20 @@ loop-less c = omega arith
 
 loop-again : tie.Need-loop-again Inv-loop μ-loop
 loop-again c =
-    let a = c .before .before .args in
+    let a = c .before .before .before .args in
     let l = c .before .loop in
     (omega arith, (simp length-set (l .inv .1 .0), l .inv .1 .1 ∙ number-turn (l .b) (a .at) (a .w) (l .i) (l .x) (omega arith)))
 
-add-result : tie.Need-add-result Inv-loop μ-loop
-add-result c = omega arith
+add-result-2 : tie.Need-add-result-2 Inv-loop μ-loop
+add-result-2 c = omega arith
 
-same-length : tie.Need-same-length Inv-loop μ-loop
-same-length c = c .before .loop .inv .1 .0
+same-length-2 : tie.Need-same-length-2 Inv-loop μ-loop
+same-length-2 c = c .before .loop .inv .1 .0
 
-returns : tie.Need-returns Inv-loop μ-loop
+returns-2 : tie.Need-returns-2 Inv-loop μ-loop
 unfolding store bytesOf
-returns c =
-    let a = c .before .before .args in
+returns-2 c =
+    let a = c .before .before .before .args in
     let l = c .before .loop in
     let e : a .w - l .i ≡ 0 = omega arith in
     record {
@@ -63,13 +82,18 @@ put-number-spec =
     (tie.spec
     Inv-loop
     μ-loop
-    loop-holds
     cast-b
-    add-b
     slice-write-b
+    add-result
+    same-length
+    returns
+    loop-holds
+    cast-b-2
+    add-b
+    slice-write-b-2
     add-i
     loop-less
     loop-again
-    add-result
-    same-length
-    returns)
+    add-result-2
+    same-length-2
+    returns-2)
