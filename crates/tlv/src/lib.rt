@@ -56,56 +56,47 @@ pub enum Value {
     Other,
 }
 
-const TAG_WIDTHS: [usize; 8] = [0, 1, 2, 4, 2, 4, 6, 8];
-
-const NUMBER_WIDTHS: [usize; 25] = [
-    1,
-    2,
-    4,
-    8,
-    1,
-    2,
-    4,
-    8,
-    0,
-    0,
-    4,
-    8,
-    1,
-    2,
-    4,
-    8,
-    1,
-    2,
-    4,
-    8,
-    0,
-    0,
-    0,
-    0,
-    0,
-];
-
-fn index(x: u8) -> usize
-    ensures { λ r. ⌜ r ≡ x ⌝ }
-{
-    x as usize
-}
-
+// How many bytes a tag of this form takes. By comparisons: a table would be written out anew at each call.
 fn tag_width(form: u8) -> usize
     requires { ⌜ form < 8 ⌝ }
     ensures { λ r. ⌜ r ≡ tagWidth form ⌝ }
     ensures small { λ r. ⌜ r ≤ 8 ⌝ }
 {
-    TAG_WIDTHS[index(form)]
+    if form == 1 {
+        return 1;
+    }
+    if form == 0 {
+        return 0;
+    }
+    if form == 6 {
+        return 6;
+    }
+    if form == 7 {
+        return 8;
+    }
+    if form % 2 == 0 { 2 } else { 4 }
 }
 
+// How many bytes the number after the tag takes: none of false, true, null and containers, else 1, 2, 4 or 8 by the two low bits.
 fn number_width(kind: u8) -> usize
     requires { ⌜ kind < 25 ⌝ }
     ensures { λ r. ⌜ r ≡ numberWidth kind ⌝ }
     ensures small { λ r. ⌜ r ≤ 8 ⌝ }
 {
-    NUMBER_WIDTHS[index(kind)]
+    if 19 < kind {
+        return 0;
+    }
+    if kind / 2 == 4 {
+        return 0;
+    }
+    let low = kind % 4;
+    if low == 0 {
+        return 1;
+    }
+    if low == 1 {
+        return 2;
+    }
+    if low == 2 { 4 } else { 8 }
 }
 
 // Whether a member with this tag form may stand in a container of this type.

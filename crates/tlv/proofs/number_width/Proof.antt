@@ -1,23 +1,27 @@
-use mathlib.Core.Path.{ap}
-use mathlib.Core.List.{[], _∷_}
-use Rattle.tlv.specs.Octet.{numberWidth}
-use Rattle.tlv.proofs.Tables.{bounded}
-use borrow.Author.Needs.{needs}
+use mathlib.Core.Path.{sym, _∙_}
+use native.Mathlib.Omega.{arith}
+use borrow.Author.Tests.{eq-eqb, ne-eqb, lt-ltb, le-ltb}
+use Rattle.tlv.proofs.Tables.{number-found}
 use Rattle.tlv.proofs.number_width.Statement.{statement}
 use Rattle.tlv.proofs.number_width.Tie as tie
 
-index-requires : tie.Need-index-requires
-index-requires c κs = search needs
-
-mul-result : tie.Need-mul-result
-mul-result c = search needs
-
-array-read-result : tie.Need-array-read-result
-array-read-result c = search needs
-
 returns : tie.Need-returns
-unfolding numberWidth
-returns c = (ap numberWidth (c .index .ensures), bounded 8 (1 ∷ 2 ∷ 4 ∷ 8 ∷ 1 ∷ 2 ∷ 4 ∷ 8 ∷ 0 ∷ 0 ∷ 4 ∷ 8 ∷ 1 ∷ 2 ∷ 4 ∷ 8 ∷ 1 ∷ 2 ∷ 4 ∷ 8 ∷ 0 ∷ 0 ∷ 0 ∷ 0 ∷ 0 ∷ []) tt (c .index .result))
+returns c = (sym (number-found (c .before .args .kind) (c .before .pre) ∙ simp (lt-ltb _ _ (c .if1 .taken))), omega arith)
+
+returns-2 : tie.Need-returns-2
+returns-2 c = (sym (number-found (c .before .before .args .kind) (c .before .before .pre) ∙ simp (le-ltb _ _ (c .before .if1 .left), eq-eqb _ _ (c .if2 .taken))), omega arith)
+
+returns-3 : tie.Need-returns-3
+returns-3 c = (sym (number-found (c .before .before .before .args .kind) (c .before .before .before .pre) ∙ simp (le-ltb _ _ (c .before .before .if1 .left), ne-eqb _ _ (c .before .if2 .left), eq-eqb _ _ (c .if3 .taken))), omega arith)
+
+returns-4 : tie.Need-returns-4
+returns-4 c = (sym (number-found (c .before .before .before .before .args .kind) (c .before .before .before .before .pre) ∙ simp (le-ltb _ _ (c .before .before .before .if1 .left), ne-eqb _ _ (c .before .before .if2 .left), ne-eqb _ _ (c .before .if3 .left), eq-eqb _ _ (c .if4 .taken))), omega arith)
+
+returns-5 : tie.Need-returns-5
+returns-5 c = (sym (number-found (c .before .before .before .before .before .args .kind) (c .before .before .before .before .before .pre) ∙ simp (le-ltb _ _ (c .before .before .before .before .if1 .left), ne-eqb _ _ (c .before .before .before .if2 .left), ne-eqb _ _ (c .before .before .if3 .left), ne-eqb _ _ (c .before .if4 .left), eq-eqb _ _ (c .if5 .taken))), omega arith)
+
+returns-6 : tie.Need-returns-6
+returns-6 c = (sym (number-found (c .before .before .before .before .before .args .kind) (c .before .before .before .before .before .pre) ∙ simp (le-ltb _ _ (c .before .before .before .before .if1 .left), ne-eqb _ _ (c .before .before .before .if2 .left), ne-eqb _ _ (c .before .before .if3 .left), ne-eqb _ _ (c .before .if4 .left), ne-eqb _ _ (c .if5 .left))), omega arith)
 
 pub number-width-spec : {M : Type 1} → statement M
-number-width-spec = tie.close (tie.spec index-requires mul-result array-read-result returns)
+number-width-spec = tie.close (tie.spec returns returns-2 returns-3 returns-4 returns-5 returns-6)
