@@ -43,15 +43,6 @@ unfolding joined
 join-stays v = by-test (ltb v unfiltered) (λ t. rw (t, ne-eqb disagreeing v (λ e. omega (arith, e, ltb-true v unfiltered t)))) (λ t. rw t)
 
 module _ (e c : ℕ) where
-  -- a filter for the cluster joins, another passes
-  joins : (word : ℕ) (f : Wanted) (fs : List Wanted) → on e c f ≡ true → wordAfter e c word (f ∷ fs) ≡ wordAfter e c (joined word (f .version)) fs
-  unfolding wordAfter
-  joins word f fs t = ap (λ (b : Bool). wordAfter e c (pick b (joined word (f .version)) word) fs) t
-
-  passes : (word : ℕ) (f : Wanted) (fs : List Wanted) → on e c f ≡ false → wordAfter e c word (f ∷ fs) ≡ wordAfter e c word fs
-  unfolding wordAfter
-  passes word f fs t = ap (λ (b : Bool). wordAfter e c (pick b (joined word (f .version)) word) fs) t
-
   apart : (fs : List Wanted) → wordAfter e c disagreeing fs ≡ disagreeing
   unfolding wordAfter
   apart [] = refl
@@ -93,30 +84,6 @@ module _ (e c : ℕ) where
         let n : eqb (f .version) v ≡ false = ne-eqb (f .version) v (λ q. omega (arith, q, m)) in
         rw (t, join-past unfiltered (f .version) m, n) (never fs)))
         (λ t. rw t (word-skips fs))
-
-  -- ---- the loop over the first n filters
-
-  module _ (fs : List Wanted) (n : ℕ) (whole : n ≤ length fs) where
-    len : length (take n fs) ≡ n
-    len = length-take n fs ∙ omega arith
-
-    here : (i : ℕ) (d : Wanted) → i < n → drop i (take n fs) ≡ getD fs i d ∷ drop (i + 1) (take n fs)
-    here i d l =
-        drop-cons (take n fs) i d (omega (arith, len))
-        ∙ ap (λ (f : Wanted). f ∷ drop (suc i) (take n fs)) (getD-take n fs i d l)
-        ∙ ap (λ (k : ℕ). getD fs i d ∷ drop k (take n fs)) (sym (add-one i))
-
-    module _ (i : ℕ) (d : Wanted) (word : ℕ) (l : i < n) (so-far : wordAfter e c unfiltered (take n fs) ≡ wordAfter e c word (drop i (take n fs))) where
-      pub word-joins : (next : ℕ) → on e c (getD fs i d) ≡ true → next ≡ joined word (getD fs i d .version) → wordAfter e c unfiltered (take n fs) ≡ wordAfter e c next (drop (i + 1) (take n fs))
-      word-joins next h k =
-          so-far ∙ ap (wordAfter e c word) (here i d l) ∙ joins word (getD fs i d) (drop (i + 1) (take n fs)) h ∙ ap (λ (x : ℕ). wordAfter e c x (drop (i + 1) (take n fs))) (sym k)
-
-      pub word-goes : on e c (getD fs i d) ≡ false → wordAfter e c unfiltered (take n fs) ≡ wordAfter e c word (drop (i + 1) (take n fs))
-      word-goes h = so-far ∙ ap (wordAfter e c word) (here i d l) ∙ passes word (getD fs i d) (drop (i + 1) (take n fs)) h
-
-    pub word-done : (i word : ℕ) → n ≤ i → wordAfter e c unfiltered (take n fs) ≡ wordAfter e c word (drop i (take n fs)) → word ≡ wordAfter e c unfiltered (take n fs)
-    unfolding wordAfter
-    word-done i word l so-far = sym (so-far ∙ ap (wordAfter e c word) (drop-of-length-le (take n fs) {i = i} (omega (arith, len))))
 
 -- ---- every cluster
 

@@ -1,5 +1,6 @@
 pub mod LocateLaws
 pub mod AskedLaws
 pub mod FilterLaws
+pub mod PutLaws
 pub mod ItemLaws
 pub mod RequestLaws

@@ -3,11 +3,15 @@ use mathlib.Core.Bool.{Bool, true, false, not, _&&_, _||_}
 use mathlib.Core.List.{List, [], _∷_}
 use Prim.Native.Nat.{ℕ, _+_, _^_}
 use lib.Dec.{eqb, ltb}
-use lib.ListN.{getD}
+use lib.ListN.{getD, set}
 use Rattle.tlv.specs.Octet.{pick}
 use Rattle.schema.specs.Layout.{clusterLimit}
+use Rattle.schema.specs.declared.Found.{Found}
+use Rattle.schema.specs.declared.Found.the-variants.{At, Nothing}
+use Rattle.schema.specs.Find.{findCluster}
 use Rattle.schema.specs.Rows.{clusterRow, clusterCount, filled, rowsFrom}
 use Rattle.interaction.specs.declared.Wanted.{Wanted}
+use Rattle.selection.specs.Request.{filtersAt}
 
 -- the filter is for this cluster on this endpoint
 unfoldable pub on : ℕ → ℕ → Wanted → Bool
@@ -55,6 +59,14 @@ filterWord w fs k = pick (ltb k (clusterCount w)) (wordAfter (clusterRow w k .en
 
 unfoldable pub filterWords : List ℕ → List Wanted → List ℕ
 filterWords w fs = rowsFrom (filterWord w fs) clusterLimit 0
+
+-- ONE FILTER MORE, as it is stored in the request's words: at the row of its cluster, if the schema has that
+unfoldable pub rowOf : List ℕ → Wanted → Found
+rowOf w f = pick (ltb (f .endpoint) (2 ^ 16)) (pick (ltb (f .cluster) (2 ^ 32)) (findCluster w (f .endpoint) (f .cluster)) Nothing) Nothing
+
+abbrev pub joinedAt : List ℕ → ℕ → Found → List ℕ
+joinedAt row version (At k) = set row (filtersAt + k) (joined (getD row (filtersAt + k) 0) version)
+joinedAt row version Nothing = row
 
 -- a part skips a cluster whose word is the version that the cluster has then
 unfoldable pub skipsNow : List ℕ → List ℕ → List ℕ → List Bool

@@ -1,32 +1,28 @@
 // What the filters of a read say of each cluster: judged once, at the request, and compared with the version that a cluster has when a part is made.
 ghost use mathlib.Core.Path.{_≡_};
+ghost use mathlib.Core.Bool.{true};
 ghost use Prim.Native.Nat.{_≤_, _+_};
 ghost use lib.ListN.{length, take, drop};
 ghost use Rattle.octets.specs.Store.{store};
 ghost use Rattle.schema.specs.Layout.{clusterLimit};
+ghost use Rattle.schema.specs.Rows.{rowsFrom};
+ghost use Rattle.schema.specs.Check.{wellFormed};
 ghost use Rattle.interaction.specs.Read.{maxFilters};
 ghost use Rattle.selection.specs.Request.{filtersAt, filtersIn};
-ghost use Rattle.selection.specs.Filters.{on, unfiltered, joined, wordAfter, filterWord, filterWords, skipsNow};
+ghost use Rattle.selection.specs.Filters.{unfiltered, joined, filterWords, rowOf, joinedAt, skipsNow};
 use super::request::FILTERS_AT;
 use super::request::ROW_WORDS;
 use interaction::MAX_FILTERS;
 use interaction::Wanted;
 use schema::CLUSTERS;
+use schema::Found;
 use schema::WORDS;
+use schema::find::find_cluster;
 
 // No filter is for the cluster, or they disagree; every other word is the version that all of them carry.
 pub const UNFILTERED: u64 = 4_294_967_296;
 
 const DISAGREEING: u64 = 4_294_967_297;
-
-fn is_on(f: Wanted, endpoint: u64, cluster: u64) -> bool
-    ensures { λ r. ⌜ r ≡ on endpoint cluster f ⌝ }
-{
-    if f.endpoint != endpoint {
-        return false;
-    }
-    f.cluster == cluster
-}
 
 // A cluster's word with one filter more.
 fn join(word: u64, version: u64) -> u64
@@ -41,49 +37,52 @@ fn join(word: u64, version: u64) -> u64
     if word == version { word } else { DISAGREEING }
 }
 
-// A cluster's word, by the first n filters.
-fn word_of(filters: [Wanted; MAX_FILTERS], n: usize, endpoint: u64, cluster: u64) -> u64
-    requires { ⌜ n ≤ maxFilters ⌝ }
-    ensures { λ r. ⌜ r ≡ wordAfter endpoint cluster unfiltered (take n filters) ⌝ }
+// No cluster has a filter.
+fn clear_filters(row: &mut [u64])
+    requires { ⌜ filtersAt + clusterLimit ≤ length (now row) ⌝ }
+    ensures { λ _. ⌜ now (row .exit) ≡ store (now (row .entry)) filtersAt (rowsFrom (λ k. unfiltered) clusterLimit 0) ⌝ }
 {
-    let mut word = UNFILTERED;
-    let mut i = 0;
-    while i < n {
-        let f = filters[i];
-        if is_on(f, endpoint, cluster) {
-            word = join(word, f.version);
-            i += 1;
-        } else {
-            i += 1;
-        }
+    let mut k = 0;
+    while k < CLUSTERS {
+        row[FILTERS_AT + k] = UNFILTERED;
+        k += 1;
     }
-    word
 }
 
-fn word_at(w: &[u64; WORDS], filters: [Wanted; MAX_FILTERS], n: usize, k: usize) -> u64
-    requires { ⌜ n ≤ maxFilters ⌝ }
-    ensures { λ r. ⌜ r ≡ filterWord (now (w .entry)) (take n filters) k ⌝ }
+// The row of a filter's cluster, if the schema has it.
+fn row_of(w: &[u64; WORDS], f: Wanted) -> Found
+    ensures { λ r. ⌜ r ≡ rowOf (now (w .entry)) f ⌝ }
 {
-    if k < schema::cluster_count(w) {
-        return word_of(
-            filters,
-            n,
-            schema::cluster_endpoint(w, k),
-            schema::cluster_id(w, k),
-        );
+    if 65_535 < f.endpoint {
+        return Found::Nothing;
     }
-    UNFILTERED
+    if 4_294_967_295 < f.cluster {
+        return Found::Nothing;
+    }
+    find_cluster(w, f.endpoint as u16, f.cluster as u32)
+}
+
+// One filter more.
+fn put_filter(w: &[u64; WORDS], f: Wanted, row: &mut [u64])
+    requires { ⌜ filtersAt + clusterLimit ≤ length (now row) ⌝ }
+    ensures { λ _. ⌜ now (row .exit) ≡ joinedAt (now (row .entry)) (f .version) (rowOf (now (w .entry)) f) ⌝ }
+{
+    let Found::At(k) = row_of(w, f) else {
+        return;
+    };
+    row[FILTERS_AT + k] = join(row[FILTERS_AT + k], f.version);
 }
 
 // The word of each cluster, stored in the request.
 pub fn put_filters(w: &[u64; WORDS], filters: [Wanted; MAX_FILTERS], n: usize, row: &mut [u64])
-    requires { ⌜ (n ≤ maxFilters) × (filtersAt + clusterLimit ≤ length (now row)) ⌝ }
+    requires { ⌜ (wellFormed (now w) ≡ true) × ((n ≤ maxFilters) × (filtersAt + clusterLimit ≤ length (now row))) ⌝ }
     ensures { λ _. ⌜ now (row .exit) ≡ store (now (row .entry)) filtersAt (filterWords (now (w .entry)) (take n filters)) ⌝ }
 {
-    let mut k = 0;
-    while k < CLUSTERS {
-        row[FILTERS_AT + k] = word_at(w, filters, n, k);
-        k += 1;
+    clear_filters(row);
+    let mut i = 0;
+    while i < n {
+        put_filter(w, filters[i], row);
+        i += 1;
     }
 }
 

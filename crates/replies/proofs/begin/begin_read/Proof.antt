@@ -63,7 +63,7 @@ put-paths-requires : tie.Need-put-paths-requires
 put-paths-requires c κs = search needs
 
 put-filters-requires : tie.Need-put-filters-requires
-put-filters-requires c κs = (request-few (c .before .before .before .before .before .before .before .before .before .before .before .before .before .before .args .payload .now) (c .before .before .before .before .before .before .before .before .before .read-request .ensures) (c .before .before .before .before .before .before .before .if1 .left) .1, search needs)
+put-filters-requires c κs = (c .before .before .before .before .before .before .before .before .before .before .before .before .before .before .pre .0, (request-few (c .before .before .before .before .before .before .before .before .before .before .before .before .before .before .args .payload .now) (c .before .before .before .before .before .before .before .before .before .read-request .ensures) (c .before .before .before .before .before .before .before .if1 .left) .1, search needs))
 
 put-part-requires : tie.Need-put-part-requires
 put-part-requires c κs = let p = c .before .before .before .before .before .before .before .before .before .before .before .before .before .before .before .before .before .pre in (p .0, (request-few (c .before .before .before .before .before .before .before .before .before .before .before .before .before .before .before .before .before .args .payload .now) (c .before .before .before .before .before .before .before .before .before .before .before .before .read-request .ensures) (c .before .before .before .before .before .before .before .before .before .before .if1 .left) .0, (p .1 .0, p .1 .1)))

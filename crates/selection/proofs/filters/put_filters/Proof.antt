@@ -1,58 +1,77 @@
 use mathlib.Core.Path.{_≡_, refl, sym, ap, _∙_}
-use Prim.Native.Nat.{_≤_, _-_}
+use mathlib.Core.List.{[], _∷_, _++_}
+use Prim.Native.Nat.{_≤_, _+_, _-_}
 use native.Mathlib.Omega.{arith}
-use lib.ListN.{length, take, length-set}
+use lib.ListN.{length, take}
 use Rattle.octets.specs.Store.{store}
+use Rattle.octets.proofs.StoreLaws.{length-store}
 use Rattle.schema.specs.Layout.{clusterLimit}
-use Rattle.schema.specs.Rows.{rowsFrom}
+use Rattle.interaction.specs.Read.{maxFilters, unwanted}
 use Rattle.selection.specs.Request.{filtersAt}
-use Rattle.selection.specs.Filters.{filterWord, filterWords}
-use Rattle.selection.proofs.RequestLaws.{word-stored}
+use Rattle.selection.specs.Filters.{filterWords}
+use Rattle.selection.proofs.PutLaws.{clear-length, clear-over, clear-stays, filter-more, take-more}
 use borrow.Author.Needs.{needs}
 use Rattle.selection.proofs.filters.put_filters.Statement.{statement}
 use Rattle.selection.proofs.filters.put_filters.Tie as tie
 use Rattle.selection.proofs.filters.put_filters.Reads as reads
 use Rattle.selection.proofs.filters.put_filters.Lts as lts
-use Rattle.selection.proofs.filters.word_at.Reads as word-at-reads
+use Rattle.selection.proofs.filters.clear_filters.Reads as clear-filters-reads
+use Rattle.selection.proofs.filters.put_filter.Reads as put-filter-reads
 
 abbrev Inv-loop : tie.InvT-loop
-Inv-loop w filters n row₀ k₀ row k =
-    (k ≤ clusterLimit) × ((length row ≡ length row₀) × (row ≡ store row₀ filtersAt (rowsFrom (filterWord w (take n filters)) k 0)))
+Inv-loop w n row₀ filters i₀ row i = (i ≤ n) × ((length row ≡ length row₀) × (row ≡ store row₀ filtersAt (filterWords w (take i filters))))
 
 abbrev μ-loop : tie.MeasureT-loop
-μ-loop w filters n row₀ k₀ row k = clusterLimit - k
+μ-loop w n row₀ filters i₀ row i = n - i
+
+-- what owning the array tells: it has all its elements
+owns : (c : tie.Start Inv-loop μ-loop) → length (c .args .t2) ≡ maxFilters
+owns c = search needs
+
+-- the words cleared have room still
+cleared : (c : tie.At-loop Inv-loop μ-loop) → filtersAt + clusterLimit ≤ length (c .loop .row)
+cleared c = omega (arith, c .loop .inv .1 .0, clear-length (c .before .before .before .before .before .before .args .w .now) (c .before .before .before .before .before .before .args .row .now) (c .before .before .before .clear-filters .ensures), c .before .before .before .before .before .before .pre .1 .1)
+
+clear-filters-requires : tie.Need-clear-filters-requires Inv-loop μ-loop
+clear-filters-requires c κs = search needs
 
 loop-holds : tie.Need-loop-holds Inv-loop μ-loop
-unfolding store rowsFrom
-loop-holds c = (search needs, (refl, refl))
+loop-holds c = let a = c .before .before .before .before .before .args in (search needs, (refl, clear-stays (a .w .now) (a .row .now) (c .before .before .clear-filters .ensures)))
 
-word-at-requires : tie.Need-word-at-requires Inv-loop μ-loop
-word-at-requires c κs = search needs
+mul-put-filter : tie.Need-mul-put-filter Inv-loop μ-loop
+mul-put-filter c = search needs
 
-add-row : tie.Need-add-row Inv-loop μ-loop
-add-row c = search needs
+array-copy-out-put-filter : tie.Need-array-copy-out-put-filter Inv-loop μ-loop
+array-copy-out-put-filter c = omega (arith, c .loop-test .taken, c .before .before .before .before .before .before .before .pre .1 .0)
 
-mul-row : tie.Need-mul-row Inv-loop μ-loop
-mul-row c = search needs
+put-filter-requires : tie.Need-put-filter-requires Inv-loop μ-loop
+put-filter-requires c κs = cleared (c .before .before .before)
 
-slice-write-row : tie.Need-slice-write-row Inv-loop μ-loop
-slice-write-row c = omega (arith, c .before .before .loop .inv .1 .0, c .before .before .before .before .pre .1, c .before .loop-test .taken)
-
-add-k : tie.Need-add-k Inv-loop μ-loop
-add-k c = search needs
+add-i : tie.Need-add-i Inv-loop μ-loop
+add-i c = omega (arith, c .before .before .before .before .before .loop-test .taken, c .before .before .before .before .before .before .before .before .before .before .before .before .pre .1 .0)
 
 loop-less : tie.Need-loop-less Inv-loop μ-loop
 loop-less c = search needs
 
 loop-again : tie.Need-loop-again Inv-loop μ-loop
-loop-again c = let l = c .before .before .loop in let a = c .before .before .before .before .args in (search needs, (length-set (l .row) _ _ ∙ l .inv .1 .0, word-stored (a .row .now) (l .row) filtersAt (filterWord (a .w .now) (take (a .n) (a .filters))) (l .k) _ (l .inv .1 .1) (c .word-at .ensures)))
+loop-again c =
+    let k = c .before .before .before .before .before .before .before .before .before .before .before .before in
+    let a = k .args in
+    let l = c .before .before .before .before .before .before .loop in
+    let h = c .before .before .before .before .before .loop-test .taken in
+    let e = c .before .before .put-filter .ensures in
+    let m = filter-more (a .w .now) (k .pre .0) _ _ (take (l .i) (a .t2)) (omega (arith, clear-length (a .w .now) (a .row .now) (c .before .before .before .before .before .before .before .before .before .clear-filters .ensures), k .pre .1 .1)) (l .inv .1 .1) in
+    (search needs, (ap length (e ∙ m) ∙ length-store _ _ _, e ∙ m ∙ ap (λ fs. store (c .before .before .before .before .before .before .before .before .before .clear-filters .last .0) filtersAt (filterWords (a .w .now) fs)) (sym (take-more (a .t2) (l .i) unwanted (omega (arith, owns k, h, k .pre .1 .0))))))
 
 same-length : tie.Need-same-length Inv-loop μ-loop
-same-length c = c .before .loop .inv .1 .0
+same-length c = c .before .loop .inv .1 .0 ∙ clear-length (c .before .before .before .before .before .before .before .args .w .now) (c .before .before .before .before .before .before .before .args .row .now) (c .before .before .before .before .clear-filters .ensures)
 
 returns : tie.Need-returns Inv-loop μ-loop
-unfolding filterWords
-returns c = let l = c .before .loop in let a = c .before .before .before .args in l .inv .1 .1 ∙ ap (λ k. store (a .row .now) filtersAt (rowsFrom (filterWord (a .w .now) (take (a .n) (a .filters))) k 0)) (omega (arith, l .inv .0, c .loop-test .left))
+returns c =
+    let a = c .before .before .before .before .before .before .before .args in
+    let l = c .before .loop in
+    let k : l .i ≡ a .n = omega (arith, l .inv .0, c .loop-test .left) in
+    l .inv .1 .1 ∙ ap (λ i. store (c .before .before .before .before .clear-filters .last .0) filtersAt (filterWords (a .w .now) (take i (a .t2)))) k ∙ clear-over (a .w .now) (a .row .now) (c .before .before .before .before .clear-filters .ensures) (take (a .n) (a .t2))
 
 pub put-filters-spec : {M : Type 1} → statement M
 put-filters-spec =
@@ -60,12 +79,12 @@ put-filters-spec =
     (tie.spec
     Inv-loop
     μ-loop
+    clear-filters-requires
     loop-holds
-    word-at-requires
-    add-row
-    mul-row
-    slice-write-row
-    add-k
+    mul-put-filter
+    array-copy-out-put-filter
+    put-filter-requires
+    add-i
     loop-less
     loop-again
     same-length
