@@ -23,8 +23,9 @@ use Rattle.selection.specs.declared.locate.Located.{Located}
 use Rattle.selection.specs.declared.locate.Located.the-variants.{Here, Refused}
 use Rattle.selection.specs.Status.{unsupportedRead, unsupportedAccess}
 use Rattle.selection.specs.Locate.{located}
-use Rattle.selection.specs.Items.{readItem, concreteFound, concreteItem}
+use Rattle.selection.specs.Items.{readItem, concreteItem}
 use Rattle.selection.proofs.LocateLaws.{located-here, located-refused}
+use Rattle.selection.proofs.ItemLaws.{read-tests, concrete-here, concrete-refused}
 use Rattle.values.specs.Values.{datumAt, versionAt}
 use Rattle.report.specs.Blocks.{valueBlock, blockOf}
 use Rattle.cached.specs.Entries.{clusterWord, lookup}
@@ -89,26 +90,24 @@ module _ (p : Plan) (rules : Rules (p .words)) where
 
   -- attribute i, by whether it may be read
   item-read : (i : ℕ) → mayRead w (granted p) i ≡ true → readItem w (granted p) [] i ≡ item.Value i
-  unfolding mayRead readItem
+  unfolding mayRead
   item-read i t =
       let open-is : eqb (attributeRow w i .read) 0 ≡ false = is-false (eqb (attributeRow w i .read) 0) (left _ _ t) in
-      rw (open-is, right (not (eqb (attributeRow w i .read) 0)) _ t) refl
+      read-tests w (granted p) [] i ∙ rw (open-is, right (not (eqb (attributeRow w i .read) 0)) _ t) refl
     where
       is-false : (b : Bool) → not b ≡ true → b ≡ false
       is-false true h = sym h
       is-false false h = refl
 
   item-refused : (i : ℕ) → mayRead w (granted p) i ≡ false → (code : ℕ) × (readItem w (granted p) [] i ≡ item.Status code)
-  unfolding mayRead readItem
-  item-refused i f = by-test (eqb (attributeRow w i .read) 0) (λ t. (unsupportedRead, rw t refl)) (λ n. (unsupportedAccess, rw (n, rw n at f) refl))
+  unfolding mayRead
+  item-refused i f =
+      let e = read-tests w (granted p) [] i in
+      by-test (eqb (attributeRow w i .read) 0) (λ t. (unsupportedRead, e ∙ rw t refl)) (λ n. (unsupportedAccess, e ∙ rw (n, rw n at f) refl))
 
   module _ (u : World) (e c a : ℕ) where
-    shown-as : (o : Located) → located w e c a ≡ o → shown p u e c a ≡ blockOf w (u .sign .values) (p .defaults) (u .edits) (asked e c a) (concreteFound w (granted p) [] o)
-    unfolding concreteItem
-    shown-as o h = ap (λ (x : Located). blockOf w (u .sign .values) (p .defaults) (u .edits) (asked e c a) (concreteFound w (granted p) [] x)) h
-
-    by-item : (o : Located) → located w e c a ≡ o → (x : Item) → concreteFound w (granted p) [] o ≡ x → entryFor (shown p u e c a) ≡ entryFor (blockOf w (u .sign .values) (p .defaults) (u .edits) (asked e c a) x)
-    by-item o h x q = ap entryFor (shown-as o h ∙ ap (blockOf w (u .sign .values) (p .defaults) (u .edits) (asked e c a)) q)
+    by-item : (x : Item) → concreteItem w (granted p) [] (asked e c a) ≡ x → entryFor (shown p u e c a) ≡ entryFor (blockOf w (u .sign .values) (p .defaults) (u .edits) (asked e c a) x)
+    by-item x q = ap (λ (y : Item). entryFor (blockOf w (u .sign .values) (p .defaults) (u .edits) (asked e c a) y)) q
 
     pub sees : Sees u e c a
     unfolding blockOf valueBlock
@@ -122,6 +121,7 @@ module _ (p : Plan) (rules : Rules (p .words)) where
         go : (o : Located) → located w e c a ≡ o → Sees u e c a
         go (Here i) h =
             let r = located-here w e c a i h in
-            by-test (mayRead w (granted p) i) (λ t. value i (r .0) (r .1) t (by-item (Here i) h (item.Value i) (item-read i t)))
-            (λ f. let k = item-refused i f in none (by-item (Here i) h (item.Status (k .0)) (k .1)) (one i h f))
-        go (Refused code) h = none (by-item (Refused code) h (item.Status code) refl) (λ i l q _. located-refused w rules e c a code h i l q)
+            let read = concrete-here w (granted p) [] (asked e c a) i h in
+            by-test (mayRead w (granted p) i) (λ t. value i (r .0) (r .1) t (by-item (item.Value i) (read ∙ item-read i t)))
+            (λ f. let k = item-refused i f in none (by-item (item.Status (k .0)) (read ∙ k .1)) (one i h f))
+        go (Refused code) h = none (by-item (item.Status code) (concrete-refused w (granted p) [] (asked e c a) code h)) (λ i l q _. located-refused w rules e c a code h i l q)

@@ -21,6 +21,7 @@ use Rattle.selection.specs.Filters.{on, some, agree, skipsBy, skipsAt, skipsOf,
 use Rattle.selection.specs.Items.{readItem}
 use Rattle.selection.proofs.AskedLaws.{cluster-of}
 use Rattle.selection.proofs.FilterLaws.{judged-skips}
+use Rattle.selection.proofs.ItemLaws.{read-tests}
 use Rattle.report.specs.Blocks.{viewOf}
 
 and-false : (b : Bool) → (b && false) ≡ false
@@ -59,8 +60,7 @@ module _ (w : List ℕ) (right : wellFormed w ≡ true) (v : Values) (fits : (k 
   -- one that may be read
   module _ (readable : eqb (attributeRow w i .read) 0 ≡ false) (granted : isGranted g place (attributeRow w i .read) ≡ true) where
     judged-now : readItem w g (viewOf w v defaults edits g (filterWords w fs) .skips) i ≡ pick (skipsBy fs endpoint cluster version) Nothing (Value i)
-    unfolding readItem
-    judged-now = rw (readable, granted, skips-now)
+    judged-now = read-tests w g (viewOf w v defaults edits g (filterWords w fs) .skips) i ∙ rw (readable, granted, skips-now)
 
     -- THE VERSION MOVED AWAY from what a filter carries: the attribute is reported, even if that filter agreed when the request was taken
     pub reported-now : (d : Wanted) (n : ℕ) → n < length fs → on endpoint cluster (getD fs n d) ≡ true → (getD fs n d .version ≡ version → ⊥) → readItem w g (viewOf w v defaults edits g (filterWords w fs) .skips) i ≡ Value i

@@ -2,7 +2,7 @@
 use mathlib.Core.Path.{_≡_, refl, sym, ap, subst, _∙_}
 use mathlib.Core.Bool.{Bool, true, false}
 use mathlib.Core.List.{List, [], _∷_, _++_}
-use Prim.Native.Nat.{ℕ, zero, suc, _+_, _-_, _^_, _≤_, _<_}
+use Prim.Native.Nat.{ℕ, zero, suc, _+_, _-_, _≤_, _<_}
 use native.Mathlib.Omega.{arith}
 use borrow.Author.Tests.{leb-true, eqb-true}
 use lib.Dec.{eqb}
@@ -11,6 +11,7 @@ use Rattle.utf8.specs.WellFormed as utf8
 use Rattle.tlv.specs.Octet.{pick}
 use Rattle.tlv.specs.Decode.{Opt}
 use Rattle.tlv.specs.Decode.Opt.{just, nothing}
+use Rattle.blocks.proofs.BlockLaws.{never}
 use Rattle.interaction_writer.specs.Spelling.{Each}
 use Rattle.interaction_writer.specs.Block.{Block, ShortText}
 use Rattle.interaction_writer.specs.Meaning.{PathFits}
@@ -21,13 +22,8 @@ use Rattle.kinds.specs.Stored.{held}
 use Rattle.schema.specs.Rows.{attributeRow, attributeCount, isText}
 use Rattle.schema.specs.Rules.{Path, pathAt}
 use Rattle.schema.specs.Check.{wellFormed}
-use Rattle.schema.specs.declared.Found.{Found}
-use Rattle.schema.specs.declared.Found.the-variants as found
-use Rattle.schema.specs.Find.{findCluster, findAttribute, hasEndpoint}
 use Rattle.schema.proofs.BoolLaws.{left, right}
 use Rattle.schema.proofs.RulesLaws.{well-formed-rules, cluster-rules, attribute-rules}
-use Rattle.acl.specs.declared.Grants.{Grants}
-use Rattle.acl.specs.Access.{isGranted}
 use Rattle.node.specs.Attributes.{kindOf}
 use Rattle.values.specs.declared.Values.{Values}
 use Rattle.values.specs.Values.{heldDatum, datumAt, shownOf}
@@ -37,12 +33,9 @@ use Rattle.values.proofs.ValidLaws.{right-at}
 use Rattle.selection.specs.declared.asked.Asked.{Asked}
 use Rattle.selection.specs.declared.items.Item.{Item}
 use Rattle.selection.specs.declared.items.Item.the-variants as item
-use Rattle.selection.specs.declared.locate.Located.the-variants.{Refused}
-use Rattle.selection.specs.Status.{unsupportedEndpoint, unsupportedCluster, unsupportedAttribute, unsupportedRead, unsupportedAccess}
-use Rattle.selection.specs.Locate.{attributeFound, clusterFound, located}
-use Rattle.selection.specs.Asked.{asksFor, concrete}
-use Rattle.selection.specs.Items.{readItem, silent, concreteFound, concreteItem, wildcardItem, span, itemAt}
+use Rattle.selection.specs.Items.{span, itemAt}
 use Rattle.selection.proofs.AskedLaws.{cluster-of, path-of}
+use Rattle.selection.proofs.ItemLaws.{item-code}
 use Rattle.report.specs.declared.Place.{Place}
 use Rattle.report.specs.Blocks.{View, Sound, Named, Placed, valueBlock, blockOf, blockAt, entry, collect, pathBlocks, pathsBlocks, blocksFrom}
 use Rattle.report.specs.Chunk.{blockRoom, size, Short}
@@ -79,47 +72,6 @@ path-fits w h i l =
     let a = attribute-rules w (well-formed-rules w .0 h) i l in
     subst (λ (p : Path). PathFits (p .endpoint) (p .cluster) (p .attribute)) (path-of w h i l refl refl refl refl)
     (record { endpoint-fits = c .endpoint; cluster-fits = c .cluster; attribute-fits = a .id })
-
--- a status that a path gets is a byte
-never : {A : Type 0} → _≡_ {A = ℕ} 0 1 → A
-never e = absurd (omega arith)
-
-module _ (w : List ℕ) (g : Grants) (skips : List Bool) (code : ℕ) where
-  read-code : (i : ℕ) → readItem w g skips i ≡ item.Status code → code < 2 ^ 8
-  unfolding readItem
-  read-code i h = go (eqb (attributeRow w i .read) 0) (isGranted g (attributeRow w i .clusterIndex) (attributeRow w i .read)) (getD skips (attributeRow w i .clusterIndex) false) h
-    where
-      go : (a b c : Bool) → pick a (item.Status unsupportedRead) (pick b (pick c item.Nothing (item.Value i)) (item.Status unsupportedAccess)) ≡ item.Status code → code < 2 ^ 8
-      go true b c q = let e : unsupportedRead ≡ code = cc in omega arith
-      go false true true q = never (cc)
-      go false true false q = never (cc)
-      go false false c q = let e : unsupportedAccess ≡ code = cc in omega arith
-
-  item-code : (p : Asked) (i : ℕ) → itemAt w g skips p i ≡ item.Status code → code < 2 ^ 8
-  unfolding itemAt concreteItem wildcardItem located
-  item-code p i h = by-form (concrete p) h
-    where
-      by-attribute : (f : Found) → concreteFound w g skips (attributeFound f) ≡ item.Status code → code < 2 ^ 8
-      by-attribute (found.At j) q = read-code j q
-      by-attribute found.Nothing q = let e : unsupportedAttribute ≡ code = cc in omega arith
-
-      by-cluster : (f : Found) → concreteFound w g skips (clusterFound w (p .attribute) f) ≡ item.Status code → code < 2 ^ 8
-      by-cluster (found.At k) q = by-attribute (findAttribute w k (p .attribute)) q
-      by-cluster found.Nothing q = let e : unsupportedCluster ≡ code = cc in omega arith
-
-      by-endpoint : (b : Bool) → concreteFound w g skips (pick b (clusterFound w (p .attribute) (findCluster w (p .endpoint) (p .cluster))) (Refused unsupportedEndpoint)) ≡ item.Status code → code < 2 ^ 8
-      by-endpoint true q = by-cluster (findCluster w (p .endpoint) (p .cluster)) q
-      by-endpoint false q = let e : unsupportedEndpoint ≡ code = cc in omega arith
-
-      quiet : (b : Bool) (x : Item) → pick b (silent x) item.Nothing ≡ item.Status code → code < 2 ^ 8
-      quiet true (item.Value j) q = never (cc)
-      quiet true (item.Status c) q = never (cc)
-      quiet true item.Nothing q = never (cc)
-      quiet false x q = never (cc)
-
-      by-form : (b : Bool) → pick b (concreteFound w g skips (located w (p .endpoint) (p .cluster) (p .attribute))) (wildcardItem w g skips p i) ≡ item.Status code → code < 2 ^ 8
-      by-form true q = by-endpoint (hasEndpoint w (p .endpoint)) q
-      by-form false q = quiet (asksFor p (pathAt w i)) (readItem w g skips i) q
 
 each-drop : {A : Type 0} (P : A → Type 0) (n : ℕ) (l : List A) → Each P l → Each P (drop n l)
 unfolding Each

@@ -1,12 +1,13 @@
--- What stands at a place of a path: an index that it gives is one of the schema's attributes.
-use mathlib.Core.Path.{_≡_, refl}
+-- What stands at a place of a path: its tests one by one, an index that it gives is one of the schema's attributes, a status an octet.
+use mathlib.Core.Path.{_≡_, refl, ap, _∙_}
 use mathlib.Core.Bool.{Bool, true, false}
 use mathlib.Core.List.{List}
-use Prim.Native.Nat.{ℕ, _<_}
+use Prim.Native.Nat.{ℕ, _<_, _^_}
 use native.Mathlib.Omega.{arith}
 use lib.Dec.{eqb}
 use lib.ListN.{getD}
 use Rattle.tlv.specs.Octet.{pick}
+use Rattle.blocks.proofs.BlockLaws.{never}
 use Rattle.schema.specs.Rows.{attributeRow, attributeCount}
 use Rattle.schema.specs.Rules.{pathAt}
 use Rattle.acl.specs.declared.Grants.{Grants}
@@ -19,22 +20,62 @@ use Rattle.selection.specs.declared.locate.Located.the-variants.{Here, R
 use Rattle.selection.specs.Status.{unsupportedRead, unsupportedAccess}
 use Rattle.selection.specs.Locate.{located}
 use Rattle.selection.specs.Asked.{asksFor, concrete}
-use Rattle.selection.specs.Items.{readItem, silent, concreteFound, concreteItem, wildcardItem, span, itemAt}
+use Rattle.selection.specs.declared.reach.Action.the-variants.{Read}
+use Rattle.selection.specs.Reach.{allowed, reached}
+use Rattle.selection.specs.Items.{foundItem, readItem, silent, concreteItem, wildcardItem, span, itemAt}
 use Rattle.selection.proofs.LocateLaws.{located-here}
+use Rattle.selection.proofs.ReachLaws.{allowed-here, reached-here, Octet, reached-octet}
 
-never : {A : Type 0} → _≡_ {A = ℕ} 0 1 → A
-never e = absurd (omega arith)
+-- what a read makes of an attribute that it may use
+module _ (w : List ℕ) (skips : List Bool) where
+  -- with its cluster as the code has it
+  pub found-here : {l : Located} {i k : ℕ} {b : Bool} → l ≡ Here i → k ≡ attributeRow w i .clusterIndex → getD skips k false ≡ b → foundItem w skips l ≡ pick b Nothing (Value i)
+  found-here e c h = ap (foundItem w skips) e ∙ rw (← c, h)
+
+  -- an index is that attribute's
+  found-index : (j : ℕ) (l : Located) → foundItem w skips l ≡ Value j → l ≡ Here j
+  found-index j (Here i) h = go (getD skips (attributeRow w i .clusterIndex) false) h
+    where
+      go : (b : Bool) → pick b Nothing (Value i) ≡ Value j → Here i ≡ Here j
+      go true q = never (cc)
+      go false q = cc
+  found-index j (Refused code) h = never (cc)
+
+  -- a status is the refusal's
+  found-code : (code : ℕ) (l : Located) → Octet l → foundItem w skips l ≡ Status code → code < 2 ^ 8
+  found-code code (Here i) o h = go (getD skips (attributeRow w i .clusterIndex) false) h
+    where
+      go : (b : Bool) → pick b Nothing (Value i) ≡ Status code → code < 2 ^ 8
+      go true q = never (cc)
+      go false q = never (cc)
+  found-code code (Refused s) o h = let e : s ≡ code = cc in omega arith
 
 module _ (w : List ℕ) (g : Grants) (skips : List Bool) where
+  -- attribute i, test by test: 8F, 7E, the filters, else its value
+  pub read-tests : (i : ℕ) → readItem w g skips i ≡ pick (eqb (attributeRow w i .read) 0) (Status unsupportedRead) (pick (isGranted g (attributeRow w i .clusterIndex) (attributeRow w i .read)) (pick (getD skips (attributeRow w i .clusterIndex) false) Nothing (Value i)) (Status unsupportedAccess))
+  unfolding readItem allowed
+  read-tests i = go (eqb (attributeRow w i .read) 0) (isGranted g (attributeRow w i .clusterIndex) (attributeRow w i .read))
+    where
+      go : (a b : Bool) → foundItem w skips (pick a (Refused unsupportedRead) (pick b (Here i) (Refused unsupportedAccess))) ≡ pick a (Status unsupportedRead) (pick b (pick (getD skips (attributeRow w i .clusterIndex) false) Nothing (Value i)) (Status unsupportedAccess))
+      go true b = refl
+      go false true = refl
+      go false false = refl
+
+  -- a concrete path: the attribute that it names as a read finds it, or the status of a path that names none
+  module _ (p : Asked) where
+    pub concrete-here : (i : ℕ) → located w (p .endpoint) (p .cluster) (p .attribute) ≡ Here i → concreteItem w g skips p ≡ readItem w g skips i
+    unfolding concreteItem reached readItem
+    concrete-here i h = rw h
+
+    pub concrete-refused : (code : ℕ) → located w (p .endpoint) (p .cluster) (p .attribute) ≡ Refused code → concreteItem w g skips p ≡ Status code
+    unfolding concreteItem reached
+    concrete-refused code h = rw h
+
+  -- ---- an index that is found is one of the schema's attributes
+
   read-index : (i j : ℕ) → readItem w g skips i ≡ Value j → i ≡ j
   unfolding readItem
-  read-index i j h = go (eqb (attributeRow w i .read) 0) (isGranted g (attributeRow w i .clusterIndex) (attributeRow w i .read)) (getD skips (attributeRow w i .clusterIndex) false) h
-    where
-      go : (a b c : Bool) → pick a (Status unsupportedRead) (pick b (pick c Nothing (Value i)) (Status unsupportedAccess)) ≡ Value j → i ≡ j
-      go true b c q = never (cc)
-      go false true true q = never (cc)
-      go false true false q = cc
-      go false false c q = never (cc)
+  read-index i j h = allowed-here Read w g i j (found-index w skips j (allowed Read w g i) h) .0
 
   pub wildcard-index : (p : Asked) (i j : ℕ) → wildcardItem w g skips p i ≡ Value j → i ≡ j
   unfolding wildcardItem
@@ -50,10 +91,22 @@ module _ (w : List ℕ) (g : Grants) (skips : List Bool) where
   unfolding itemAt span concreteItem
   item-index p i j l h = by-form (concrete p) l h
     where
-      by-place : (x : Located) → located w (p .endpoint) (p .cluster) (p .attribute) ≡ x → concreteFound w g skips x ≡ Value j → j < attributeCount w
-      by-place (Here k) e q = omega (arith, read-index k j q, located-here w (p .endpoint) (p .cluster) (p .attribute) k e .0)
-      by-place (Refused code) e q = never (cc)
-
-      by-form : (b : Bool) → i < pick b 1 (attributeCount w) → pick b (concreteFound w g skips (located w (p .endpoint) (p .cluster) (p .attribute))) (wildcardItem w g skips p i) ≡ Value j → j < attributeCount w
-      by-form true l q = by-place (located w (p .endpoint) (p .cluster) (p .attribute)) refl q
+      by-form : (b : Bool) → i < pick b 1 (attributeCount w) → pick b (concreteItem w g skips p) (wildcardItem w g skips p i) ≡ Value j → j < attributeCount w
+      by-form true l q = located-here w (p .endpoint) (p .cluster) (p .attribute) j (reached-here Read w g (p .endpoint) (p .cluster) (p .attribute) j (found-index w skips j (reached Read w g (p .endpoint) (p .cluster) (p .attribute)) q)) .0
       by-form false l q = omega (arith, wildcard-index p i j q)
+
+  -- ---- a status that a path gets is an octet
+
+  pub item-code : (code : ℕ) (p : Asked) (i : ℕ) → itemAt w g skips p i ≡ Status code → code < 2 ^ 8
+  unfolding itemAt concreteItem wildcardItem
+  item-code code p i h = by-form (concrete p) h
+    where
+      quiet : (b : Bool) (x : Item) → pick b (silent x) Nothing ≡ Status code → code < 2 ^ 8
+      quiet true (Value j) q = never (cc)
+      quiet true (Status c) q = never (cc)
+      quiet true Nothing q = never (cc)
+      quiet false x q = never (cc)
+
+      by-form : (b : Bool) → pick b (concreteItem w g skips p) (wildcardItem w g skips p i) ≡ Status code → code < 2 ^ 8
+      by-form true q = found-code w skips code (reached Read w g (p .endpoint) (p .cluster) (p .attribute)) (reached-octet w Read g (p .endpoint) (p .cluster) (p .attribute)) q
+      by-form false q = quiet (asksFor p (pathAt w i)) (readItem w g skips i) q

@@ -1,4 +1,5 @@
 pub mod LocateLaws
+pub mod ReachLaws
 pub mod AskedLaws
 pub mod FilterLaws
 pub mod PutLaws

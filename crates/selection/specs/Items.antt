@@ -2,29 +2,28 @@
 use mathlib.Core.Bool.{Bool, false}
 use mathlib.Core.List.{List}
 use Prim.Native.Nat.{ℕ}
-use lib.Dec.{eqb}
 use lib.ListN.{getD}
 use Rattle.tlv.specs.Octet.{pick}
 use Rattle.schema.specs.Rows.{attributeRow, attributeCount}
 use Rattle.schema.specs.Rules.{pathAt}
 use Rattle.acl.specs.declared.Grants.{Grants}
-use Rattle.acl.specs.Access.{isGranted}
 use Rattle.selection.specs.declared.asked.Asked.{Asked}
 use Rattle.selection.specs.declared.items.Item.{Item}
 use Rattle.selection.specs.declared.items.Item.the-variants.{Value, Status, Nothing}
 use Rattle.selection.specs.declared.locate.Located.{Located}
 use Rattle.selection.specs.declared.locate.Located.the-variants.{Here, Refused}
-use Rattle.selection.specs.Status.{unsupportedRead, unsupportedAccess}
-use Rattle.selection.specs.Locate.{located}
+use Rattle.selection.specs.declared.reach.Action.the-variants.{Read}
+use Rattle.selection.specs.Reach.{allowed, reached}
 use Rattle.selection.specs.Asked.{asksFor, concrete}
+
+-- what a read makes of an attribute that it may use: nothing where the filters skip its cluster, else its value
+abbrev pub foundItem : List ℕ → List Bool → Located → Item
+foundItem w skips (Here i) = pick (getD skips (attributeRow w i .clusterIndex) false) Nothing (Value i)
+foundItem w skips (Refused code) = Status code
 
 -- attribute i: 8F not readable, then 7E privilege, then the filters, else its value
 unfoldable pub readItem : List ℕ → Grants → List Bool → ℕ → Item
-readItem w g skips i =
-    pick (eqb (attributeRow w i .read) 0) (Status unsupportedRead)
-    (pick (isGranted g (attributeRow w i .clusterIndex) (attributeRow w i .read))
-    (pick (getD skips (attributeRow w i .clusterIndex) false) Nothing (Value i))
-    (Status unsupportedAccess))
+readItem w g skips i = foundItem w skips (allowed Read w g i)
 
 -- "A wildcard drops such attributes silently."
 abbrev pub silent : Item → Item
@@ -32,12 +31,9 @@ silent (Value i) = Value i
 silent (Status code) = Nothing
 silent Nothing = Nothing
 
-abbrev pub concreteFound : List ℕ → Grants → List Bool → Located → Item
-concreteFound w g skips (Here i) = readItem w g skips i
-concreteFound w g skips (Refused code) = Status code
-
+-- a concrete path: the whole chain of reads
 unfoldable pub concreteItem : List ℕ → Grants → List Bool → Asked → Item
-concreteItem w g skips p = concreteFound w g skips (located w (p .endpoint) (p .cluster) (p .attribute))
+concreteItem w g skips p = foundItem w skips (reached Read w g (p .endpoint) (p .cluster) (p .attribute))
 
 unfoldable pub wildcardItem : List ℕ → Grants → List Bool → Asked → ℕ → Item
 wildcardItem w g skips p i = pick (asksFor p (pathAt w i)) (silent (readItem w g skips i)) Nothing

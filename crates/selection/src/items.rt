@@ -1,19 +1,20 @@
 // What stands at a place of a path.
 ghost use mathlib.Core.Path.{_≡_};
 ghost use mathlib.Core.Bool.{true};
-ghost use Prim.Native.Nat.{_<_};
+ghost use Prim.Native.Nat.{ℕ, _<_};
 ghost use Rattle.schema.specs.Layout.{attributeLimit};
 ghost use Rattle.schema.specs.Check.{wellFormed};
+ghost use Rattle.selection.specs.declared.locate.Located.the-variants.{Here};
+ghost use Rattle.selection.specs.Reach.{Within};
 ghost use Rattle.selection.specs.Items as items;
-use super::UNSUPPORTED_ACCESS;
-use super::UNSUPPORTED_READ;
 use super::asked::Asked;
 use super::asked::asks_row;
 use super::asked::is_concrete;
 use super::locate::Located;
-use super::locate::locate;
+use super::reach::Action;
+use super::reach::allow;
+use super::reach::reach;
 use acl::Grants;
-use acl::is_granted;
 use schema::CLUSTERS;
 use schema::WORDS;
 
@@ -25,23 +26,29 @@ pub enum Item {
     Nothing,
 }
 
+// What a read makes of an attribute that it may use: nothing where the filters skip its cluster, else its value.
+fn found_item(w: &[u64; WORDS], skips: [bool; CLUSTERS], found: Located) -> Item
+    requires { ⌜ ((i : ℕ) → found ≡ Here i → Within (now w) i) ⌝ }
+    ensures { λ r. ⌜ r ≡ items.foundItem (now (w .entry)) skips found ⌝ }
+{
+    match found {
+        Located::Here(i) => {
+            if skips[schema::attribute_cluster(w, i)] {
+                Item::Nothing
+            } else {
+                Item::Value(i)
+            }
+        }
+        Located::Refused(code) => Item::Status(code),
+    }
+}
+
 // Attribute i as a read finds it.
 fn read_item(w: &[u64; WORDS], g: Grants, skips: [bool; CLUSTERS], i: usize) -> Item
     requires { ⌜ i < attributeLimit ⌝ }
     ensures { λ r. ⌜ r ≡ items.readItem (now (w .entry)) g skips i ⌝ }
 {
-    let need = schema::read_privilege(w, i);
-    if need == 0 {
-        return Item::Status(UNSUPPORTED_READ);
-    }
-    let k = schema::attribute_cluster(w, i);
-    if !is_granted(g, k, need) {
-        return Item::Status(UNSUPPORTED_ACCESS);
-    }
-    if skips[k] {
-        return Item::Nothing;
-    }
-    Item::Value(i)
+    found_item(w, skips, allow(Action::Read, w, g, i))
 }
 
 // Under a wildcard there are no statuses.
@@ -58,10 +65,11 @@ fn silenced(x: Item) -> Item
 fn concrete_item(w: &[u64; WORDS], g: Grants, skips: [bool; CLUSTERS], p: Asked) -> Item
     ensures { λ r. ⌜ r ≡ items.concreteItem (now (w .entry)) g skips p ⌝ }
 {
-    match locate(w, p.endpoint, p.cluster, p.attribute) {
-        Located::Here(i) => read_item(w, g, skips, i),
-        Located::Refused(code) => Item::Status(code),
-    }
+    found_item(
+        w,
+        skips,
+        reach(Action::Read, w, g, p.endpoint, p.cluster, p.attribute),
+    )
 }
 
 // How many places a path has.

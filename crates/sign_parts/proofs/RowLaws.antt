@@ -26,9 +26,10 @@ use Rattle.selection.specs.declared.items.Item.the-variants as item
 use Rattle.selection.specs.Status.{unsupportedRead, unsupportedAccess}
 use Rattle.selection.specs.Asked.{askedFor, asksFor, concrete}
 use Rattle.selection.specs.Filters.{skipsAt, skipsOf, filterWords}
-use Rattle.selection.specs.Items.{silent, readItem, wildcardItem, span, itemAt}
+use Rattle.selection.specs.Items.{silent, wildcardItem, span, itemAt}
 use Rattle.selection.proofs.AskedLaws.{cluster-of}
 use Rattle.selection.proofs.FilterLaws.{judged-skips}
+use Rattle.selection.proofs.ItemLaws.{read-tests}
 use Rattle.report.specs.Blocks.{View, viewOf, valueBlock, blockOf, blockAt, Placed, entry, blocksFrom, pathsBlocks}
 use Rattle.report.proofs.BlockLaws.{path-past, path-step}
 use Rattle.round_trip.specs.Meant.{everything}
@@ -91,8 +92,8 @@ module _ (w defaults edits : List ℕ) (v : Values) (g : Grants) (fs : List Want
     blockIf may skips-it = pick may (pick skips-it nothing (just (valueBlock w v defaults edits i))) nothing
 
     block-row : blockAt view (askedFor everything) i ≡ blockIf (mayRead w g i) (skip (placeAt w i))
-    unfolding blockOf itemAt wildcardItem readItem mayRead concrete asksFor askedFor
-    block-row = rw (← skips-row) (go (eqb (attributeRow w i .read) 0) (isGranted g k (attributeRow w i .read)) (getD (view .skips) k false))
+    unfolding blockOf itemAt wildcardItem mayRead concrete asksFor askedFor
+    block-row = rw (← skips-row, read-tests w g (view .skips) i) (go (eqb (attributeRow w i .read) 0) (isGranted g k (attributeRow w i .read)) (getD (view .skips) k false))
       where
         go : (a b c : Bool) →
             blockOf w v defaults edits (askedFor everything) (silent (pick a (item.Status unsupportedRead) (pick b (pick c item.Nothing (item.Value i)) (item.Status unsupportedAccess))))

@@ -1,10 +1,8 @@
 -- The statuses of a write: one for each entry, an octet each, and kept whole in the code's array.
 use mathlib.Core.Path.{_≡_, refl, ap}
-use mathlib.Core.Bool.{Bool, true, false}
 use mathlib.Core.List.{List, [], _∷_}
 use Prim.Native.Nat.{ℕ, zero, suc, _^_, _≤_, _<_}
 use native.Mathlib.Omega.{arith}
-use lib.Dec.{eqb}
 use lib.ListN.{length, getD, take, length-take}
 use Rattle.tlv.specs.Octet.{pick}
 use Rattle.tlv.specs.declared.Value.{Value}
@@ -15,61 +13,30 @@ use Rattle.interaction_write.specs.Write.{maxWrites, noEntry}
 use Rattle.kinds.specs.declared.Verdict.{Verdict}
 use Rattle.kinds.specs.declared.Verdict.the-variants.{Success, ConstraintError, InvalidDataType}
 use Rattle.kinds.specs.Limits.{statusCode}
-use Rattle.schema.specs.declared.Found.{Found}
-use Rattle.schema.specs.declared.Found.the-variants as found
 use Rattle.schema.specs.Rows.{attributeRow}
-use Rattle.schema.specs.Find.{findCluster, findAttribute, hasEndpoint}
 use Rattle.acl.specs.declared.Grants.{Grants}
-use Rattle.acl.specs.Access.{isGranted}
 use Rattle.selection.specs.declared.locate.Located.{Located}
 use Rattle.selection.specs.declared.locate.Located.the-variants.{Here, Refused}
-use Rattle.selection.specs.Status.{unsupportedEndpoint, unsupportedWrite, unsupportedAccess, dataVersionMismatch}
-use Rattle.selection.specs.Locate.{attributeFound, clusterFound, located}
+use Rattle.selection.specs.declared.reach.Action.the-variants.{Write}
+use Rattle.selection.specs.Reach.{reached}
+use Rattle.selection.proofs.ReachLaws.{Octet, and-then-octet, reached-octet}
 use Rattle.writes.specs.Offer.{Held, byVerdict, storedIn, verdictOn, offered, byPlace}
 use Rattle.tlv.specs.Value.{valueIn}
-use Rattle.writes.specs.Entry.{versionFits, allowedAt, allowedThere, mayWrite, entryWritten, codesOf, codesIn, InWidth}
+use Rattle.writes.specs.Entry.{versionFits, atVersion, mayWrite, entryWritten, codesOf, codesIn, InWidth}
 use Rattle.writes.specs.Response.{responsePayload}
 use Rattle.writes.proofs.ResponseLaws.{response-length}
 
 -- ---- a status is an octet
 
-abbrev Octet : Located → Type 0
-Octet (Here i) = Unit {0}
-Octet (Refused code) = code < 2 ^ 8
-
-attribute-octet : (f : Found) → Octet (attributeFound f)
-attribute-octet (found.At i) = tt
-attribute-octet found.Nothing = omega arith
-
-cluster-octet : (w : List ℕ) (a : ℕ) (f : Found) → Octet (clusterFound w a f)
-cluster-octet w a (found.At k) = attribute-octet (findAttribute w k a)
-cluster-octet w a found.Nothing = omega arith
-
-located-octet : (w : List ℕ) (e c a : ℕ) → Octet (located w e c a)
-unfolding located
-located-octet w e c a =
-    pick-elim Octet (hasEndpoint w e) (clusterFound w a (findCluster w e c)) (Refused unsupportedEndpoint) (λ _. cluster-octet w a (findCluster w e c)) (λ _. omega arith)
-
 module _ (w : List ℕ) (g : Grants) (versions : List ℕ) where
-  allowed-octet : (given i : ℕ) → Octet (allowedAt w g versions given i)
-  unfolding allowedAt
-  allowed-octet given i =
-      go (eqb (attributeRow w i .write) 0) (isGranted g (attributeRow w i .clusterIndex) (attributeRow w i .write))
-      (versionFits given (getD versions (attributeRow w i .clusterIndex) 0))
-    where
-      go : (a b c : Bool) → Octet (pick a (Refused unsupportedWrite) (pick b (pick c (Here i) (Refused dataVersionMismatch)) (Refused unsupportedAccess)))
-      go true b c = omega arith
-      go false true true = tt
-      go false true false = omega arith
-      go false false c = omega arith
+  version-octet : (given i : ℕ) → Octet (atVersion w versions given i)
+  version-octet given i = pick-elim Octet (versionFits given (getD versions (attributeRow w i .clusterIndex) 0)) _ _ (λ _. tt) (λ _. omega arith)
 
   may-octet : (x : Entry) → Octet (mayWrite w g versions x)
   unfolding mayWrite
-  may-octet x = go (located w (x .endpoint) (x .cluster) (x .attribute)) (located-octet w (x .endpoint) (x .cluster) (x .attribute))
-    where
-      go : (l : Located) → Octet l → Octet (allowedThere w g versions (x .version) l)
-      go (Here i) o = allowed-octet (x .version) i
-      go (Refused code) o = o
+  may-octet x =
+      and-then-octet (reached Write w g (x .endpoint) (x .cluster) (x .attribute)) (atVersion w versions (x .version))
+      (reached-octet w Write g (x .endpoint) (x .cluster) (x .attribute)) (version-octet (x .version))
 
 module _ (w defaults : List ℕ) (h : Held) (src : List ℕ) (new : Value) where
   pub offered-octet : (i : ℕ) → offered w defaults h i src new .code < 2 ^ 8

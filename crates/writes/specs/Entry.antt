@@ -13,32 +13,24 @@ use Rattle.interaction_write.specs.declared.Entry.{Entry}
 use Rattle.interaction_write.specs.Write.{maxWrites}
 use Rattle.schema.specs.Rows.{attributeRow}
 use Rattle.acl.specs.declared.Grants.{Grants}
-use Rattle.acl.specs.Access.{isGranted}
 use Rattle.selection.specs.declared.locate.Located.{Located}
 use Rattle.selection.specs.declared.locate.Located.the-variants.{Here, Refused}
-use Rattle.selection.specs.Status.{unsupportedWrite, unsupportedAccess, dataVersionMismatch}
-use Rattle.selection.specs.Locate.{located}
+use Rattle.selection.specs.declared.reach.Action.the-variants.{Write}
+use Rattle.selection.specs.Status.{dataVersionMismatch}
+use Rattle.selection.specs.Reach.{andThen, reached}
 use Rattle.writes.specs.Offer.{Held, Outcome, byPlace}
 
 -- a version that was not given fits; one that was must be the present one
 abbrev pub versionFits : ℕ → ℕ → Bool
 versionFits given present = pick (eqb given ABSENT) true (eqb given present)
 
--- an attribute that is there: 88, 7E, 92
-unfoldable pub allowedAt : List ℕ → Grants → List ℕ → ℕ → ℕ → Located
-allowedAt w g versions given i =
-    pick (eqb (attributeRow w i .write) 0) (Refused unsupportedWrite)
-    (pick (isGranted g (attributeRow w i .clusterIndex) (attributeRow w i .write))
-    (pick (versionFits given (getD versions (attributeRow w i .clusterIndex) 0)) (Here i) (Refused dataVersionMismatch))
-    (Refused unsupportedAccess))
+-- 92 a given version differs from the present one
+abbrev pub atVersion : List ℕ → List ℕ → ℕ → ℕ → Located
+atVersion w versions given i = pick (versionFits given (getD versions (attributeRow w i .clusterIndex) 0)) (Here i) (Refused dataVersionMismatch)
 
-abbrev pub allowedThere : List ℕ → Grants → List ℕ → ℕ → Located → Located
-allowedThere w g versions given (Here i) = allowedAt w g versions given i
-allowedThere w g versions given (Refused code) = Refused code
-
--- which attribute an entry may write
+-- which attribute an entry may write: the whole chain of writes, then the version
 unfoldable pub mayWrite : List ℕ → Grants → List ℕ → Entry → Located
-mayWrite w g versions x = allowedThere w g versions (x .version) (located w (x .endpoint) (x .cluster) (x .attribute))
+mayWrite w g versions x = andThen (reached Write w g (x .endpoint) (x .cluster) (x .attribute)) (atVersion w versions (x .version))
 
 unfoldable pub entryWritten : List ℕ → Grants → List ℕ → List ℕ → Held → Entry → Outcome
 entryWritten w g defaults s h x = byPlace w defaults h s (valueIn s (x .place)) (mayWrite w g (h .values .versions) x)

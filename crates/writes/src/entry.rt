@@ -3,14 +3,14 @@ ghost use mathlib.Core.Path.{_≡_};
 ghost use mathlib.Core.Bool.{true};
 ghost use Prim.Native.Nat.{ℕ, _<_, _≤_, _*_};
 ghost use lib.ListN.{length, take, getD};
-ghost use Rattle.schema.specs.Layout.{textSize, attributeLimit};
+ghost use Rattle.schema.specs.Layout.{textSize};
 ghost use Rattle.schema.specs.Check.{wellFormed, textCount};
 ghost use Rattle.interaction_write.specs.Write.{maxWrites, noEntry};
+ghost use Rattle.selection.specs.Reach.{Within};
 ghost use Rattle.writes.specs.Offer.{heldOf};
-ghost use Rattle.writes.specs.Entry.{allowedAt, mayWrite, entryWritten, InWidth, heldAfter, codesOf, codesIn};
+ghost use Rattle.writes.specs.Entry.{atVersion, mayWrite, entryWritten, InWidth, heldAfter, codesOf, codesIn};
 use super::offer;
 use acl::Grants;
-use acl::is_granted;
 use interaction_write::Entry;
 use interaction_write::MAX_WRITES;
 use members::ABSENT;
@@ -18,10 +18,9 @@ use schema::ATTRIBUTES;
 use schema::CLUSTERS;
 use schema::WORDS;
 use selection::DATA_VERSION_MISMATCH;
-use selection::UNSUPPORTED_ACCESS;
-use selection::UNSUPPORTED_WRITE;
 use selection::locate::Located;
-use selection::locate::locate;
+use selection::reach::Action;
+use selection::reach::reach;
 use tlv::value_in;
 
 // A version as wide as a given one.
@@ -31,29 +30,20 @@ fn wide(x: u32) -> u64
     x as u64
 }
 
-// An attribute that is there: not writable, then privilege, then the version that was given.
-fn allowed_at<'a>(
+// The version that was given, where one was, against the present one of the attribute's cluster.
+fn at_version<'a>(
     w: &'a [u64; WORDS],
-    g: Grants,
     versions: &'a [u32; CLUSTERS],
     given: u64,
     i: usize,
 ) -> Located
-    requires { ⌜ i < attributeLimit ⌝ }
-    ensures { λ r. ⌜ r ≡ allowedAt (now (w .entry)) g (now (versions .entry)) given i ⌝ }
+    requires { ⌜ Within (now w) i ⌝ }
+    ensures { λ r. ⌜ r ≡ atVersion (now (w .entry)) (now (versions .entry)) given i ⌝ }
 {
-    let need = schema::write_privilege(w, i);
-    if need == 0 {
-        return Located::Refused(UNSUPPORTED_WRITE);
-    }
-    let k = schema::attribute_cluster(w, i);
-    if !is_granted(g, k, need) {
-        return Located::Refused(UNSUPPORTED_ACCESS);
-    }
     if given == ABSENT {
         return Located::Here(i);
     }
-    if given != wide(versions[k]) {
+    if given != wide(versions[schema::attribute_cluster(w, i)]) {
         return Located::Refused(DATA_VERSION_MISMATCH);
     }
     Located::Here(i)
@@ -64,8 +54,15 @@ fn may_write<'a>(w: &'a [u64; WORDS], g: Grants, versions: &'a [u32; CLUSTERS], 
     requires { ⌜ InWidth x ⌝ }
     ensures { λ r. ⌜ r ≡ mayWrite (now (w .entry)) g (now (versions .entry)) x ⌝ }
 {
-    match locate(w, x.endpoint as u16, x.cluster as u32, x.attribute as u32) {
-        Located::Here(i) => allowed_at(w, g, versions, x.version, i),
+    match reach(
+        Action::Write,
+        w,
+        g,
+        x.endpoint as u16,
+        x.cluster as u32,
+        x.attribute as u32,
+    ) {
+        Located::Here(i) => at_version(w, versions, x.version, i),
         Located::Refused(code) => Located::Refused(code),
     }
 }

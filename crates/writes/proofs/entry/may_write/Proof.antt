@@ -1,50 +1,52 @@
 use mathlib.Core.Path.{sym, ap, _∙_}
-use native.Mathlib.Omega.{arith}
 use borrow.Author.Needs.{needs}
-use Rattle.selection.proofs.LocateLaws.{located-here}
-use Rattle.writes.specs.Entry.{allowedThere, mayWrite}
+use Rattle.selection.specs.declared.locate.Located.{Located}
+use Rattle.selection.specs.declared.reach.Action.the-variants.{Write}
+use Rattle.selection.specs.Reach.{andThen}
+use Rattle.selection.proofs.ReachLaws.{reached-within}
+use Rattle.writes.specs.Entry.{atVersion, mayWrite}
 use Rattle.writes.proofs.entry.may_write.Statement.{statement}
 use Rattle.writes.proofs.entry.may_write.Tie as tie
 
-cast-locate : tie.Need-cast-locate
-cast-locate c = search needs
+cast-reach : tie.Need-cast-reach
+cast-reach c = search needs
 
-cast-locate-2 : tie.Need-cast-locate-2
-cast-locate-2 c = search needs
+cast-reach-2 : tie.Need-cast-reach-2
+cast-reach-2 c = search needs
 
-cast-locate-3 : tie.Need-cast-locate-3
-cast-locate-3 c = search needs
+cast-reach-3 : tie.Need-cast-reach-3
+cast-reach-3 c = search needs
 
-locate-requires : tie.Need-locate-requires
-locate-requires c κs = search needs
+reach-requires : tie.Need-reach-requires
+reach-requires c κs = search needs
 
 enum-known-i : tie.Need-enum-known-i
 enum-known-i c = search needs
 
-allowed-at-requires : tie.Need-allowed-at-requires
-allowed-at-requires c κs = let a = c .before .before .before .before .before .before .before .args in omega (arith, located-here (a .w .now) (a .x .endpoint) (a .x .cluster) (a .x .attribute) _ (sym (c .before .before .before .locate .ensures) ∙ c .before .i .given .1) .0)
+at-version-requires : tie.Need-at-version-requires
+at-version-requires c κs = let a = c .before .before .before .before .before .before .before .args in reached-within Write (a .w .now) (a .g) (a .x .endpoint) (a .x .cluster) (a .x .attribute) _ (sym (c .before .before .before .reach .ensures) ∙ c .before .i .given .1)
 
 enum-known-code : tie.Need-enum-known-code
 enum-known-code c = search needs
 
 returns : tie.Need-returns
 unfolding mayWrite
-returns c = let a = c .before .before .before .before .before .before .before .before .args in c .allowed-at .ensures ∙ sym (ap (allowedThere (a .w .now) (a .g) (a .versions .now) (a .x .version)) (sym (c .before .before .before .before .locate .ensures) ∙ c .before .before .i .given .1))
+returns c = let a = c .before .before .before .before .before .before .before .before .args in c .at-version .ensures ∙ sym (ap (λ (l : Located). andThen l (atVersion (a .w .now) (a .versions .now) (a .x .version))) (sym (c .before .before .before .before .reach .ensures) ∙ c .before .before .i .given .1))
 
 returns-2 : tie.Need-returns-2
 unfolding mayWrite
-returns-2 c = let a = c .before .before .before .before .before .before .before .args in sym (ap (allowedThere (a .w .now) (a .g) (a .versions .now) (a .x .version)) (sym (c .before .before .before .locate .ensures) ∙ c .before .code .given .1))
+returns-2 c = let a = c .before .before .before .before .before .before .before .args in sym (ap (λ (l : Located). andThen l (atVersion (a .w .now) (a .versions .now) (a .x .version))) (sym (c .before .before .before .reach .ensures) ∙ c .before .code .given .1))
 
 pub may-write-spec : {M : Type 1} → statement M
 may-write-spec =
     tie.close
     (tie.spec
-    cast-locate
-    cast-locate-2
-    cast-locate-3
-    locate-requires
+    cast-reach
+    cast-reach-2
+    cast-reach-3
+    reach-requires
     enum-known-i
-    allowed-at-requires
+    at-version-requires
     enum-known-code
     returns
     returns-2)
