@@ -59,8 +59,9 @@ pub fn hold(first: u64, count: u64) -> Judged {
     judged
 }
 
-/// The highest exchange, turn, mark that more was promised, mark that it is closed, count of paths, place among them and in the schema, and length of a reply.
-const HIGHEST: [u64; 8] = [(1 << 40) - 1, 65_535, 1, 1, 16, 16, 256, MESSAGE as u64];
+/// The highest exchange, turn, mark that more was promised, mark that it is closed, count of paths, place among them and in the schema, length of a reply, phase, and
+/// how much of the place was sent.
+const HIGHEST: [u64; 10] = [(1 << 40) - 1, 65_535, 1, 1, 16, 16, 256, MESSAGE as u64, 0, 0];
 
 /// Any paths and filters; of how the exchange stands each word in its limits, or seldom past them. Whether none is.
 fn touch_row(ours: &mut Sign, rng: &mut Rng) -> bool {
@@ -74,7 +75,7 @@ fn touch_row(ours: &mut Sign, rng: &mut Rng) -> bool {
         *word = if past {
             *rng.pick(&[highest + 1, highest + (1 << 32), u64::MAX])
         } else {
-            *rng.pick(&[0, 1, 1, highest])
+            (*rng.pick(&[0, 1, 1, highest])).min(highest)
         };
         kept &= !past;
     }

@@ -7,12 +7,13 @@ ghost use Rattle.schema.specs.Check.{wellFormed};
 ghost use Rattle.interaction.specs.Read.{maxPaths};
 ghost use Rattle.values.specs.Values.{valuesOf};
 ghost use Rattle.selection.specs.Request.{filtersIn, askedPaths};
-ghost use Rattle.report.specs.Blocks.{viewOf, blocksFrom};
+ghost use Rattle.report.specs.Blocks.{startOf, viewOf, blocksFrom};
 ghost use Rattle.report.specs.Chunk.{maxPayload};
 ghost use Rattle.report.specs.Part.{Made};
 ghost use Rattle.measured.specs.Sign.{signRight, allGranted};
 use acl::ADMINISTER;
 use acl::Grants;
+use report::ATTRIBUTE_PHASE;
 use report::Place;
 use report::part::make_part;
 use schema::ATTRIBUTES;
@@ -70,7 +71,7 @@ pub extern "C" fn sign_part<'a>(
     out: &mut [u8],
 ) -> Part
     requires { ⌜ (wellFormed (now w) ≡ true) × ((asked ≤ maxPaths) × (maxPayload ≤ length (now out))) ⌝ }
-    ensures { λ r. ⌜ Made (now (out .entry)) 0 (record { path = path; index = index }) (blocksFrom (viewOf (now (w .entry)) (valuesOf (now (words .entry)) (now (nulls .entry)) (now (edited .entry)) (now (versions .entry))) (now (defaults .entry)) (now (edits .entry)) allGranted (filtersIn (now (row .entry)))) (askedPaths (now (row .entry)) asked) (record { path = path; index = index })) (now (out .exit)) (record { end = r .end; place = record { path = r .path; index = r .index }; more = r .more }) ⌝ }
+    ensures { λ r. ⌜ Made (now (out .entry)) 0 (startOf path index) (blocksFrom (viewOf (now (w .entry)) (valuesOf (now (words .entry)) (now (nulls .entry)) (now (edited .entry)) (now (versions .entry))) (now (defaults .entry)) (now (edits .entry)) allGranted (filtersIn (now (row .entry)))) (askedPaths (now (row .entry)) asked) (startOf path index)) (now (out .exit)) (record { end = r .end; place = startOf (r .path) (r .index); more = r .more }) ⌝ }
 {
     let g = Grants {
         level: [ADMINISTER; CLUSTERS],
@@ -86,7 +87,12 @@ pub extern "C" fn sign_part<'a>(
         g,
         row,
         asked,
-        Place { path, index },
+        Place {
+            phase: ATTRIBUTE_PHASE,
+            path,
+            index,
+            sent: 0,
+        },
         out,
         0,
     );

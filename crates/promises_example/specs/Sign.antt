@@ -10,6 +10,7 @@ use Rattle.selection.specs.Request.{pathSize, filtersAt}
 use Rattle.selection.specs.Filters.{unfiltered}
 use Rattle.exchange.specs.Rules.{nothing, part}
 use Rattle.report.specs.declared.part.Request.{Request}
+use Rattle.report.specs.Blocks.{startOf}
 use Rattle.values.specs.declared.Values.{Values}
 use Rattle.values.specs.Fresh.{freshValues}
 use Rattle.replies.specs.declared.Row.{Row}
@@ -29,7 +30,7 @@ rowAfter kept turn next index reply =
     record {
       progress = record { last = 1; turn = turn; next = next; closed = 0 };
       request = everything;
-      place = record { path = 0; index = index };
+      place = startOf 0 index;
       kept = keptOver reply kept;
       len = length reply;
     }

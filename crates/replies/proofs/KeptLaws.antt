@@ -41,7 +41,7 @@ next-small false = omega arith
 module _ (x : Row) (exchange : ℕ) (below : exchange < 2 ^ 40) where
   once-right : RightRow x → (reply : List ℕ) → length reply ≤ maxMessage → RightRow (once x exchange reply)
   unfolding keeping
-  once-right r reply h = record { exchange = below; turn = omega arith; next = omega arith; closed = omega arith; asked = r .asked; path = r .path; index = r .index; len = h }
+  once-right r reply h = record { exchange = below; turn = omega arith; next = omega arith; closed = omega arith; asked = r .asked; phase = r .phase; path = r .path; index = r .index; sent = r .sent; len = h }
 
   reported-right : (w : List ℕ) (v : Values) (defaults edits : List ℕ) (g : Grants) (turn : ℕ) → turn ≤ maxTurn → (q : Request) (at : Place) → q .asked ≤ maxPaths → Reached maxPaths at → RightRow (reported x exchange turn q at (blocksOf w v defaults edits g q at))
   unfolding keeping
@@ -53,8 +53,10 @@ module _ (x : Row) (exchange : ℕ) (below : exchange < 2 ^ 40) where
         next = next-small (any (left blockRoom (blocksOf w v defaults edits g q at)));
         closed = omega arith;
         asked = a;
+        phase = r .phase;
         path = r .path;
         index = r .index;
+        sent = r .sent;
         len = report-length exchange turn (blocksOf w v defaults edits g q at);
       }
 
@@ -64,7 +66,7 @@ unfolding nextPart
 next-right w v defaults edits g x h t =
     let r = row-right x h in
     right-row (nextPart w v defaults edits g x)
-    (reported-right x (x .progress .last) (r .exchange) w v defaults edits g (x .progress .turn + 1) (omega arith) (x .request) (x .place) (r .asked) (record { path = r .path; index = r .index }))
+    (reported-right x (x .progress .last) (r .exchange) w v defaults edits g (x .progress .turn + 1) (omega arith) (x .request) (x .place) (r .asked) (record { phase = r .phase; path = r .path; index = r .index; sent = r .sent }))
 
 -- the reply to a write that is not refused
 answered-short : (w : List ℕ) (g : Grants) (defaults : List ℕ) (h : Held) (x : Row) (exchange : ℕ) (s : List ℕ) → writeRead (writeIn s) .verdict ≡ 0 → length (responseTo w g defaults s h exchange (writeRead (writeIn s))) ≤ maxMessage
@@ -84,7 +86,7 @@ module _ (x : Row) (exchange : ℕ) (below : exchange < 2 ^ 40) (right : rowRigh
       let q = readRead (readIn s) in
       right-row (readBegun w v defaults edits g x exchange s)
       (pick-elim RightRow (eqb (q .verdict) 0) _ _
-      (λ t. let f = request-few s refl (eqb-true (q .verdict) 0 t) in reported-right x exchange below w v defaults edits g 1 (omega arith) (requestOf w q) beginningPlace (f .0) (record { path = omega arith; index = omega arith }))
+      (λ t. let f = request-few s refl (eqb-true (q .verdict) 0 t) in reported-right x exchange below w v defaults edits g 1 (omega arith) (requestOf w q) beginningPlace (f .0) (record { phase = refl; path = omega arith; index = omega arith; sent = refl }))
       (λ t. once-right x exchange below (row-right x right) (statusMessage exchange (q .verdict)) (refused-short exchange (q .verdict) (read-fits s refl))))
 
   -- A WRITE that begins

@@ -28,7 +28,7 @@ words-same l (suc n) at = store-step l at (rowsFrom (λ i. getD l i 0) n (suc at
 
 standing-same : (row : List ℕ) → store row standingAt (standingWords (standingIn row)) ≡ row
 unfolding standingIn standingWords rowsFrom
-standing-same row = words-same row 8 standingAt
+standing-same row = words-same row 10 standingAt
 
 pub row-same : (row kept : List ℕ) → putRow row (rowOf row kept) ≡ row
 unfolding putRow

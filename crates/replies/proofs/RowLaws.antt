@@ -4,8 +4,8 @@ use mathlib.Core.Bool.{Bool, true, _&&_}
 use mathlib.Core.List.{List, []}
 use Prim.Native.Nat.{ℕ, _-_, _^_, _≤_, _<_}
 use native.Mathlib.Omega.{arith}
-use borrow.Author.Tests.{ltb-true, leb-true, lt-ltb, le-leb}
-use lib.Dec.{leb, ltb}
+use borrow.Author.Tests.{ltb-true, leb-true, eqb-true, lt-ltb, le-leb, eq-eqb}
+use lib.Dec.{leb, ltb, eqb}
 use lib.ListN.{length, take}
 use Rattle.octets.specs.Store.{store, Stored}
 use Rattle.octets.proofs.StoreLaws.{store-back, same-length}
@@ -17,7 +17,7 @@ use Rattle.exchange.specs.Rules.{maxTurn, part}
 use Rattle.report.specs.declared.Place.{Place}
 use Rattle.report.specs.declared.Filled.{Filled}
 use Rattle.report.specs.declared.part.Request.{Request}
-use Rattle.report.specs.Blocks.{Placed}
+use Rattle.report.specs.Blocks.{Placed, attributePhase}
 use Rattle.replies.specs.declared.Row.{Row}
 use Rattle.replies.specs.Messages.{maxMessage, reportMessage}
 use Rattle.replies.specs.Row.{keptAt, keeping, keptReply, nextOf, reported, rowRight}
@@ -93,22 +93,28 @@ pub record RightRow (x : Row) : Type 0 where
   pub next : x .progress .next ≤ part
   pub closed : x .progress .closed ≤ 1
   pub asked : x .request .asked ≤ maxPaths
+  pub phase : x .place .phase ≡ attributePhase
   pub path : x .place .path ≤ maxPaths
   pub index : x .place .index ≤ attributeLimit
+  pub sent : x .place .sent ≡ 0
   pub len : x .len ≤ maxMessage
 
 pub row-right : (x : Row) → rowRight x ≡ true → RightRow x
 unfolding rowRight
 row-right x h =
-    let t₇ = leb (x .len) maxMessage in
-    let t₆ = leb (x .place .index) attributeLimit in
-    let t₅ = leb (x .place .path) maxPaths in
+    let t₉ = leb (x .len) maxMessage in
+    let t₈ = eqb (x .place .sent) 0 in
+    let t₇ = leb (x .place .index) attributeLimit in
+    let t₆ = leb (x .place .path) maxPaths in
+    let t₅ = eqb (x .place .phase) attributePhase in
     let t₄ = leb (x .request .asked) maxPaths in
     let t₃ = leb (x .progress .closed) 1 in
     let t₂ = leb (x .progress .next) part in
     let t₁ = leb (x .progress .turn) maxTurn in
     let t₀ = ltb (x .progress .last) (2 ^ 40) in
-    let r₆ : Bool = t₆ && t₇ in
+    let r₈ : Bool = t₈ && t₉ in
+    let r₇ : Bool = t₇ && r₈ in
+    let r₆ : Bool = t₆ && r₇ in
     let r₅ : Bool = t₅ && r₆ in
     let r₄ : Bool = t₄ && r₅ in
     let r₃ : Bool = t₃ && r₄ in
@@ -120,15 +126,19 @@ row-right x h =
     let h₄ = right t₃ r₄ h₃ in
     let h₅ = right t₄ r₅ h₄ in
     let h₆ = right t₅ r₆ h₅ in
+    let h₇ = right t₆ r₇ h₆ in
+    let h₈ = right t₇ r₈ h₇ in
     record {
       exchange = ltb-true (x .progress .last) (2 ^ 40) (left t₀ r₁ h);
       turn = leb-true (x .progress .turn) maxTurn (left t₁ r₂ h₁);
       next = leb-true (x .progress .next) part (left t₂ r₃ h₂);
       closed = leb-true (x .progress .closed) 1 (left t₃ r₄ h₃);
       asked = leb-true (x .request .asked) maxPaths (left t₄ r₅ h₄);
-      path = leb-true (x .place .path) maxPaths (left t₅ r₆ h₅);
-      index = leb-true (x .place .index) attributeLimit (left t₆ t₇ h₆);
-      len = leb-true (x .len) maxMessage (right t₆ t₇ h₆);
+      phase = eqb-true (x .place .phase) attributePhase (left t₅ r₆ h₅);
+      path = leb-true (x .place .path) maxPaths (left t₆ r₇ h₆);
+      index = leb-true (x .place .index) attributeLimit (left t₇ r₈ h₇);
+      sent = eqb-true (x .place .sent) 0 (left t₈ t₉ h₈);
+      len = leb-true (x .len) maxMessage (right t₈ t₉ h₈);
     }
 
 pub right-row : (x : Row) → RightRow x → rowRight x ≡ true
@@ -140,7 +150,9 @@ right-row x r =
       le-leb (x .progress .next) part (r .next),
       le-leb (x .progress .closed) 1 (r .closed),
       le-leb (x .request .asked) maxPaths (r .asked),
+      eq-eqb (x .place .phase) attributePhase (r .phase),
       le-leb (x .place .path) maxPaths (r .path),
       le-leb (x .place .index) attributeLimit (r .index),
+      eq-eqb (x .place .sent) 0 (r .sent),
       le-leb (x .len) maxMessage (r .len),
     )

@@ -19,6 +19,7 @@ use Rattle.exchange.specs.declared.Progress.{Progress}
 use Rattle.exchange.specs.Rules.{nothing}
 use Rattle.report.specs.declared.Place.{Place}
 use Rattle.report.specs.declared.part.Request.{Request}
+use Rattle.report.specs.Blocks.{startOf}
 use Rattle.writes.specs.Offer.{Held}
 use Rattle.writes.specs.Entry.{heldAfter, codesOf}
 use Rattle.replies.specs.declared.Row.{Row}
@@ -35,7 +36,7 @@ abbrev pub once : Row → ℕ → List ℕ → Row
 once x exchange reply = keeping x (answered exchange) (x .request) (x .place) reply
 
 abbrev pub beginningPlace : Place
-beginningPlace = record { path = 0; index = 0 }
+beginningPlace = startOf 0 0
 
 -- what is kept of a read: its paths, and what its filters say of each cluster
 unfoldable pub requestOf : List ℕ → ReadRequest → Request

@@ -2,7 +2,7 @@
 use mathlib.Core.Bool.{Bool, _&&_}
 use mathlib.Core.List.{List, [], _∷_}
 use Prim.Native.Nat.{ℕ, _+_, _^_}
-use lib.Dec.{leb, ltb}
+use lib.Dec.{leb, ltb, eqb}
 use lib.ListN.{length, getD, take, drop}
 use Rattle.octets.specs.Store.{store}
 use Rattle.tlv.specs.Octet.{pick}
@@ -16,7 +16,7 @@ use Rattle.exchange.specs.declared.Progress.{Progress}
 use Rattle.exchange.specs.Rules.{maxTurn, nothing, part}
 use Rattle.report.specs.declared.Place.{Place}
 use Rattle.report.specs.declared.part.Request.{Request}
-use Rattle.report.specs.Blocks.{Placed, viewOf, blocksFrom}
+use Rattle.report.specs.Blocks.{Placed, viewOf, attributePhase, blocksFrom}
 use Rattle.report.specs.Chunk.{blockRoom, taken, left, after, any}
 use Rattle.replies.specs.declared.Row.{Row}
 use Rattle.replies.specs.declared.Standing.{Standing}
@@ -58,7 +58,7 @@ unfoldable pub nextPart : List ℕ → Values → List ℕ → List ℕ → Gran
 nextPart w v defaults edits g x =
     reported x (x .progress .last) (x .progress .turn + 1) (x .request) (x .place) (blocksOf w v defaults edits g (x .request) (x .place))
 
--- refusal 2: numbers in their widths, counts, the place reached and the kept reply's length
+-- refusal 2: numbers in their widths, counts, the place reached, of which nothing was sent, and the kept reply's length
 unfoldable pub rowRight : Row → Bool
 rowRight x =
     ltb (x .progress .last) (2 ^ 40)
@@ -66,7 +66,10 @@ rowRight x =
     && (leb (x .progress .next) part
     && (leb (x .progress .closed) 1
     && (leb (x .request .asked) maxPaths
-    && (leb (x .place .path) maxPaths && (leb (x .place .index) attributeLimit && leb (x .len) maxMessage))))))
+    && (eqb (x .place .phase) attributePhase
+    && (leb (x .place .path) maxPaths
+    && (leb (x .place .index) attributeLimit
+    && (eqb (x .place .sent) 0 && leb (x .len) maxMessage))))))))
 
 -- ---- A ROW AS IT IS LENT: the request in words, how the exchange stands behind it, the kept reply in bytes
 
@@ -89,13 +92,14 @@ standingIn row =
     record {
       progress = record { last = standingWord row 0; turn = standingWord row 1; next = standingWord row 2; closed = standingWord row 3 };
       asked = standingWord row 4;
-      place = record { path = standingWord row 5; index = standingWord row 6 };
+      place = record { phase = standingWord row 8; path = standingWord row 5; index = standingWord row 6; sent = standingWord row 9 };
       len = standingWord row 7;
     }
 
 unfoldable pub standingWords : Standing → List ℕ
 standingWords t =
-    t .progress .last ∷ t .progress .turn ∷ t .progress .next ∷ t .progress .closed ∷ t .asked ∷ t .place .path ∷ t .place .index ∷ t .len ∷ []
+    t .progress .last ∷ t .progress .turn ∷ t .progress .next ∷ t .progress .closed ∷ t .asked ∷ t .place .path ∷ t .place .index ∷ t .len
+    ∷ t .place .phase ∷ t .place .sent ∷ []
 
 -- any words and bytes are some row's
 abbrev pub rowOf : List ℕ → List ℕ → Row

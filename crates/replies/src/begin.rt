@@ -24,6 +24,7 @@ use exchange::NOTHING;
 use exchange::Progress;
 use interaction::read_request;
 use interaction_write::write_request;
+use report::ATTRIBUTE_PHASE;
 use report::Place;
 use schema::ATTRIBUTES;
 use schema::CLUSTERS;
@@ -111,7 +112,12 @@ pub fn begin_read<'a>(
         g,
         row,
         asked,
-        Place { path: 0, index: 0 },
+        Place {
+            phase: ATTRIBUTE_PHASE,
+            path: 0,
+            index: 0,
+            sent: 0,
+        },
         out,
         exchange,
         1,

@@ -10,6 +10,7 @@ use exchange::MAX_TURN;
 use exchange::PART;
 use exchange::Progress;
 use interaction::MAX_PATHS;
+use report::ATTRIBUTE_PHASE;
 use report::Place;
 use schema::ATTRIBUTES;
 use selection::request::ROW_WORDS;
@@ -27,8 +28,10 @@ pub fn read_standing(row: &[u64; ROW_WORDS]) -> Standing
         },
         asked: row[STANDING_AT + 4] as usize,
         place: Place {
+            phase: row[STANDING_AT + 8] as usize,
             path: row[STANDING_AT + 5] as usize,
             index: row[STANDING_AT + 6] as usize,
+            sent: row[STANDING_AT + 9] as usize,
         },
         len: row[STANDING_AT + 7] as usize,
     }
@@ -47,9 +50,11 @@ pub fn put_standing(row: &mut [u64; ROW_WORDS], t: Standing)
     row[STANDING_AT + 5] = place.path as u64;
     row[STANDING_AT + 6] = place.index as u64;
     row[STANDING_AT + 7] = t.len as u64;
+    row[STANDING_AT + 8] = place.phase as u64;
+    row[STANDING_AT + 9] = place.sent as u64;
 }
 
-// Numbers in their widths, counts, the place reached, and the kept reply's length: refusal 2 where they break the rules.
+// Numbers in their widths, counts, the place reached, of which nothing was sent, and the kept reply's length: refusal 2 where they break the rules.
 pub fn row_ok(t: Standing) -> bool
     ensures { λ r. ⌜ ((row kept : _) → r ≡ rowRight (rowIn row t kept)) ⌝ }
 {
@@ -70,10 +75,16 @@ pub fn row_ok(t: Standing) -> bool
     if MAX_PATHS < t.asked {
         return false;
     }
+    if place.phase != ATTRIBUTE_PHASE {
+        return false;
+    }
     if MAX_PATHS < place.path {
         return false;
     }
     if ATTRIBUTES < place.index {
+        return false;
+    }
+    if place.sent != 0 {
         return false;
     }
     t.len <= MAX_MESSAGE

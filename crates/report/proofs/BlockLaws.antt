@@ -1,7 +1,7 @@
 -- The blocks of a request, place by place.
 use mathlib.Core.Path.{_≡_, refl, sym, ap, _∙_}
 use mathlib.Core.Bool.{Bool, true, false, false≢true}
-use mathlib.Core.List.{List, [], _∷_, _++_}
+use mathlib.Core.List.{List, [], _∷_, _++_, map, append-assoc}
 use Prim.Native.Nat.{ℕ, suc, _+_, _-_, _≤_, _<_}
 use native.Mathlib.Numerals.{add-one}
 use native.Mathlib.Omega.{arith}
@@ -20,7 +20,7 @@ use Rattle.selection.specs.declared.items.Item.{Item}
 use Rattle.selection.specs.declared.items.Item.the-variants as item
 use Rattle.selection.specs.Items.{span, itemAt}
 use Rattle.selection.proofs.ItemLaws.{item-index}
-use Rattle.report.specs.Blocks.{View, Placed, isNothing, blockOf, blockAt, entry, collect, pathBlocks, pathsBlocks}
+use Rattle.report.specs.Blocks.{View, Placed, isNothing, blockOf, listed, blockAt, placedAt, collect, pathBlocks, pathsBlocks}
 
 -- what a place has is nothing, or a block
 pub no-block : (s : View) (p : Asked) (x : Item) → isNothing x ≡ true → blockOf (s .schema) (s .values) (s .defaults) (s .edits) p x ≡ nothing
@@ -52,10 +52,6 @@ span-most w p = by-form (concrete p)
     by-form true = omega arith
     by-form false = omega arith
 
-pub entry-append : (k i : ℕ) (o : Opt Block) (l m : List Placed) → entry k i o l ++ m ≡ entry k i o (l ++ m)
-entry-append k i (just b) l m = refl
-entry-append k i nothing l m = refl
-
 module _ (s : View) (k : ℕ) (p : Asked) (ps : List Asked) where
   -- a path has no block after its places
   pub path-past : (i : ℕ) → span (s .schema) p ≤ i → pathsBlocks s k i (p ∷ ps) ≡ pathsBlocks s (k + 1) 0 ps
@@ -63,11 +59,11 @@ module _ (s : View) (k : ℕ) (p : Asked) (ps : List Asked) where
   path-past i h = let q : span (s .schema) p - i ≡ 0 = omega arith in rw q
 
   -- at a place there is what stands there, then what follows
-  pub path-step : (i : ℕ) (o : Opt Block) → i < span (s .schema) p → blockAt s p i ≡ o → pathsBlocks s k i (p ∷ ps) ≡ entry k i o (pathsBlocks s k (i + 1) (p ∷ ps))
+  pub path-step : (i : ℕ) (l : List Block) → i < span (s .schema) p → blockAt s p i ≡ l → pathsBlocks s k i (p ∷ ps) ≡ map (placedAt k i) l ++ pathsBlocks s k (i + 1) (p ∷ ps)
   unfolding pathsBlocks pathBlocks collect
-  path-step i o h e =
+  path-step i l h e =
       let q : span (s .schema) p - i ≡ suc (span (s .schema) p - (i + 1)) = omega arith in
-      rw (q, e) (entry-append k i o (collect k (blockAt s p) (span (s .schema) p - (i + 1)) (i + 1)) (pathsBlocks s (k + 1) 0 ps))
+      rw (q, e) (append-assoc (map (placedAt k i) l) (collect k (blockAt s p) (span (s .schema) p - (i + 1)) (i + 1)) (pathsBlocks s (k + 1) 0 ps))
 
 -- the blocks from place i of path k on, of the first n paths
 abbrev pub ahead : View → List Asked → ℕ → ℕ → List Placed
@@ -84,14 +80,14 @@ module _ (s : View) (ps : List Asked) (k i : ℕ) where
     ahead-past h = ap (pathsBlocks s k i) here ∙ path-past s k p (drop (k + 1) ps) i h
 
     module _ (h : i < span (s .schema) p) (x : Item) (e : x ≡ itemAt (s .schema) (s .grants) (s .skips) p i) where
-      ahead-step : (o : Opt Block) → blockOf (s .schema) (s .values) (s .defaults) (s .edits) p x ≡ o → ahead s ps k i ≡ entry k i o (ahead s ps k (i + 1))
+      ahead-step : (o : Opt Block) → blockOf (s .schema) (s .values) (s .defaults) (s .edits) p x ≡ o → ahead s ps k i ≡ map (placedAt k i) (listed o) ++ ahead s ps k (i + 1)
       ahead-step o q =
           ap (pathsBlocks s k i) here
-          ∙ path-step s k p (drop (k + 1) ps) i o h (ap (blockOf (s .schema) (s .values) (s .defaults) (s .edits) p) (sym e) ∙ q)
-          ∙ ap (λ (qs : List Asked). entry k i o (pathsBlocks s k (i + 1) qs)) (sym here)
+          ∙ path-step s k p (drop (k + 1) ps) i (listed o) h (ap listed (ap (blockOf (s .schema) (s .values) (s .defaults) (s .edits) p) (sym e) ∙ q))
+          ∙ ap (λ (qs : List Asked). map (placedAt k i) (listed o) ++ pathsBlocks s k (i + 1) qs) (sym here)
 
       pub ahead-none : isNothing x ≡ true → ahead s ps k i ≡ ahead s ps k (i + 1)
       ahead-none t = ahead-step nothing (no-block s p x t)
 
-      pub ahead-block : (b : Block) → blockOf (s .schema) (s .values) (s .defaults) (s .edits) p x ≡ just b → ahead s ps k i ≡ record { path = k; index = i; block = b } ∷ ahead s ps k (i + 1)
+      pub ahead-block : (b : Block) → blockOf (s .schema) (s .values) (s .defaults) (s .edits) p x ≡ just b → ahead s ps k i ≡ placedAt k i b ∷ ahead s ps k (i + 1)
       ahead-block b q = ahead-step (just b) q

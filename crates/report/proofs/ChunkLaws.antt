@@ -4,13 +4,10 @@ use mathlib.Core.Bool.{Bool, true, false, false≢true}
 use mathlib.Core.List.{List, [], _∷_, _++_}
 use Prim.Native.Nat.{ℕ, zero, suc, _+_, _-_, _≤_, _<_}
 use native.Mathlib.Omega.{arith}
-use borrow.Author.Tests.{le-leb}
+use borrow.Author.Tests.{leb-true, leb-false, le-leb, lt-leb}
 use lib.Dec.{leb}
-use lib.ListN.{length, drop}
-use lib.Seq.{drop-drop}
+use lib.ListN.{length, length-append}
 use Rattle.tlv.specs.Octet.{pick}
-use Rattle.tlv.specs.Decode.{Opt}
-use Rattle.tlv.specs.Decode.Opt.{just, nothing}
 use Rattle.interaction_writer.specs.Spelling.{spelling, joined, Each}
 use Rattle.interaction_writer.specs.Block.{Block, blockTree}
 use Rattle.interaction_writer.specs.Message.{messageTree, reportMembers}
@@ -18,22 +15,67 @@ use Rattle.interaction_writer.proofs.LengthLaws.{data-block-bound, status-block
 use Rattle.interaction_writer.proofs.MessageLaws.{length-report}
 use Rattle.schema.proofs.BoolLaws.{by-test}
 use Rattle.selection.specs.declared.asked.Asked.{Asked}
-use Rattle.selection.specs.Items.{span}
 use Rattle.report.specs.declared.Place.{Place}
-use Rattle.report.specs.Blocks.{View, Placed, blockAt, entry, pathsBlocks, blocksFrom}
-use Rattle.report.specs.Chunk.{maxPayload, blockRoom, size, taken, left, after, any, trees, Short}
+use Rattle.report.specs.Blocks.{View, Placed, blocksFrom}
+use Rattle.report.specs.Chunk.{maxPayload, frameLength, blockRoom, size, any, sizes, payloadLength, fits, taken, left, takenAfter, after, trees, Short}
 use Rattle.report.specs.Part.{partPayload, parts, partsFrom, together}
-use Rattle.report.proofs.BlockLaws.{path-past, path-step}
+use Rattle.report.proofs.NextLaws.{blocks-after}
 use Rattle.report.proofs.PartLaws.{taken-within}
+
+-- THE PAYLOAD HAS EXACTLY payloadLength BYTES
+sizes-joined : (t : List Placed) → length (joined (trees t)) ≡ sizes t
+unfolding joined sizes
+sizes-joined [] = refl
+sizes-joined (x ∷ t) = length-append (spelling (blockTree (x .block))) (joined (trees t)) ∙ ap (λ (n : ℕ). size x + n) (sizes-joined t)
+
+length-payload : (t : List Placed) (more : Bool) → length (spelling (messageTree (reportMembers (trees t) more))) ≡ payloadLength t more
+unfolding payloadLength
+length-payload [] more = length-empty-report more
+length-payload (x ∷ t) more = length-report (blockTree (x .block)) (trees t) more ∙ ap (λ (n : ℕ). frameLength more + n) (sizes-joined (x ∷ t))
+
+pub part-payload-length : (l : List Placed) → length (partPayload l) ≡ payloadLength (taken blockRoom l) (any (left blockRoom l))
+unfolding partPayload
+part-payload-length l = length-payload (taken blockRoom l) (any (left blockRoom l))
 
 -- A PART HAS AT MOST 1,024 BYTES
 pub part-length : (l : List Placed) → length (partPayload l) ≤ maxPayload
-unfolding partPayload joined
-part-length l = go (taken blockRoom l) (taken-within blockRoom l)
+unfolding payloadLength
+part-length l = omega (arith, part-payload-length l, go (taken blockRoom l) (taken-within blockRoom l))
   where
-    go : (t : List Placed) → length (joined (trees t)) ≤ blockRoom → length (spelling (messageTree (reportMembers (trees t) (any (left blockRoom l))))) ≤ maxPayload
-    go [] h = omega (arith, length-empty-report (any (left blockRoom l)))
-    go (x ∷ t) h = omega (arith, h, length-report (blockTree (x .block)) (trees t) (any (left blockRoom l)))
+    go : (t : List Placed) → length (joined (trees t)) ≤ blockRoom → payloadLength t (any (left blockRoom l)) ≤ maxPayload
+    go [] h = omega arith
+    go (x ∷ t) h = omega (arith, h, sizes-joined (x ∷ t))
+
+-- A PART TAKES THE NEXT BLOCK EXACTLY IF THE PAYLOAD STAYS WITHIN 1,024
+sizes-more : (t : List Placed) (x : Placed) → sizes (t ++ (x ∷ [])) ≡ sizes t + size x
+unfolding sizes
+sizes-more [] x = omega arith
+sizes-more (y ∷ t) x = omega (arith, sizes-more t x)
+
+length-more : (t : List Placed) (x : Placed) (more : Bool) → payloadLength (t ++ (x ∷ [])) more ≡ frameLength more + (sizes t + size x)
+unfolding payloadLength
+length-more [] x more = ap (λ (n : ℕ). frameLength more + n) (sizes-more [] x)
+length-more (y ∷ t) x more = ap (λ (n : ℕ). frameLength more + n) (sizes-more (y ∷ t) x)
+
+-- the test with the room that those before the block leave
+same-test : (t : List Placed) (x : Placed) (more : Bool) → sizes t ≤ blockRoom → fits (blockRoom - sizes t) x more ≡ leb (payloadLength (t ++ (x ∷ [])) more) maxPayload
+same-test t x more h =
+    by-test (leb (size x) (blockRoom - sizes t))
+    (λ b. b ∙ sym (le-leb (payloadLength (t ++ (x ∷ [])) more) maxPayload (omega (arith, length-more t x more, leb-true (size x) (blockRoom - sizes t) b))))
+    (λ b. b ∙ sym (lt-leb (payloadLength (t ++ (x ∷ [])) more) maxPayload (omega (arith, length-more t x more, leb-false (size x) (blockRoom - sizes t) b))))
+
+taken-from : (t l : List Placed) → sizes t ≤ blockRoom → taken (blockRoom - sizes t) l ≡ takenAfter t l
+unfolding taken takenAfter
+taken-from t [] h = refl
+taken-from t (x ∷ l) h =
+    by-test (fits (blockRoom - sizes t) x (any l))
+    (λ b. let room : blockRoom - sizes t - size x ≡ blockRoom - sizes (t ++ (x ∷ [])) = omega (arith, sizes-more t x) in
+    rw (b, sym (same-test t x (any l) h) ∙ b, room, taken-from (t ++ (x ∷ [])) l (omega (arith, sizes-more t x, leb-true (size x) (blockRoom - sizes t) b))))
+    (λ b. rw (b, sym (same-test t x (any l) h) ∙ b))
+
+pub taken-rule : (l : List Placed) → taken blockRoom l ≡ takenAfter [] l
+unfolding sizes
+taken-rule l = taken-from [] l (omega arith)
 
 -- WHAT IS TAKEN AND WHAT IS LEFT ARE THE LIST
 pub split : (room : ℕ) (l : List Placed) → taken room l ++ left room l ≡ l
@@ -46,59 +88,8 @@ split room (x ∷ l) = go (leb (size x) room) (split (room - size x) l)
     go false h = refl
 
 -- IN THE SAME VIEW, A READ GOES ON WITH WHAT WAS LEFT
--- a list of blocks that begins with x, of paths of which the first is number k: after the place of x comes the rest
-record Begins (s : View) (ps : List Asked) (k : ℕ) (x : Placed) (rest : List Placed) : Type 0 where
-  low : k ≤ x .path
-  on : pathsBlocks s (x .path) (x .index + 1) (drop (x .path - k) ps) ≡ rest
-
-module _ (s : View) (x : Placed) (rest : List Placed) where
-  begins-here : (p : Asked) (ps : List Asked) (k i : ℕ) (o : Opt Block) →
-      (pathsBlocks s k (i + 1) (p ∷ ps) ≡ x ∷ rest → Begins s (p ∷ ps) k x rest) → entry k i o (pathsBlocks s k (i + 1) (p ∷ ps)) ≡ x ∷ rest → Begins s (p ∷ ps) k x rest
-  begins-here p ps k i nothing f e = f e
-  begins-here p ps k i (just b) f e =
-      let q : k ≡ x .path = cc in
-      let r : i ≡ x .index = cc in
-      let t : pathsBlocks s k (i + 1) (p ∷ ps) ≡ rest = cc in
-      let z : x .path - k ≡ 0 = omega arith in
-      record { low = omega arith; on = rw (z, ← q, ← r) t }
-
-  -- path k, or the paths after it
-  begins-from : (p : Asked) (ps : List Asked) (k : ℕ) → (pathsBlocks s (k + 1) 0 ps ≡ x ∷ rest → Begins s ps (k + 1) x rest) →
-      (n i : ℕ) → span (s .schema) p - i ≡ n → pathsBlocks s k i (p ∷ ps) ≡ x ∷ rest → Begins s (p ∷ ps) k x rest
-  begins-from p ps k f zero i z e =
-      let b = f (sym (path-past s k p ps i (omega arith)) ∙ e) in
-      let d : x .path - k ≡ suc (x .path - (k + 1)) = omega (arith, b .low) in
-      record { low = omega (arith, b .low); on = rw d (b .on) }
-  begins-from p ps k f (suc n) i z e =
-      begins-here p ps k i (blockAt s p i) (begins-from p ps k f n (i + 1) (omega arith))
-      (sym (path-step s k p ps i (blockAt s p i) (omega arith) refl) ∙ e)
-
-  begins : (ps : List Asked) (k i : ℕ) → pathsBlocks s k i ps ≡ x ∷ rest → Begins s ps k x rest
-  unfolding pathsBlocks
-  begins [] k i e = let z : _≡_ {A = ℕ} 0 1 = cc in absurd (omega arith)
-  begins (p ∷ ps) k i e = begins-from p ps k (begins ps (k + 1) 0) (span (s .schema) p - i) i refl e
-
-module _ (s : View) (ps : List Asked) where
-  -- the blocks after a block are those from the place after it on
-  pub goes-past : (at : Place) (x : Placed) (rest : List Placed) → blocksFrom s ps at ≡ x ∷ rest → blocksFrom s ps (record { path = x .path; index = x .index + 1 }) ≡ rest
-  unfolding blocksFrom
-  goes-past at x rest e =
-      let b = begins s x rest (drop (at .path) ps) (at .path) (at .index) e in
-      let q : at .path + (x .path - at .path) ≡ x .path = omega (arith, b .low) in
-      ap (pathsBlocks s (x .path) (x .index + 1)) (ap (λ (n : ℕ). drop n ps) (sym q) ∙ sym (drop-drop (x .path - at .path) (at .path) ps)) ∙ b .on
-
-  goes-from : (at : Place) (room : ℕ) (l : List Placed) → blocksFrom s ps at ≡ l → blocksFrom s ps (after at (taken room l)) ≡ left room l
-  unfolding taken left after
-  goes-from at room [] e = e
-  goes-from at room (x ∷ l) e = go (leb (size x) room) (goes-from (record { path = x .path; index = x .index + 1 }) (room - size x) l (goes-past at x l e))
-    where
-      go : (b : Bool) → blocksFrom s ps (after (record { path = x .path; index = x .index + 1 }) (taken (room - size x) l)) ≡ left (room - size x) l →
-          blocksFrom s ps (after at (pick b (x ∷ taken (room - size x) l) [])) ≡ pick b (left (room - size x) l) (x ∷ l)
-      go true h = h
-      go false h = e
-
-  pub goes-on : (at : Place) (room : ℕ) → blocksFrom s ps (after at (taken room (blocksFrom s ps at))) ≡ left room (blocksFrom s ps at)
-  goes-on at room = goes-from at room (blocksFrom s ps at) refl
+pub goes-on : (s : View) (ps : List Asked) (at : Place) (room : ℕ) → blocksFrom s ps (after at (taken room (blocksFrom s ps at))) ≡ left room (blocksFrom s ps at)
+goes-on s ps at room = blocks-after s ps at (taken room (blocksFrom s ps at)) (left room (blocksFrom s ps at)) (sym (split room (blocksFrom s ps at)))
 
 -- THE PARTS TOGETHER CARRY THE LIST, if no block is longer than a part's room
 -- what is left is no more than there was, and less if the first block fits

@@ -17,7 +17,7 @@ use Rattle.selection.specs.declared.items.Item.{Item}
 use Rattle.selection.specs.Items.{span, itemAt}
 use Rattle.report.specs.declared.Place.{Place}
 use Rattle.report.specs.declared.Filled.{Filled}
-use Rattle.report.specs.Blocks.{View, Placed, isNothing, blockOf}
+use Rattle.report.specs.Blocks.{View, Placed, isNothing, blockOf, startOf, placedAt}
 use Rattle.report.specs.Offer.{Offered, OfferedIf}
 use Rattle.report.specs.Chunk.{size, taken, left, after}
 use Rattle.report.specs.Part.{Filling}
@@ -43,12 +43,12 @@ module _ (x : Placed) (m : List Placed) where
 
   -- it does, and was stored
   pub fill-takes : {o o₁ new : List ℕ} {at at₁ room : ℕ} {from : Place} {r : Filled} (l : List Placed) → l ≡ x ∷ m → size x ≤ room → Stored o at (spelling (blockTree (x .block))) o₁ at₁ →
-      Filling o₁ at₁ (room - (at₁ - at)) (record { path = x .path; index = x .index + 1 }) m new r → Filling o at room from l new r
+      Filling o₁ at₁ (room - (at₁ - at)) (x .next) m new r → Filling o at room from l new r
   unfolding taken left after joined
   fill-takes {o} {o₁} {new} {at} {at₁} {room} {from} {r} l e h w f =
       let t : leb (size x) room ≡ true = le-leb (size x) room h in
       let q : room - (at₁ - at) ≡ room - size x = omega (arith, w .place) in
-      let g : Filling o₁ at₁ (room - size x) (record { path = x .path; index = x .index + 1 }) m new r = subst (λ (n : ℕ). Filling o₁ at₁ n (record { path = x .path; index = x .index + 1 }) m new r) q f in
+      let g : Filling o₁ at₁ (room - size x) (x .next) m new r = subst (λ (n : ℕ). Filling o₁ at₁ n (x .next) m new r) q f in
       rw e (record { stored = rw t (then w (g .stored)); place = rw t (g .place); more = rw t (g .more) })
 
 pub filling-of : {o new : List ℕ} {at room : ℕ} {from : Place} {l m : List Placed} {r : Filled} → l ≡ m → Filling o at room from m new r → Filling o at room from l new r
@@ -61,7 +61,7 @@ pub record Turn (old : List ℕ) (start room : ℕ) (l : List Placed) (next : Pl
   pub stops : (at : Place) → r ≡ start → Filling old start room at l new (record { end = start; place = at; more = true })
   pub takes : (at : Place) (last : List ℕ) (f : Filled) → (r ≡ start → ⊥) → Filling new r (room - (r - start)) next rest last f → Filling old start room at l last f
 
-turn-of : {old new : List ℕ} {start room r : ℕ} (l : List Placed) (x : Placed) (m : List Placed) → l ≡ x ∷ m → Offered old start room (x .block) new r → Turn old start room l (record { path = x .path; index = x .index + 1 }) m new r
+turn-of : {old new : List ℕ} {start room r : ℕ} (l : List Placed) (x : Placed) (m : List Placed) → l ≡ x ∷ m → Offered old start room (x .block) new r → Turn old start room l (x .next) m new r
 turn-of {old} {new} {start} {room} {r} l x m e y =
     record {
       low = offered-within y .0;
@@ -74,7 +74,7 @@ turn-of {old} {new} {start} {room} {r} l x m e y =
 pub turn : (s : View) (ps : List Asked) (k i : ℕ) (p : Asked) → drop k ps ≡ p ∷ drop (k + 1) ps → i < span (s .schema) p →
     (x : Item) → x ≡ itemAt (s .schema) (s .grants) (s .skips) p i → isNothing x ≡ false →
     (old : List ℕ) (start room : ℕ) (new : List ℕ) (r : ℕ) → OfferedIf old start room (blockOf (s .schema) (s .values) (s .defaults) (s .edits) p x) new r →
-    Turn old start room (ahead s ps k i) (record { path = k; index = i + 1 }) (ahead s ps k (i + 1)) new r
+    Turn old start room (ahead s ps k i) (startOf k (i + 1)) (ahead s ps k (i + 1)) new r
 turn s ps k i p here h x e t old start room new r y =
     let b = some-block s p x t in
-    turn-of (ahead s ps k i) (record { path = k; index = i; block = b .block }) (ahead s ps k (i + 1)) (ahead-block s ps k i p here h x e (b .block) (b .there)) (offered-just old start room _ (b .block) new r (b .there) y)
+    turn-of (ahead s ps k i) (placedAt k i (b .block)) (ahead s ps k (i + 1)) (ahead-block s ps k i p here h x e (b .block) (b .there)) (offered-just old start room _ (b .block) new r (b .there) y)

@@ -3,6 +3,8 @@ pub mod ValueLaws
 pub mod BlockLaws
 pub mod FillLaws
 pub mod PartLaws
+pub mod NextLaws
+pub mod PlaceLaws
 pub mod ChunkLaws
 pub mod ReadLaws
 pub mod JudgedLaws

@@ -1,8 +1,8 @@
 -- A whole read of a sign that keeps the rules: every block has room in a part, so the parts carry all of them.
 use mathlib.Core.Path.{_≡_, refl, sym, ap, subst, _∙_}
 use mathlib.Core.Bool.{Bool, true, false}
-use mathlib.Core.List.{List, [], _∷_, _++_}
-use Prim.Native.Nat.{ℕ, zero, suc, _+_, _-_, _≤_, _<_}
+use mathlib.Core.List.{List, [], _∷_, _++_, map, append-assoc}
+use Prim.Native.Nat.{ℕ, zero, suc, _+_, _-_, _^_, _≤_, _<_}
 use native.Mathlib.Omega.{arith}
 use borrow.Author.Tests.{leb-true, eqb-true}
 use lib.Dec.{eqb}
@@ -37,10 +37,10 @@ use Rattle.selection.specs.Items.{span, itemAt}
 use Rattle.selection.proofs.AskedLaws.{cluster-of, path-of}
 use Rattle.selection.proofs.ItemLaws.{item-code}
 use Rattle.report.specs.declared.Place.{Place}
-use Rattle.report.specs.Blocks.{View, Sound, Named, Placed, valueBlock, blockOf, blockAt, entry, collect, pathBlocks, pathsBlocks, blocksFrom}
+use Rattle.report.specs.Blocks.{View, Sound, Named, Placed, valueBlock, blockOf, listed, blockAt, placedAt, collect, pathBlocks, pathsBlocks, blocksFrom}
 use Rattle.report.specs.Chunk.{blockRoom, size, Short}
 use Rattle.report.specs.Part.{partsFrom, together}
-use Rattle.report.proofs.BlockLaws.{value-index, entry-append}
+use Rattle.report.proofs.BlockLaws.{value-index}
 use Rattle.report.proofs.ChunkLaws.{block-small, all-parts, few-parts, same-parts}
 
 -- a value that its limits allow, and that is shown whole if it is a text, is short
@@ -97,18 +97,18 @@ module _ (s : View) (sound : Sound s) where
       subst Short y (f, item-code (s .schema) (s .grants) (s .skips) code p i (sym e))
   short-item p i l f item.Nothing e b q = never (cc)
 
-  short-entry : (k i : ℕ) (o : Opt Block) (l : List Placed) → ((b : Block) → o ≡ just b → Short b) → Each (λ (x : Placed). Short (x .block)) l → Each (λ (x : Placed). Short (x .block)) (entry k i o l)
+  short-place : (k i : ℕ) (o : Opt Block) (l : List Placed) → ((b : Block) → o ≡ just b → Short b) → Each (λ (x : Placed). Short (x .block)) l → Each (λ (x : Placed). Short (x .block)) (map (placedAt k i) (listed o) ++ l)
   unfolding Each
-  short-entry k i nothing l f h = h
-  short-entry k i (just b) l f h = (f b refl, h)
+  short-place k i nothing l f h = h
+  short-place k i (just b) l f h = (f b refl, h)
 
   -- those of a path from place i on, with short ones after them
   short-path : (k : ℕ) (p : Asked) → Named p → (rest : List Placed) → Each (λ (x : Placed). Short (x .block)) rest → (n i : ℕ) → n ≤ span (s .schema) p - i → Each (λ (x : Placed). Short (x .block)) (collect k (blockAt s p) n i ++ rest)
   unfolding collect
   short-path k p f rest h zero i l = h
   short-path k p f rest h (suc n) i l =
-      subst (Each (λ (x : Placed). Short (x .block))) (sym (entry-append k i (blockAt s p i) (collect k (blockAt s p) n (i + 1)) rest))
-      (short-entry k i (blockAt s p i) _ (short-item p i (omega arith) f _ refl) (short-path k p f rest h n (i + 1) (omega arith)))
+      subst (Each (λ (x : Placed). Short (x .block))) (sym (append-assoc (map (placedAt k i) (blockAt s p i)) (collect k (blockAt s p) n (i + 1)) rest))
+      (short-place k i (blockOf (s .schema) (s .values) (s .defaults) (s .edits) p (itemAt (s .schema) (s .grants) (s .skips) p i)) _ (short-item p i (omega arith) f _ refl) (short-path k p f rest h n (i + 1) (omega arith)))
 
   short-paths : (ps : List Asked) → Each Named ps → (k i : ℕ) → Each (λ (x : Placed). Short (x .block)) (pathsBlocks s k i ps)
   unfolding pathsBlocks pathBlocks Each

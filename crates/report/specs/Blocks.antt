@@ -2,7 +2,7 @@
 -- repeated path is reported again."
 use mathlib.Core.Path.{_≡_}
 use mathlib.Core.Bool.{Bool, true, false}
-use mathlib.Core.List.{List, [], _∷_, _++_}
+use mathlib.Core.List.{List, [], _∷_, _++_, map}
 use Prim.Native.Nat.{ℕ, zero, suc, _+_, _-_, _^_, _<_}
 use lib.ListN.{getD, drop}
 use Rattle.tlv.specs.Decode.{Opt}
@@ -62,24 +62,36 @@ isNothing (item.Value i) = false
 isNothing (item.Status code) = false
 isNothing item.Nothing = true
 
--- the block at place i of a path
-abbrev pub blockAt : View → Asked → ℕ → Opt Block
-blockAt s p i = blockOf (s .schema) (s .values) (s .defaults) (s .edits) p (itemAt (s .schema) (s .grants) (s .skips) p i)
+-- the phase in which attributes are reported; there is no other
+abbrev pub attributePhase : ℕ
+attributePhase = 0
 
--- a block with its place: which path of the request, and which place of that path
+-- the start of place i of path k: nothing of it was sent
+abbrev pub startOf : ℕ → ℕ → Place
+startOf k i = record { phase = attributePhase; path = k; index = i; sent = 0 }
+
+-- none or one, as a list
+abbrev pub listed : Opt Block → List Block
+listed nothing = []
+listed (just b) = b ∷ []
+
+-- the blocks at place i of a path
+abbrev pub blockAt : View → Asked → ℕ → List Block
+blockAt s p i = listed (blockOf (s .schema) (s .values) (s .defaults) (s .edits) p (itemAt (s .schema) (s .grants) (s .skips) p i))
+
+-- a block with the place just after it, from which a read goes on after a part that ends with the block
 pub record Placed : Type 0 where
-  pub path : ℕ
-  pub index : ℕ
+  pub next : Place
   pub block : Block
 
-abbrev pub entry : ℕ → ℕ → Opt Block → List Placed → List Placed
-entry k i nothing l = l
-entry k i (just b) l = record { path = k; index = i; block = b } ∷ l
+-- a block of place i of path k; a place is sent whole, so after it comes the path's next
+abbrev pub placedAt : ℕ → ℕ → Block → Placed
+placedAt k i b = record { next = startOf k (i + 1); block = b }
 
 -- the blocks at the n places of path k from place i on
-unfoldable pub collect : ℕ → (ℕ → Opt Block) → ℕ → ℕ → List Placed
+unfoldable pub collect : ℕ → (ℕ → List Block) → ℕ → ℕ → List Placed
 collect k f zero i = []
-collect k f (suc n) i = entry k i (f i) (collect k f n (i + 1))
+collect k f (suc n) i = map (placedAt k i) (f i) ++ collect k f n (i + 1)
 
 -- the blocks of one path, from one of its places on
 unfoldable pub pathBlocks : View → ℕ → Asked → ℕ → List Placed
@@ -90,6 +102,6 @@ unfoldable pub pathsBlocks : View → ℕ → ℕ → List Asked → List Placed
 pathsBlocks s k i [] = []
 pathsBlocks s k i (p ∷ ps) = pathBlocks s k p i ++ pathsBlocks s (k + 1) 0 ps
 
--- THE BLOCKS of a request, from a place on
+-- THE BLOCKS of a request, from a place on; a place is sent whole or not at all, so how much of it was sent is not looked at
 unfoldable pub blocksFrom : View → List Asked → Place → List Placed
 blocksFrom s ps at = pathsBlocks s (at .path) (at .index) (drop (at .path) ps)

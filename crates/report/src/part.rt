@@ -10,6 +10,7 @@ ghost use Rattle.selection.specs.Request.{filtersIn, askedPaths};
 ghost use Rattle.report.specs.Blocks.{isNothing, viewOf, blocksFrom, View};
 ghost use Rattle.report.specs.Chunk.{blockRoom, maxPayload};
 ghost use Rattle.report.specs.Part.{Filling, Made};
+use super::ATTRIBUTE_PHASE;
 use super::BLOCK_ROOM;
 use super::Filled;
 use super::Place;
@@ -105,7 +106,12 @@ fn fill<'a>(
                 room -= next - end;
                 end = next;
                 i += 1;
-                place = Place { path, index: i };
+                place = Place {
+                    phase: ATTRIBUTE_PHASE,
+                    path,
+                    index: i,
+                    sent: 0,
+                };
             }
         }
     }

@@ -1,5 +1,5 @@
 -- A FRESH SIGN is valid: it keeps every rule of refusal 2, whatever its page of edits has.
-use mathlib.Core.Path.{_≡_, ap}
+use mathlib.Core.Path.{_≡_, refl, ap}
 use mathlib.Core.Bool.{Bool, true, _&&_}
 use mathlib.Core.List.{List}
 use Prim.Native.Nat.{ℕ, _*_}
@@ -27,7 +27,7 @@ pub fresh-row-right : rowRight freshRow ≡ true
 unfolding freshRow standingIn
 fresh-row-right =
     right-row freshRow
-    (record { exchange = omega arith; turn = omega arith; next = omega arith; closed = omega arith; asked = omega arith; path = omega arith; index = omega arith; len = omega arith })
+    (record { exchange = omega arith; turn = omega arith; next = omega arith; closed = omega arith; asked = omega arith; phase = refl; path = omega arith; index = omega arith; sent = refl; len = omega arith })
 
 module _ (w defaults : List ℕ) (h : accepted w defaults ≡ true) where
   fresh-state : started w defaults .state ≡ record { values = freshValues w; row = freshRow }

@@ -52,7 +52,7 @@ write-keeps w defaults rules h r g x exchange payload =
 closing-right : (x : Row) → rowRight x ≡ true → rowRight (closing x) ≡ true
 closing-right x h =
     let r = row-right x h in
-    right-row (closing x) (record { exchange = r .exchange; turn = r .turn; next = r .next; closed = omega arith; asked = r .asked; path = r .path; index = r .index; len = r .len })
+    right-row (closing x) (record { exchange = r .exchange; turn = r .turn; next = r .next; closed = omega arith; asked = r .asked; phase = r .phase; path = r .path; index = r .index; sent = r .sent; len = r .len })
 
 module _ (w defaults edits : List ℕ) (s : State) (valid : ValidSign w defaults edits s) where
   parts : RightSign w defaults edits s

@@ -24,7 +24,7 @@ use Rattle.selection.specs.Asked.{askedFor}
 use Rattle.selection.specs.Filters.{filterWords}
 use Rattle.selection.proofs.AskedLaws.{cluster-of}
 use Rattle.report.specs.declared.Place as report
-use Rattle.report.specs.Blocks.{View, viewOf, Placed, blocksFrom}
+use Rattle.report.specs.Blocks.{View, viewOf, startOf, Placed, blocksFrom}
 use Rattle.report.specs.Chunk.{blockRoom, size, taken, left, after, any, trees}
 use Rattle.report.specs.Part as sent
 use Rattle.report.proofs.ChunkLaws.{part-length, goes-on}
@@ -61,7 +61,7 @@ module _ (w defaults edits : List ℕ) (v : Values) (g : Grants) (fs : List Want
 
   -- the place after the part
   abbrev pub place : ℕ → report.Place
-  place index = after (record { path = 0; index = index }) (taken blockRoom (blocks index))
+  place index = after (startOf 0 index) (taken blockRoom (blocks index))
 
   -- the message of a sign from there on is the part p of the protocol
   pub record Makes (x turn index : ℕ) (p : Part Datum) : Type 0 where
@@ -82,7 +82,7 @@ module _ (w defaults edits : List ℕ) (v : Values) (g : Grants) (fs : List Want
   unfolding Each askedFor
   all-small index =
       blocks-small view (record { schema-right = formed; values-right = sound; version-fits = fit }) paths
-      (record { endpoint-fits = omega arith; cluster-fits = omega arith; attribute-fits = omega arith }, tt) (record { path = 0; index = index })
+      (record { endpoint-fits = omega arith; cluster-fits = omega arith; attribute-fits = omega arith }, tt) (startOf 0 index)
 
   nothing-there : (l : List Placed) → Each (λ (b : Placed). size b ≤ blockRoom) l → taken blockRoom l ≡ [] → l ≡ []
   unfolding taken Each
@@ -117,7 +117,7 @@ module _ (w defaults edits : List ℕ) (v : Values) (g : Grants) (fs : List Want
             },
           )
       go (some n r) =
-          let from : report.Place = record { path = 0; index = index } in
+          let from : report.Place = startOf 0 index in
           let at = r .last from in
           let rest : blocks (r .end) ≡ left blockRoom (blocks index) = ap (blocksFrom view paths) (sym at) ∙ goes-on view paths from blockRoom in (
             n,

@@ -1,15 +1,13 @@
 -- A read of everything, row by row: the blocks ahead are the values of those attributes that the panel may read and that its filters do not skip.
 use mathlib.Core.Path.{_≡_, refl, ap, _∙_}
 use mathlib.Core.Bool.{Bool, true, false, not, _&&_}
-use mathlib.Core.List.{List, [], _∷_}
+use mathlib.Core.List.{List, [], _∷_, _++_, map}
 use Prim.Native.Nat.{ℕ, suc, _+_, _-_, _^_, _≤_, _<_}
 use native.Mathlib.Omega.{arith}
 use lib.Dec.{eqb}
 use lib.ListN.{getD}
 use Rattle.tlv.specs.Octet.{pick}
 use Rattle.tlv.specs.Value.{Datum}
-use Rattle.tlv.specs.Decode.{Opt}
-use Rattle.tlv.specs.Decode.Opt.{just, nothing}
 use Rattle.interaction.specs.declared.Wanted.{Wanted}
 use Rattle.interaction_writer.specs.Block.{Block}
 use Rattle.schema.specs.Layout.{clusterLimit}
@@ -30,7 +28,7 @@ use Rattle.selection.specs.Items.{silent, wildcardItem, span, itemAt}
 use Rattle.selection.proofs.AskedLaws.{cluster-of}
 use Rattle.selection.proofs.FilterLaws.{judged-skips}
 use Rattle.selection.proofs.ItemLaws.{read-tests}
-use Rattle.report.specs.Blocks.{View, viewOf, valueBlock, blockOf, blockAt, Placed, entry, blocksFrom, pathsBlocks}
+use Rattle.report.specs.Blocks.{View, viewOf, valueBlock, blockOf, startOf, listed, blockAt, Placed, placedAt, blocksFrom, pathsBlocks}
 use Rattle.report.proofs.BlockLaws.{path-past, path-step}
 use Rattle.round_trip.specs.Meant.{everything}
 use Rattle.protocol.specs.Model.{Place, Cluster, skips}
@@ -43,7 +41,7 @@ paths = askedFor everything ∷ []
 
 -- its blocks from row i on
 abbrev pub blocksAt : View → ℕ → List Placed
-blocksAt s i = blocksFrom s paths (record { path = 0; index = i })
+blocksAt s i = blocksFrom s paths (startOf 0 i)
 
 -- and the places of the protocol
 abbrev pub placesAt : List ℕ → Grants → ℕ → List Place
@@ -51,7 +49,7 @@ placesAt w g i = readableFrom w g (attributeCount w - i) i
 
 -- the value of attribute i, as a block of that path
 abbrev pub placed : List ℕ → List ℕ → List ℕ → Values → ℕ → Placed
-placed w defaults edits v i = record { path = 0; index = i; block = valueBlock w v defaults edits i }
+placed w defaults edits v i = placedAt 0 i (valueBlock w v defaults edits i)
 
 -- past the last row there is nothing
 pub blocks-past : (s : View) (i : ℕ) → attributeCount (s .schema) ≤ i → blocksAt s i ≡ []
@@ -88,24 +86,24 @@ module _ (w defaults edits : List ℕ) (v : Values) (g : Grants) (fs : List Want
         ∙ skips-same w (well-formed-rules w .0 formed) k there clusters (getD (v .versions) k 0) (held .versions k there) fs i
 
     -- what may be read and is not skipped has a block
-    abbrev blockIf : Bool → Bool → Opt Block
-    blockIf may skips-it = pick may (pick skips-it nothing (just (valueBlock w v defaults edits i))) nothing
+    abbrev blockIf : Bool → Bool → List Block
+    blockIf may skips-it = pick may (pick skips-it [] (valueBlock w v defaults edits i ∷ [])) []
 
     block-row : blockAt view (askedFor everything) i ≡ blockIf (mayRead w g i) (skip (placeAt w i))
     unfolding blockOf itemAt wildcardItem mayRead concrete asksFor askedFor
     block-row = rw (← skips-row, read-tests w g (view .skips) i) (go (eqb (attributeRow w i .read) 0) (isGranted g k (attributeRow w i .read)) (getD (view .skips) k false))
       where
         go : (a b c : Bool) →
-            blockOf w v defaults edits (askedFor everything) (silent (pick a (item.Status unsupportedRead) (pick b (pick c item.Nothing (item.Value i)) (item.Status unsupportedAccess))))
+            listed (blockOf w v defaults edits (askedFor everything) (silent (pick a (item.Status unsupportedRead) (pick b (pick c item.Nothing (item.Value i)) (item.Status unsupportedAccess)))))
             ≡ blockIf (not a && b) c
         go true b c = refl
         go false true true = refl
         go false true false = refl
         go false false c = refl
 
-    blocks-row : (o : Opt Block) → blockIf (mayRead w g i) (skip (placeAt w i)) ≡ o → blocksAt view i ≡ entry 0 i o (blocksAt view (i + 1))
+    blocks-row : (l : List Block) → blockIf (mayRead w g i) (skip (placeAt w i)) ≡ l → blocksAt view i ≡ map (placedAt 0 i) l ++ blocksAt view (i + 1)
     unfolding blocksFrom span concrete askedFor
-    blocks-row o e = path-step view 0 (askedFor everything) [] i o row (block-row ∙ e)
+    blocks-row l e = path-step view 0 (askedFor everything) [] i l row (block-row ∙ e)
 
     places-row : placesAt w g i ≡ pick (mayRead w g i) (placeAt w i ∷ placesAt w g (i + 1)) (placesAt w g (i + 1))
     unfolding readableFrom
@@ -115,6 +113,6 @@ module _ (w defaults edits : List ℕ) (v : Values) (g : Grants) (fs : List Want
     at-row =
         by-test (mayRead w g i)
         (λ m. by-test (skip (placeAt w i))
-        (λ s. skipped s (blocks-row nothing (rw (m, s))) (places-row ∙ rw m))
-        (λ s. shown s (blocks-row (just _) (rw (m, s))) (places-row ∙ rw m)))
-        (λ m. unread (blocks-row nothing (rw m)) (places-row ∙ rw m))
+        (λ s. skipped s (blocks-row [] (rw (m, s))) (places-row ∙ rw m))
+        (λ s. shown s (blocks-row (_ ∷ []) (rw (m, s))) (places-row ∙ rw m)))
+        (λ m. unread (blocks-row [] (rw m)) (places-row ∙ rw m))

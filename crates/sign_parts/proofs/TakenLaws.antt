@@ -18,7 +18,7 @@ use Rattle.values.specs.declared.Values.{Values}
 use Rattle.selection.specs.Filters.{filterWords}
 use Rattle.selection.proofs.AskedLaws.{cluster-of}
 use Rattle.report.specs.declared.Place as report
-use Rattle.report.specs.Blocks.{Placed, viewOf, valueBlock}
+use Rattle.report.specs.Blocks.{Placed, viewOf, startOf, valueBlock}
 use Rattle.report.specs.Chunk.{size, taken, after, trees}
 use Rattle.report.specs.Chunk as chunk
 use Rattle.protocol.specs.Model.{Place, Cluster, any, reported, remaining, entryAt, skips}
@@ -65,7 +65,7 @@ module _ (w defaults edits : List ℕ) (v : Values) (g : Grants) (fs : List Want
   -- blocks t that are taken, one at least, of those of the places l
   pub record Taking (l : List Place) (n : ℕ) (t : List Placed) : Type 0 where
     pub end : ℕ
-    pub last : (at : report.Place) → after at t ≡ record { path = 0; index = end }
+    pub last : (at : report.Place) → after at t ≡ startOf 0 end
     pub same : trees t ≡ treesAs w clusters (reported skip n l)
     pub leaves : remaining skip n l ≡ ahead end
 

@@ -15,7 +15,7 @@ use Rattle.exchange.specs.Rules.{nothing}
 use Rattle.round_trip.specs.Meant.{everything}
 use Rattle.report.specs.declared.Place as report
 use Rattle.report.specs.declared.part.Request.{Request}
-use Rattle.report.specs.Blocks.{Placed, viewOf, blocksFrom}
+use Rattle.report.specs.Blocks.{Placed, viewOf, startOf, blocksFrom}
 use Rattle.replies.specs.declared.Row as replies
 use Rattle.replies.specs.Messages.{maxMessage, reportMessage}
 use Rattle.replies.specs.Row.{keeping, keptReply, pathsOf, blocksOf, nextOf, reported}
@@ -43,7 +43,7 @@ module _ {w defaults : List ℕ} {g : Grants} {sent : List (List ℕ)} (here : S
   -- a request for everything with these filters, and the place that it has come to
   module _ (x turn : ℕ) (q : Request) (index : ℕ) (all : pathsOf q ≡ askedFor everything ∷ []) (fs : List Wanted) (judged : q .filters ≡ filterWords w fs) where
     abbrev at : report.Place
-    at = record { path = 0; index = index }
+    at = startOf 0 index
 
     abbrev blocks : List Placed
     blocks = blocksOf w (s .values) defaults edits g q at

@@ -17,6 +17,7 @@ use Rattle.selection.specs.Request.{pathsWords, askedAt}
 use Rattle.round_trip.specs.Meant.{everything, readAnswer}
 use Rattle.report.specs.declared.Place as report
 use Rattle.report.specs.declared.part.Request.{Request}
+use Rattle.report.specs.Blocks.{startOf}
 use Rattle.exchange.specs.Rules.{maxTurn}
 use Rattle.writes.proofs.StatusLaws.{take-first}
 use Rattle.replies.specs.Row.{pathsOf, blocksOf, reported, nextPart}
@@ -78,10 +79,10 @@ module _ {w defaults : List ℕ} {g : Grants} {sent : List (List ℕ)} (here : S
     next size = partOf (sys .clusters) x (suc (sys .row .turn)) (sys .row .ahead) (sys .row .filters) (sys .row .since) size
 
     abbrev from : report.Place
-    from = record { path = 0; index = s .row .place .index }
+    from = startOf 0 (s .row .place .index)
 
     same-place : s .row .place ≡ from
-    same-place = λ j. record { path = going .path j; index = s .row .place .index }
+    same-place = let r = row-right (s .row) (right-of here .row) in λ j. record { phase = r .phase j; path = going .path j; index = s .row .place .index; sent = r .sent j }
 
     after-as : nextPart w (s .values) defaults edits g (s .row) ≡ reported (s .row) (s .row .progress .last) (s .row .progress .turn + 1) (s .row .request) from (blocksOf w (s .values) defaults edits g (s .row .request) from)
     unfolding nextPart

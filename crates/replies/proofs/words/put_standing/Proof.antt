@@ -74,6 +74,24 @@ mul-row-7 c = search needs
 element-write-row-8 : tie.Need-element-write-row-8
 element-write-row-8 c = search needs
 
+add-row-8 : tie.Need-add-row-8
+add-row-8 c = search needs
+
+mul-row-8 : tie.Need-mul-row-8
+mul-row-8 c = search needs
+
+element-write-row-9 : tie.Need-element-write-row-9
+element-write-row-9 c = search needs
+
+add-row-9 : tie.Need-add-row-9
+add-row-9 c = search needs
+
+mul-row-9 : tie.Need-mul-row-9
+mul-row-9 c = search needs
+
+element-write-row-10 : tie.Need-element-write-row-10
+element-write-row-10 c = search needs
+
 returns : tie.Need-returns
 unfolding store standingWords
 returns c = refl
@@ -104,4 +122,10 @@ put-standing-spec =
     add-row-7
     mul-row-7
     element-write-row-8
+    add-row-8
+    mul-row-8
+    element-write-row-9
+    add-row-9
+    mul-row-9
+    element-write-row-10
     returns)

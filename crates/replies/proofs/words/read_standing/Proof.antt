@@ -63,14 +63,32 @@ mul-t34 c = search needs
 element-copy-out-t37 : tie.Need-element-copy-out-t37
 element-copy-out-t37 c = search needs
 
-add-t40 : tie.Need-add-t40
-add-t40 c = search needs
+add-t39 : tie.Need-add-t39
+add-t39 c = search needs
 
-mul-t41 : tie.Need-mul-t41
-mul-t41 c = search needs
+mul-t40 : tie.Need-mul-t40
+mul-t40 c = search needs
 
-element-copy-out-t44 : tie.Need-element-copy-out-t44
-element-copy-out-t44 c = search needs
+element-copy-out-t43 : tie.Need-element-copy-out-t43
+element-copy-out-t43 c = search needs
+
+add-t45 : tie.Need-add-t45
+add-t45 c = search needs
+
+mul-t46 : tie.Need-mul-t46
+mul-t46 c = search needs
+
+element-copy-out-t49 : tie.Need-element-copy-out-t49
+element-copy-out-t49 c = search needs
+
+add-t52 : tie.Need-add-t52
+add-t52 c = search needs
+
+mul-t53 : tie.Need-mul-t53
+mul-t53 c = search needs
+
+element-copy-out-t56 : tie.Need-element-copy-out-t56
+element-copy-out-t56 c = search needs
 
 returns : tie.Need-returns
 unfolding standingIn
@@ -99,7 +117,13 @@ read-standing-spec =
     add-t33
     mul-t34
     element-copy-out-t37
-    add-t40
-    mul-t41
-    element-copy-out-t44
+    add-t39
+    mul-t40
+    element-copy-out-t43
+    add-t45
+    mul-t46
+    element-copy-out-t49
+    add-t52
+    mul-t53
+    element-copy-out-t56
     returns)

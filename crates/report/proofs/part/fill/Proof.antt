@@ -13,7 +13,7 @@ use Rattle.report.specs.declared.Filled.{Filled}
 use Rattle.values.specs.Values.{valuesOf}
 use Rattle.selection.specs.Request.{askedPaths}
 use Rattle.selection.proofs.RequestLaws.{paths-count, paths-here}
-use Rattle.report.specs.Blocks.{View, blocksFrom}
+use Rattle.report.specs.Blocks.{View, startOf, blocksFrom}
 use Rattle.report.specs.Chunk.{blockRoom}
 use Rattle.report.specs.Part.{Filling}
 use Rattle.report.proofs.BlockLaws.{value-index, span-most, ahead, ahead-done, ahead-past, ahead-none}
@@ -59,7 +59,7 @@ turned : (c : tie.After-slice-known2 Inv-loop μ-loop) →
     let s = c .before .before .before .before .before .before .before .before .before .before .before .before .before .before .before in
     let l = c .before .before .before .before .before .before .before .before .before .before .before .loop in
     Turn (l .out) (l .end) (l .room) (ahead (view s) (paths s) (l .path) (l .i))
-    (record { path = l .path; index = l .i + 1 }) (ahead (view s) (paths s) (l .path) (l .i + 1))
+    (startOf (l .path) (l .i + 1)) (ahead (view s) (paths s) (l .path) (l .i + 1))
     (c .before .before .offer-item .last .1 .1 .1 .1 .1 .1 .1 .1 .1 .0) (c .before .before .offer-item .result)
 turned c =
     let s = c .before .before .before .before .before .before .before .before .before .before .before .before .before .before .before in
