@@ -15,13 +15,14 @@ use Rattle.cached.proofs.ValidLaws.{held-right, cluster-below}
 use Rattle.cache_part.specs.Entry.{Within}
 use Rattle.cache_request.specs.Filters.{Bounded}
 use Rattle.envelope.specs.Envelope.{maxMessage}
+use Rattle.interaction_writer.specs.Envelope.{exchangeLimit}
 use Rattle.cache.specs.declared.Request.{Request}
 use Rattle.cache.specs.declared.State.{State}
 use Rattle.cache.specs.State.{isOpen, withStatus, askedRight, panelRight}
 
 -- of the request
 pub record RightAsked (x : Request) : Type 0 where
-  pub used : x .used < 2 ^ 40
+  pub used : x .used < exchangeLimit
   pub exchange : x .exchange ≤ x .used
   pub unknown : x .unknown ≤ x .used
   pub stage : x .stage ≤ withStatus
@@ -31,7 +32,7 @@ pub record RightAsked (x : Request) : Type 0 where
 pub asked-right : (x : Request) → askedRight x ≡ true → RightAsked x
 unfolding askedRight
 asked-right x h =
-    let a = right (ltb (x .used) (2 ^ 40)) _ h in
+    let a = right (ltb (x .used) exchangeLimit) _ h in
     let b = right (leb (x .exchange) (x .used)) _ a in
     let c = right (leb (x .unknown) (x .used)) _ b in
     let d = right (leb (x .stage) withStatus) _ c in

@@ -1,7 +1,7 @@
 -- A fresh panel, beginning and resending (document 01, The panel, and When either end says no: "For beginning: 2, 3, 8, 10; resending: 2, 3, 9").
 use mathlib.Core.Bool.{Bool, false, _&&_, not}
 use mathlib.Core.List.{List}
-use Prim.Native.Nat.{ℕ, _+_, _-_, _^_}
+use Prim.Native.Nat.{ℕ, _+_, _-_}
 use lib.Dec.{eqb, ltb}
 use lib.ListN.{length, take, replicate}
 use Rattle.octets.specs.Store.{store}
@@ -12,7 +12,9 @@ use Rattle.cached.specs.Limits.{maxEntries, maxClusters}
 use Rattle.cache_part.specs.Block.{usableIn, longV}
 use Rattle.cache_request.specs.Filters.{filtersOf}
 use Rattle.cache_request.specs.Messages.{readMessage, writeMessage}
+use Rattle.interaction_writer.specs.Envelope.{panelEdition, exchangeLimit}
 use Rattle.envelope.specs.Envelope.{maxMessage}
+use Rattle.exchange.specs.Rules.{firstReply}
 use Rattle.cache.specs.declared.Request.{Request}
 use Rattle.cache.specs.declared.State.{State}
 use Rattle.cache.specs.State.{noneYet, reading, writing, isOpen, panelRight}
@@ -77,7 +79,7 @@ nextRequest x stage endpoint cluster attribute =
       used = x .used + 1;
       exchange = x .used + 1;
       stage = stage;
-      turn = 1;
+      turn = firstReply;
       status = 0;
       endpoint = endpoint;
       cluster = cluster;
@@ -103,13 +105,13 @@ sent page s stage endpoint cluster attribute message =
 abbrev pub beginning : List ℕ → State → ℕ → Reaction → Reaction
 beginning page s room next =
     pick (panelRight page s)
-    (pick (ltb room maxMessage) (refusal 3 s page) (pick (ltb (s .asked .used) (2 ^ 40 - 1)) next (refusal 8 s page)))
+    (pick (ltb room maxMessage) (refusal 3 s page) (pick (ltb (s .asked .used) (exchangeLimit - 1)) next (refusal 8 s page)))
     (refusal 2 s page)
 
 -- BEGINNING A READ
 unfoldable pub beginsRead : List ℕ → State → ℕ → Reaction
 beginsRead page s room =
-    beginning page s room (sent page s reading 0 0 0 (readMessage (s .asked .used + 1) (filtersOf (s .held))))
+    beginning page s room (sent page s reading 0 0 0 (readMessage panelEdition (s .asked .used + 1) (filtersOf (s .held))))
 
 -- 10: "value can't be written (text over 200 or not UTF-8)"
 unfoldable pub sendable : List ℕ → Value → Bool
@@ -119,7 +121,7 @@ sendable src v = usableIn src v && not (longV v)
 unfoldable pub beginsWrite : List ℕ → State → ℕ → ℕ → ℕ → Bool → ℕ → List ℕ → Value → ℕ → Reaction
 beginsWrite page s e c a given version src v room =
     beginning page s room
-    (pick (sendable src v) (sent page s writing e c a (writeMessage (s .asked .used + 1) given version e c a (datumIn src v))) (refusal 10 s page))
+    (pick (sendable src v) (sent page s writing e c a (writeMessage panelEdition (s .asked .used + 1) given version e c a (datumIn src v))) (refusal 10 s page))
 
 -- RESENDING
 unfoldable pub resends : List ℕ → State → ℕ → Reaction

@@ -1,10 +1,11 @@
 -- A panel's whole state, and the rules that it keeps (document 01, refusal 2: "state, page or access table breaks these rules").
 use mathlib.Core.Bool.{Bool, true, _&&_, _||_, not}
 use mathlib.Core.List.{List}
-use Prim.Native.Nat.{ℕ, _^_}
+use Prim.Native.Nat.{ℕ}
 use lib.Dec.{eqb, ltb, leb}
 use Rattle.tlv.specs.Octet.{pick}
 use Rattle.cached.specs.Valid.{heldRight}
+use Rattle.interaction_writer.specs.Envelope.{exchangeLimit}
 use Rattle.envelope.specs.Envelope.{maxMessage}
 use Rattle.cache.specs.declared.Request.{Request}
 use Rattle.cache.specs.declared.State.{State}
@@ -31,7 +32,7 @@ isOpen stage = eqb stage reading || eqb stage writing
 -- numbers of 40 bits that were used; an open request has sent a message and awaits a turn from 1 on
 unfoldable pub askedRight : Request → Bool
 askedRight x =
-    ltb (x .used) (2 ^ 40)
+    ltb (x .used) exchangeLimit
     && (leb (x .exchange) (x .used)
     && (leb (x .unknown) (x .used)
     && (leb (x .stage) withStatus && (leb (x .len) maxMessage && pick (isOpen (x .stage)) (not (eqb (x .turn) 0) && ltb 0 (x .len)) true))))

@@ -1,7 +1,8 @@
 // A fresh panel, a request begun, and the newest message again.
 ghost use mathlib.Core.Path.{_≡_};
-ghost use Prim.Native.Nat.{_+_, _≤_, _<_, _^_};
+ghost use Prim.Native.Nat.{_+_, _≤_, _<_};
 ghost use lib.ListN.{length};
+ghost use Rattle.interaction_writer.specs.Envelope.{exchangeLimit};
 ghost use Rattle.envelope.specs.Envelope.{maxMessage};
 ghost use Rattle.cache.specs.Begin.{fresh, unknownAfter, askedAs, sendable, beginsRead, beginsWrite, resends};
 ghost use Rattle.cache.specs.Reaction.{Reacted};
@@ -29,11 +30,14 @@ use cached::CLUSTERS;
 use cached::Cached;
 use cached::ENTRIES;
 use envelope::MAX_MESSAGE;
+use exchange::FIRST_REPLY;
+use interaction_writer::envelope::EXCHANGE_LIMIT;
+use interaction_writer::envelope::PANEL_EDITION;
 use octets::put_bytes;
 use tlv::Value;
 
-// The last exchange number of 40 bits.
-const LAST_EXCHANGE: u64 = 1_099_511_627_775;
+// The last exchange number.
+pub const LAST_EXCHANGE: u64 = EXCHANGE_LIMIT - 1;
 
 pub fn fresh() -> State
     ensures { λ r. ⌜ r ≡ fresh ⌝ }
@@ -84,7 +88,7 @@ fn asked_as(
     attribute: u32,
     message: &[u8],
 ) -> Request
-    requires { ⌜ (x .used + 1 < 2 ^ 40) × (length (now message) ≤ maxMessage) ⌝ }
+    requires { ⌜ (x .used + 1 < exchangeLimit) × (length (now message) ≤ maxMessage) ⌝ }
     ensures { λ r. ⌜ r ≡ askedAs x stage endpoint cluster attribute (now (message .entry)) ⌝ }
 {
     let kept = x.kept;
@@ -92,7 +96,7 @@ fn asked_as(
         used: x.used + 1,
         exchange: x.used + 1,
         stage,
-        turn: 1,
+        turn: FIRST_REPLY as u16,
         status: 0,
         endpoint,
         cluster,
@@ -120,7 +124,7 @@ pub fn begin_read(page: &[u8], state: State, out: &mut [u8]) -> Outcome
     if LAST_EXCHANGE <= used {
         return refuse(state, NUMBERS_USED);
     }
-    let end = put_read(held, out, used + 1);
+    let end = put_read(held, out, PANEL_EDITION, used + 1);
     let next = asked_as(asked, READING, 0, 0, 0, &out[0..end]);
     Outcome {
         state: State { held, asked: next },
@@ -171,6 +175,7 @@ pub fn begin_write<'a>(
     }
     let end = put_write(
         out,
+        PANEL_EDITION,
         used + 1,
         given,
         version,

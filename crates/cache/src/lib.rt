@@ -7,6 +7,7 @@ ghost use Rattle.cache.specs.Begin.{keeping};
 use cached::Cached;
 use cached::valid::held_ok;
 use envelope::MAX_MESSAGE;
+use interaction_writer::envelope::EXCHANGE_LIMIT;
 use octets::put_bytes;
 
 pub mod begin; // begin.rt: a fresh panel, a read or a write begun, the newest message again
@@ -90,7 +91,7 @@ pub fn is_open(stage: u8) -> bool
 fn asked_ok(x: Request) -> bool
     ensures { λ r. ⌜ r ≡ askedRight x ⌝ }
 {
-    if 1_099_511_627_776 <= x.used {
+    if EXCHANGE_LIMIT <= x.used {
         return false;
     }
     if x.used < x.exchange {

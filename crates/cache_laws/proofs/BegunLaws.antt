@@ -17,6 +17,7 @@ use Rattle.schema.proofs.BoolLaws.{both, by-test}
 use Rattle.cached.specs.Limits.{maxEntries, maxClusters, pageSize}
 use Rattle.cached.specs.Valid.{clustersRight, entriesRight}
 use Rattle.cached.proofs.ValidLaws as Held
+use Rattle.interaction_writer.specs.Envelope.{panelEdition, exchangeLimit}
 use Rattle.cache_laws.proofs.RightLaws.{Good}
 use Rattle.cache_request.specs.Filters.{filtersOf}
 use Rattle.cache_request.specs.Messages.{readMessage, writeMessage}
@@ -69,7 +70,7 @@ fresh-valid page size = record {
 }
 
 -- a message kept by an open request
-pub keeping-right : (x : Request) → x .used < 2 ^ 40 → x .exchange ≤ x .used → x .unknown ≤ x .used → x .stage ≤ withStatus → (x .turn ≡ 0 → ⊥) → {m : List ℕ} → Sized m → RightAsked (keeping x m)
+pub keeping-right : (x : Request) → x .used < exchangeLimit → x .exchange ≤ x .used → x .unknown ≤ x .used → x .stage ≤ withStatus → (x .turn ≡ 0 → ⊥) → {m : List ℕ} → Sized m → RightAsked (keeping x m)
 unfolding keeping
 keeping-right x u e k s t {m} z = record {
   used = u;
@@ -90,7 +91,7 @@ module _ (page : List ℕ) (s : State) (v : ValidPanel page s) where
   unknown-kept = pick-elim (λ (n : ℕ). n ≤ s .asked .used) (eqb (s .asked .stage) writing) _ _ (λ _. v .asked .exchange) (λ _. v .asked .unknown)
 
   -- a request begun
-  sent-valid : (stage e c a : ℕ) → stage ≤ withStatus → s .asked .used + 1 < 2 ^ 40 → {m : List ℕ} → Sized m → ValidPanel page (sent page s stage e c a m .state)
+  sent-valid : (stage e c a : ℕ) → stage ≤ withStatus → s .asked .used + 1 < exchangeLimit → {m : List ℕ} → Sized m → ValidPanel page (sent page s stage e c a m .state)
   unfolding askedAs keeping
   sent-valid stage e c a l u {m} z = record {
     held = v .held;
@@ -98,20 +99,20 @@ module _ (page : List ℕ) (s : State) (v : ValidPanel page s) where
     kept = length-store (s .asked .kept) 0 m ∙ v .kept;
   }
 
-  begun-valid : (room : ℕ) (next : Reaction) → (s .asked .used + 1 < 2 ^ 40 → Holds next) → Holds (beginning page s room next)
+  begun-valid : (room : ℕ) (next : Reaction) → (s .asked .used + 1 < exchangeLimit → Holds next) → Holds (beginning page s room next)
   begun-valid room next h =
       pick-elim Holds (panelRight page s) _ _
       (λ _. pick-elim Holds (ltb room maxMessage) _ _ (λ _. v)
-      (λ _. pick-elim Holds (ltb (s .asked .used) (2 ^ 40 - 1)) _ _ (λ t. h (omega (arith, ltb-true (s .asked .used) (2 ^ 40 - 1) t))) (λ _. v)))
+      (λ _. pick-elim Holds (ltb (s .asked .used) (exchangeLimit - 1)) _ _ (λ t. h (omega (arith, ltb-true (s .asked .used) (exchangeLimit - 1) t))) (λ _. v)))
       (λ _. v)
 
   -- BEGINNING A READ, whatever the buffer
   pub read-kept : (room : ℕ) → Holds (beginsRead page s room)
   unfolding beginsRead
   read-kept room =
-      begun-valid room (sent page s reading 0 0 0 (readMessage (s .asked .used + 1) (filtersOf (s .held))))
+      begun-valid room (sent page s reading 0 0 0 (readMessage panelEdition (s .asked .used + 1) (filtersOf (s .held))))
       (λ u. sent-valid reading 0 0 0 (omega arith) u
-      (read-sized (s .asked .used + 1) (filtersOf (s .held)) (filters-narrow (s .held) (v .held .whole .small)) (omega (arith, filters-few (s .held), v .held .right .few-clusters))))
+      (read-sized panelEdition (s .asked .used + 1) (filtersOf (s .held)) (filters-narrow (s .held) (v .held .whole .small)) (omega (arith, filters-few (s .held), v .held .right .few-clusters))))
 
   -- BEGINNING A WRITE of any value
   pub write-kept : (e c a : ℕ) (given : Bool) (version : ℕ) (src : List ℕ) (x : Value) (room : ℕ) → e < 2 ^ 16 → c < 2 ^ 32 → a < 2 ^ 32 → version < 2 ^ 32 → Holds (beginsWrite page s e c a given version src x room)
@@ -119,7 +120,7 @@ module _ (page : List ℕ) (s : State) (v : ValidPanel page s) where
   write-kept e c a given version src x room fe fc fa fv =
       begun-valid room _
       (λ u. pick-elim Holds (sendable src x) _ _
-      (λ t. sent-valid writing e c a (omega arith) u (write-sized (s .asked .used + 1) given version e c a (datumIn src x) fv fe fc fa (sendable-fits src x t .short)))
+      (λ t. sent-valid writing e c a (omega arith) u (write-sized panelEdition (s .asked .used + 1) given version e c a (datumIn src x) fv fe fc fa (sendable-fits src x t .short)))
       (λ _. v))
 
   -- RESENDING changes nothing

@@ -100,10 +100,10 @@ pub record Sized (message : List ℕ) : Type 0 where
   pub some : 0 < length message
   pub fits : length message ≤ 1032
 
-after-envelope : (opcode exchange turn : ℕ) (payload : List ℕ) → length payload ≤ 1024 → Sized (envelopeOctets opcode exchange turn ++ payload)
-after-envelope opcode exchange turn payload l =
-    let n = length-append (envelopeOctets opcode exchange turn) payload in
-    let e = length-envelope opcode exchange turn in
+after-envelope : (edition opcode exchange turn : ℕ) (payload : List ℕ) → length payload ≤ 1024 → Sized (envelopeOctets edition opcode exchange turn ++ payload)
+after-envelope edition opcode exchange turn payload l =
+    let n = length-append (envelopeOctets edition opcode exchange turn) payload in
+    let e = length-envelope edition opcode exchange turn in
     record { some = omega (arith, n, e); fits = omega (arith, n, e, l) }
 
 trees-short : (fs : List Wanted) → Each Narrow fs → Each (λ (t : Tree). length (spelling t) ≤ 21) (map filterTreeOf fs)
@@ -115,19 +115,19 @@ length-map : (fs : List Wanted) → length (map filterTreeOf fs) ≡ length fs
 length-map [] = refl
 length-map (f ∷ fs) = ap suc (length-map fs)
 
-pub read-sized : (exchange : ℕ) (fs : List Wanted) → Each Narrow fs → length fs ≤ maxClusters → Sized (readMessage exchange fs)
+pub read-sized : (edition exchange : ℕ) (fs : List Wanted) → Each Narrow fs → length fs ≤ maxClusters → Sized (readMessage edition exchange fs)
 unfolding readMessage
-read-sized exchange fs narrow few =
-    after-envelope readOpcode exchange 0 (spelling (messageTree (readMembers (map filterTreeOf fs))))
+read-sized edition exchange fs narrow few =
+    after-envelope edition readOpcode exchange 0 (spelling (messageTree (readMembers (map filterTreeOf fs))))
     (omega (arith, few, length-map fs, read-bound (map filterTreeOf fs) (trees-short fs narrow)))
 
-pub write-sized : (exchange : ℕ) (given : Bool) (version e c a : ℕ) (d : Datum) → version < 2 ^ 32 → e < 2 ^ 16 → c < 2 ^ 32 → a < 2 ^ 32 → ShortText d → Sized (writeMessage exchange given version e c a d)
+pub write-sized : (edition exchange : ℕ) (given : Bool) (version e c a : ℕ) (d : Datum) → version < 2 ^ 32 → e < 2 ^ 16 → c < 2 ^ 32 → a < 2 ^ 32 → ShortText d → Sized (writeMessage edition exchange given version e c a d)
 unfolding writeMessage
-write-sized exchange given version e c a d fv fe fc fa short =
-    after-envelope writeOpcode exchange 0 (spelling (messageTree (writeMembers (entryTree given version e c a d))))
+write-sized edition exchange given version e c a d fv fe fc fa short =
+    after-envelope edition writeOpcode exchange 0 (spelling (messageTree (writeMembers (entryTree given version e c a d))))
     (omega (arith, write-bound given version e c a d fv fe fc fa short))
 
-pub success-sized : (exchange turn : ℕ) → Sized (successMessage exchange turn)
+pub success-sized : (edition exchange turn : ℕ) → Sized (successMessage edition exchange turn)
 unfolding successMessage
-success-sized exchange turn =
-    after-envelope statusOpcode exchange turn (spelling (messageTree (statusMembers 0))) (omega (arith, length-status-response 0 (omega arith)))
+success-sized edition exchange turn =
+    after-envelope edition statusOpcode exchange turn (spelling (messageTree (statusMembers 0))) (omega (arith, length-status-response 0 (omega arith)))

@@ -23,6 +23,7 @@ use Rattle.exchange.specs.Rules.{statusOpcode, reportOpcode}
 use Rattle.cached.specs.declared.Cached.{Cached}
 use Rattle.cached.specs.Valid.{clustersRight, entriesRight}
 use Rattle.cache_part.specs.Part.{blocksIn, judgedAll, heldAll, pageAll}
+use Rattle.interaction_writer.specs.Envelope.{panelEdition}
 use Rattle.cache_laws.proofs.RightLaws.{Good, part-right}
 use Rattle.cache_request.specs.Messages.{successMessage}
 use Rattle.cache_laws.proofs.BoundLaws.{success-sized}
@@ -101,8 +102,8 @@ module _ (page : List ℕ) (s : State) (v : ValidPanel page s) where
       more : Holds (goesOn (heldAll payload (s .held) (blocksIn payload)) (s .asked) (pageAll payload (s .held) page (blocksIn payload)))
       more = record {
         held = good;
-        asked = keeping-right (nextAwaited (s .asked)) (v .asked .used) (v .asked .exchange) (v .asked .unknown) (v .asked .stage) (λ z. omega (arith, z)) (success-sized (s .asked .exchange) (s .asked .turn));
-        kept = kept-length (nextAwaited (s .asked)) (successMessage (s .asked .exchange) (s .asked .turn)) ∙ v .kept;
+        asked = keeping-right (nextAwaited (s .asked)) (v .asked .used) (v .asked .exchange) (v .asked .unknown) (v .asked .stage) (λ z. omega (arith, z)) (success-sized panelEdition (s .asked .exchange) (s .asked .turn));
+        kept = kept-length (nextAwaited (s .asked)) (successMessage panelEdition (s .asked .exchange) (s .asked .turn)) ∙ v .kept;
       }
 
       last : Holds (ends (heldAll payload (s .held) (blocksIn payload)) (s .asked) (pageAll payload (s .held) page (blocksIn payload)))
@@ -135,5 +136,5 @@ module _ (page : List ℕ) (s : State) (v : ValidPanel page s) where
       go : (e : Envelope) → Holds (inEnvelope page s m e)
       go Short = v
       go (Whole e) =
-          pick-elim Holds (leb (length m) maxMessage && (eqb (e .edition) 0 && forCache (e .opcode))) _ _
+          pick-elim Holds (leb (length m) maxMessage && forCache (e .edition) (e .opcode)) _ _
           (λ _. pick-elim Holds (awaited (s .asked) e) _ _ (λ _. takes-valid (e .opcode) (drop envelopeLength m)) (λ _. v)) (λ _. v)

@@ -110,5 +110,5 @@ module _ (page : List ℕ) (s : State) where
       go : (e : Envelope) → FairR (inEnvelope page s m e)
       go Short = λ e. omega arith
       go (Whole e) =
-          pick-elim FairR (leb (length m) maxMessage && (eqb (e .edition) 0 && forCache (e .opcode))) _ _
+          pick-elim FairR (leb (length m) maxMessage && forCache (e .edition) (e .opcode)) _ _
           (λ _. pick-elim FairR (awaited (s .asked) e) _ _ (λ _. takes-fair (e .opcode) (drop envelopeLength m)) (λ _ e. omega arith)) (λ _ e. omega arith)

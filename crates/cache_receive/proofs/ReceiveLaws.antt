@@ -137,19 +137,15 @@ module _ (page : List ℕ) (s : State) (m : List ℕ) (room : ℕ) where
         too-long k = whole ∙ rw (lt-leb (length m) maxMessage k) refl
 
         module _ (k : length m ≤ maxMessage) where
-          pub other-edition : (e .edition ≡ 0 → ⊥) → received page s m room ≡ refusal 4 s page
-          other-edition n = whole ∙ rw (le-leb (length m) maxMessage k, ne-eqb (e .edition) 0 n) refl
+          pub not-for-cache : forCache (e .edition) (e .opcode) ≡ false → received page s m room ≡ refusal 4 s page
+          not-for-cache o = whole ∙ rw (le-leb (length m) maxMessage k, o) refl
 
-          module _ (n : e .edition ≡ 0) where
-            pub other-opcode : forCache (e .opcode) ≡ false → received page s m room ≡ refusal 4 s page
-            other-opcode o = whole ∙ rw (le-leb (length m) maxMessage k, eq-eqb (e .edition) 0 n, o) refl
+          module _ (o : forCache (e .edition) (e .opcode) ≡ true) where
+            pub not-awaited : awaited (s .asked) e ≡ false → received page s m room ≡ refusal 5 s page
+            not-awaited a = whole ∙ rw (le-leb (length m) maxMessage k, o, a) refl
 
-            module _ (o : forCache (e .opcode) ≡ true) where
-              pub not-awaited : awaited (s .asked) e ≡ false → received page s m room ≡ refusal 5 s page
-              not-awaited a = whole ∙ rw (le-leb (length m) maxMessage k, eq-eqb (e .edition) 0 n, o, a) refl
-
-              pub taken-as : awaited (s .asked) e ≡ true → {p : List ℕ} → p ≡ drop envelopeLength m → received page s m room ≡ takes page s (e .opcode) p
-              taken-as a {p} d = whole ∙ rw (le-leb (length m) maxMessage k, eq-eqb (e .edition) 0 n, o, a) refl ∙ ap (takes page s (e .opcode)) (sym d)
+            pub taken-as : awaited (s .asked) e ≡ true → {p : List ℕ} → p ≡ drop envelopeLength m → received page s m room ≡ takes page s (e .opcode) p
+            taken-as a {p} d = whole ∙ rw (le-leb (length m) maxMessage k, o, a) refl ∙ ap (takes page s (e .opcode)) (sym d)
 
 -- a success sent, with entries and page as they are after the part
 pub went-on : (x : Request) {r : Outcome} {old new : List ℕ} {next held : Cached} {p q : List ℕ} → next ≡ held → p ≡ q → Reacted (goesOn next x p) r p old new → Reacted (goesOn held x q) r p old new
@@ -157,10 +153,10 @@ went-on x {r} {old} {new} {next} {held} {p} {q} a b t =
     subst (λ (h : Cached). Reacted (goesOn h x q) r p old new) a (subst (λ (y : List ℕ). Reacted (goesOn next x y) r p old new) b t)
 
 -- what follows the envelope
-pub payload-of : (m : List ℕ) → take (length m - 8) (drop 8 m) ≡ drop envelopeLength m
-payload-of m = take-all (length m - 8) (drop 8 m) (omega (arith, length-drop 8 m))
+pub payload-of : (m : List ℕ) → take (length m - envelopeLength) (drop envelopeLength m) ≡ drop envelopeLength m
+payload-of m = take-all (length m - envelopeLength) (drop envelopeLength m) (omega (arith, length-drop envelopeLength m))
 
 -- an envelope has its eight octets
-pub long-enough : (m : List ℕ) {e : Fields} → envelopeIn m ≡ Whole e → 8 ≤ length m
+pub long-enough : (m : List ℕ) {e : Fields} → envelopeIn m ≡ Whole e → envelopeLength ≤ length m
 unfolding envelopeIn
-long-enough m {e} h = by-test (ltb (length m) 8) (λ t. never (let q : Short ≡ Whole e = rw t at h in cc)) (λ f. ltb-false _ _ f)
+long-enough m {e} h = by-test (ltb (length m) envelopeLength) (λ t. never (let q : Short ≡ Whole e = rw t at h in cc)) (λ f. ltb-false _ _ f)

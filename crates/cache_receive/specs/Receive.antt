@@ -13,11 +13,12 @@ use Rattle.blocks.specs.Path.{exactP}
 use Rattle.interaction.specs.Status.{responseIn}
 use Rattle.interaction_report.specs.Report.{PartAt, partIn}
 use Rattle.interaction_answer.specs.Answered.{answeredIn}
+use Rattle.interaction_writer.specs.Envelope.{panelEdition}
 use Rattle.envelope.specs.declared.Fields.{Fields}
 use Rattle.envelope.specs.declared.Envelope.{Envelope}
 use Rattle.envelope.specs.declared.Envelope.the-variants.{Whole, Short}
 use Rattle.envelope.specs.Envelope.{envelopeIn, envelopeLength, maxMessage}
-use Rattle.exchange.specs.Rules.{statusOpcode, reportOpcode, writeResponseOpcode, maxTurn}
+use Rattle.exchange.specs.Rules.{statusOpcode, reportOpcode, writeResponseOpcode, firstReply, maxTurn}
 use Rattle.cached.specs.declared.Cached.{Cached}
 use Rattle.cache_part.specs.Part.{blocksIn, judgedAll, heldAll, pageAll}
 use Rattle.cache_request.specs.Messages.{successMessage}
@@ -28,14 +29,15 @@ use Rattle.cache.specs.State.{reading, writing, lastPart, withStatus, isOpen, p
 use Rattle.cache.specs.Reaction.{Reaction, refusal, quiet, unsent}
 use Rattle.cache.specs.Begin.{keeping}
 
--- "A panel takes opcodes 1, 5, 7"
-unfoldable pub forCache : ℕ → Bool
-forCache opcode = eqb opcode statusOpcode || (eqb opcode reportOpcode || eqb opcode writeResponseOpcode)
+-- refusal 4, "edition not 0, opcode not for this end": "A panel takes opcodes 1, 5, 7"
+unfoldable pub forCache : ℕ → ℕ → Bool
+forCache edition opcode =
+    eqb edition panelEdition && (eqb opcode statusOpcode || (eqb opcode reportOpcode || eqb opcode writeResponseOpcode))
 
 -- "1 at turn 1 alone, 5 in a read, 7 in a write"
 unfoldable pub opcodeAwaited : ℕ → Fields → Bool
 opcodeAwaited stage e =
-    pick (eqb (e .opcode) statusOpcode) (eqb (e .turn) 1) (pick (eqb (e .opcode) reportOpcode) (eqb stage reading) (eqb stage writing))
+    pick (eqb (e .opcode) statusOpcode) (eqb (e .turn) firstReply) (pick (eqb (e .opcode) reportOpcode) (eqb stage reading) (eqb stage writing))
 
 -- 5: "not the exchange, turn and opcode awaited"
 unfoldable pub awaited : Request → Fields → Bool
@@ -119,9 +121,9 @@ unfoldable pub goesOn : Cached → Request → List ℕ → Reaction
 goesOn held x page =
     record {
       number = 0;
-      state = record { held = held; asked = keeping (nextAwaited x) (successMessage (x .exchange) (x .turn)) };
+      state = record { held = held; asked = keeping (nextAwaited x) (successMessage panelEdition (x .exchange) (x .turn)) };
       page = page;
-      reply = successMessage (x .exchange) (x .turn);
+      reply = successMessage panelEdition (x .exchange) (x .turn);
     }
 
 -- the last part: the read has ended, and the panel is primed
@@ -157,7 +159,7 @@ takes page s opcode payload =
 abbrev pub inEnvelope : List ℕ → State → List ℕ → Envelope → Reaction
 inEnvelope page s m Short = refusal 4 s page
 inEnvelope page s m (Whole e) =
-    pick (leb (length m) maxMessage && (eqb (e .edition) 0 && forCache (e .opcode)))
+    pick (leb (length m) maxMessage && forCache (e .edition) (e .opcode))
     (pick (awaited (s .asked) e) (takes page s (e .opcode) (drop envelopeLength m)) (refusal 5 s page))
     (refusal 4 s page)
 

@@ -2,8 +2,9 @@
 ghost use mathlib.Core.Path.{_≡_};
 ghost use mathlib.Core.Bool.{true, false};
 ghost use mathlib.Core.List.{List};
-ghost use Prim.Native.Nat.{ℕ, _≤_, _<_, _^_};
+ghost use Prim.Native.Nat.{ℕ, _≤_, _<_};
 ghost use lib.ListN.{length};
+ghost use Rattle.interaction_writer.specs.Envelope.{exchangeLimit};
 ghost use Rattle.envelope.specs.Envelope.{maxMessage};
 ghost use Rattle.cache_part.specs.Entry.{Within};
 ghost use Rattle.cached.specs.Limits.{pageSize};
@@ -37,6 +38,7 @@ use envelope::Envelope;
 use envelope::Fields;
 use envelope::MAX_MESSAGE;
 use envelope::envelope_of;
+use exchange::FIRST_REPLY;
 use exchange::MAX_TURN;
 use exchange::REPORT;
 use exchange::WRITE_RESPONSE;
@@ -45,11 +47,15 @@ use interaction::status_response;
 use interaction_answer::Answered;
 use interaction_answer::write_response;
 use interaction_report::report_data;
+use interaction_writer::envelope::PANEL_EDITION;
 
-// A panel takes opcodes 1, 5 and 7.
-fn is_for_cache(opcode: u64) -> bool
-    ensures { λ r. ⌜ r ≡ forCache opcode ⌝ }
+// A panel takes opcodes 1, 5 and 7, in the edition of its own exchanges.
+fn is_for_cache(edition: u64, opcode: u64) -> bool
+    ensures { λ r. ⌜ r ≡ forCache edition opcode ⌝ }
 {
+    if edition != PANEL_EDITION as u64 {
+        return false;
+    }
     if opcode == exchange::STATUS {
         return true;
     }
@@ -64,7 +70,7 @@ fn opcode_awaited(stage: u8, e: Fields) -> bool
     ensures { λ r. ⌜ r ≡ opcodeAwaited stage e ⌝ }
 {
     if e.opcode == exchange::STATUS {
-        return e.turn == 1;
+        return e.turn == FIRST_REPLY;
     }
     if e.opcode == REPORT {
         return stage == READING;
@@ -156,10 +162,10 @@ fn take_answer(state: State, payload: &[u8]) -> Outcome
 
 // A part that promises more was taken: a success for it, and the next part is awaited.
 fn go_on(held: Cached, x: Request, out: &mut [u8]) -> Outcome
-    requires { ⌜ (x .exchange < 2 ^ 40) × ((x .turn < 65535) × (maxMessage ≤ length (now out))) ⌝ }
+    requires { ⌜ (x .exchange < exchangeLimit) × ((x .turn < 65535) × (maxMessage ≤ length (now out))) ⌝ }
     ensures { λ r. ⌜ ((page : List ℕ) → Reacted (goesOn held x page) r page (now (out .entry)) (now (out .exit))) ⌝ }
 {
-    let end = put_success(out, x.exchange, x.turn);
+    let end = put_success(out, PANEL_EDITION, x.exchange, x.turn);
     let mut next = x;
     next.turn = x.turn + 1;
     let asked = keep(next, &out[0..end]);
@@ -250,10 +256,7 @@ pub fn receive(page: &mut [u8], state: State, message: &[u8], out: &mut [u8]) ->
     if MAX_MESSAGE < message.len() {
         return refuse(state, NO_MESSAGE);
     }
-    if e.edition != 0 {
-        return refuse(state, NO_MESSAGE);
-    }
-    if !is_for_cache(e.opcode) {
+    if !is_for_cache(e.edition, e.opcode) {
         return refuse(state, NO_MESSAGE);
     }
     if !is_awaited(state.asked, e) {

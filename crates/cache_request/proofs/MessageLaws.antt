@@ -11,7 +11,7 @@ use Rattle.tlv.specs.Tree.{Tree}
 use Rattle.tlv_writer.specs.Element.{openOctets, endOctets}
 use Rattle.tlv.specs.Octet.{numberWidth}
 use Rattle.interaction.specs.declared.Wanted.{Wanted}
-use Rattle.interaction_writer.specs.Envelope.{envelopeOctets}
+use Rattle.interaction_writer.specs.Envelope.{envelopeOctets, envelopeLength}
 use Rattle.interaction_writer.specs.Spelling.{spelling, spellings, joined, writerTag}
 use Rattle.interaction_writer.specs.Message.{messageTree, revision}
 use Rattle.interaction_writer.proofs.EnvelopeLaws.{length-envelope}
@@ -26,8 +26,8 @@ never : {A : Type 0} → _≡_ {A = ℕ} 0 1 → A
 never e = absurd (omega arith)
 
 -- what follows an envelope: where it begins, and the room for it
-pub after-envelope : (opcode exchange turn : ℕ) {o o₁ : List ℕ} {p : ℕ} → Stored o 0 (envelopeOctets opcode exchange turn) o₁ p → (p ≡ 8) × (length o₁ ≡ length o)
-after-envelope opcode exchange turn e = (omega (arith, e .place, length-envelope opcode exchange turn), same-length e)
+pub after-envelope : (edition opcode exchange turn : ℕ) {o o₁ : List ℕ} {p : ℕ} → Stored o 0 (envelopeOctets edition opcode exchange turn) o₁ p → (p ≡ envelopeLength) × (length o₁ ≡ length o)
+after-envelope edition opcode exchange turn e = (omega (arith, e .place, length-envelope edition opcode exchange turn), same-length e)
 
 -- a filter has octets
 filter-some : (f : Wanted) → 0 < length (spelling (filterTreeOf f))
@@ -44,8 +44,8 @@ unfolding readClosing
 closing-length = length-revision
 
 -- A READ, with filters and without
-module _ (exchange : ℕ) {o o₁ o₂ o₃ o₄ : List ℕ} {p q start end : ℕ} (e : Stored o 0 (envelopeOctets readOpcode exchange 0) o₁ p) (a : Stored o₁ p readOpening o₂ q) (b : Stored o₂ q filtersOpening o₃ start) (fs : List Wanted) (f : Stored o₃ start (joined (map filterTreeOf fs)) o₄ end) where
-  pub read-unfiltered : {o₅ : List ℕ} {r : ℕ} → end ≡ start → Stored o₄ q (readClosing false) o₅ r → Stored o 0 (readMessage exchange fs) o₅ r
+module _ (edition exchange : ℕ) {o o₁ o₂ o₃ o₄ : List ℕ} {p q start end : ℕ} (e : Stored o 0 (envelopeOctets edition readOpcode exchange 0) o₁ p) (a : Stored o₁ p readOpening o₂ q) (b : Stored o₂ q filtersOpening o₃ start) (fs : List Wanted) (f : Stored o₃ start (joined (map filterTreeOf fs)) o₄ end) where
+  pub read-unfiltered : {o₅ : List ℕ} {r : ℕ} → end ≡ start → Stored o₄ q (readClosing false) o₅ r → Stored o 0 (readMessage edition exchange fs) o₅ r
   unfolding readMessage joined store
   read-unfiltered {o₅} {r} h c =
       let empty : fs ≡ [] = none fs (omega (arith, h, f .place)) in
@@ -56,10 +56,10 @@ module _ (exchange : ℕ) {o o₁ o₂ o₃ o₄ : List ℕ} {p q start end : �
       } in
       rw (empty, ← read-none) (then e (then a over))
 
-  pub read-filtered : {o₅ : List ℕ} {r : ℕ} → (end ≡ start → ⊥) → Stored o₄ end (readClosing true) o₅ r → Stored o 0 (readMessage exchange fs) o₅ r
+  pub read-filtered : {o₅ : List ℕ} {r : ℕ} → (end ≡ start → ⊥) → Stored o₄ end (readClosing true) o₅ r → Stored o 0 (readMessage edition exchange fs) o₅ r
   unfolding readMessage joined
   read-filtered {o₅} {r} h c = go fs f
     where
-      go : (l : List Wanted) → Stored o₃ start (joined (map filterTreeOf l)) o₄ end → Stored o 0 (readMessage exchange l) o₅ r
+      go : (l : List Wanted) → Stored o₃ start (joined (map filterTreeOf l)) o₄ end → Stored o 0 (readMessage edition exchange l) o₅ r
       go [] g = absurd (h (omega (arith, g .place)))
       go (x ∷ l) g = rw (← (read-some (filterTreeOf x) (map filterTreeOf l))) (then e (then a (then b (then g c))))

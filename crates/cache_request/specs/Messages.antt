@@ -12,13 +12,13 @@ use Rattle.request_writer.specs.Request.{readMembers, writeMembers, entryTree}
 use Rattle.cache_request.specs.Filters.{filterTreeOf}
 
 -- "A request has turn 0"
-unfoldable pub readMessage : ℕ → List Wanted → List ℕ
-readMessage exchange fs = envelopeOctets readOpcode exchange 0 ++ spelling (messageTree (readMembers (map filterTreeOf fs)))
+unfoldable pub readMessage : ℕ → ℕ → List Wanted → List ℕ
+readMessage edition exchange fs = envelopeOctets edition readOpcode exchange 0 ++ spelling (messageTree (readMembers (map filterTreeOf fs)))
 
-unfoldable pub writeMessage : ℕ → Bool → ℕ → ℕ → ℕ → ℕ → Datum → List ℕ
-writeMessage exchange given version endpoint cluster attribute d =
-    envelopeOctets writeOpcode exchange 0 ++ spelling (messageTree (writeMembers (entryTree given version endpoint cluster attribute d)))
+unfoldable pub writeMessage : ℕ → ℕ → Bool → ℕ → ℕ → ℕ → ℕ → Datum → List ℕ
+writeMessage edition exchange given version endpoint cluster attribute d =
+    envelopeOctets edition writeOpcode exchange 0 ++ spelling (messageTree (writeMembers (entryTree given version endpoint cluster attribute d)))
 
 -- "the panel's success for reply k has turn k"
-unfoldable pub successMessage : ℕ → ℕ → List ℕ
-successMessage exchange turn = envelopeOctets statusOpcode exchange turn ++ spelling (messageTree (statusMembers 0))
+unfoldable pub successMessage : ℕ → ℕ → ℕ → List ℕ
+successMessage edition exchange turn = envelopeOctets edition statusOpcode exchange turn ++ spelling (messageTree (statusMembers 0))

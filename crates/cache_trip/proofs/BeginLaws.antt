@@ -17,7 +17,7 @@ use Rattle.interaction.specs.declared.Wanted.{Wanted}
 use Rattle.interaction.specs.Status.{responseIn}
 use Rattle.interaction.specs.Read.{readIn, readRead}
 use Rattle.interaction_write.specs.Write.{writeIn, writeRead, writeTree}
-use Rattle.interaction_writer.specs.Envelope.{envelopeOctets}
+use Rattle.interaction_writer.specs.Envelope.{envelopeOctets, envelopeLength, exchangeLimit}
 use Rattle.interaction_writer.specs.Spelling.{primitiveD, Each}
 use Rattle.interaction_writer.specs.Meaning.{PathFits}
 use Rattle.interaction_writer.proofs.EnvelopeLaws.{length-envelope}
@@ -40,8 +40,8 @@ use Rattle.cache_trip.proofs.ByteLaws.{write-bytes}
 use Rattle.cache_trip.proofs.PlaceLaws.{place-means}
 
 -- what follows an envelope
-pub after-envelope : (opcode exchange turn : ℕ) (q : List ℕ) → drop 8 (envelopeOctets opcode exchange turn ++ q) ≡ q
-after-envelope opcode exchange turn q = drop-at (envelopeOctets opcode exchange turn) q 8 (length-envelope opcode exchange turn)
+pub after-envelope : (edition opcode exchange turn : ℕ) (q : List ℕ) → drop envelopeLength (envelopeOctets edition opcode exchange turn ++ q) ≡ q
+after-envelope edition opcode exchange turn q = drop-at (envelopeOctets edition opcode exchange turn) q envelopeLength (length-envelope edition opcode exchange turn)
 
 -- THE FILTERS of a panel fit, and are no more than its clusters
 module _ (c : Cached) where
@@ -100,41 +100,41 @@ module _ (c : Cached) where
   filters-few = from-few (c .«cluster_count») 0
 
   -- A READ
-  module _ (s : Sendable c) (exchange : ℕ) where
-    read-payload : drop 8 (readMessage exchange (filtersOf c)) ≡ readOctets (filtersOf c)
+  module _ (s : Sendable c) (edition exchange : ℕ) where
+    read-payload : drop envelopeLength (readMessage edition exchange (filtersOf c)) ≡ readOctets (filtersOf c)
     unfolding readMessage
-    read-payload = after-envelope readOpcode exchange 0 (readOctets (filtersOf c))
+    read-payload = after-envelope edition readOpcode exchange 0 (readOctets (filtersOf c))
 
-    pub read-meant : readIn (drop 8 (readMessage exchange (filtersOf c))) ≡ just (readMeans (filtersOf c))
+    pub read-meant : readIn (drop envelopeLength (readMessage edition exchange (filtersOf c))) ≡ just (readMeans (filtersOf c))
     read-meant = ap readIn read-payload ∙ read-back (filtersOf c) (filters-fit (s .versions))
 
     -- with no ground to refuse it
-    pub read-taken : readRead (readIn (drop 8 (readMessage exchange (filtersOf c)))) ≡ readAnswer (filtersOf c)
+    pub read-taken : readRead (readIn (drop envelopeLength (readMessage edition exchange (filtersOf c)))) ≡ readAnswer (filtersOf c)
     read-taken = ap (λ (q : List ℕ). readRead (readIn q)) read-payload ∙ read-answered (filtersOf c) (filters-fit (s .versions)) (omega (arith, filters-few, s .clusters))
 
-pub read-envelope : (exchange : ℕ) (fs : List Wanted) → exchange < 2 ^ 40 → envelopeIn (readMessage exchange fs) ≡ envelopeAs readOpcode exchange 0
+pub read-envelope : (edition exchange : ℕ) (fs : List Wanted) → edition < 16 → exchange < exchangeLimit → envelopeIn (readMessage edition exchange fs) ≡ envelopeAs edition readOpcode exchange 0
 unfolding readMessage
-read-envelope exchange fs h = envelope-read readOpcode exchange 0 (omega arith) h (omega arith) (readOctets fs)
+read-envelope edition exchange fs f h = envelope-read edition readOpcode exchange 0 f (omega arith) h (omega arith) (readOctets fs)
 
 -- A WRITE
-module _ (exchange : ℕ) (given : Bool) (version e c a : ℕ) (d : Datum) where
+module _ (edition exchange : ℕ) (given : Bool) (version e c a : ℕ) (d : Datum) where
   abbrev m : List ℕ
-  m = writeMessage exchange given version e c a d
+  m = writeMessage edition exchange given version e c a d
 
-  pub write-envelope : exchange < 2 ^ 40 → envelopeIn m ≡ envelopeAs writeOpcode exchange 0
+  pub write-envelope : edition < 16 → exchange < exchangeLimit → envelopeIn m ≡ envelopeAs edition writeOpcode exchange 0
   unfolding writeMessage
-  write-envelope h = envelope-read writeOpcode exchange 0 (omega arith) h (omega arith) (writeOctets given version e c a d)
+  write-envelope f h = envelope-read edition writeOpcode exchange 0 f (omega arith) h (omega arith) (writeOctets given version e c a d)
 
-  write-payload : drop 8 m ≡ writeOctets given version e c a d
+  write-payload : drop envelopeLength m ≡ writeOctets given version e c a d
   unfolding writeMessage
-  write-payload = after-envelope writeOpcode exchange 0 (writeOctets given version e c a d)
+  write-payload = after-envelope edition writeOpcode exchange 0 (writeOctets given version e c a d)
 
   module _ (fv : version < 2 ^ 32) (p : PathFits e c a) (w : Writable (primitiveD d)) where
-    pub write-meant : mapO (writeTree 7 (drop 8 m)) (writeIn (drop 8 m)) ≡ just (writeMeans given version e c a d)
+    pub write-meant : mapO (writeTree 7 (drop envelopeLength m)) (writeIn (drop envelopeLength m)) ≡ just (writeMeans given version e c a d)
     write-meant = rw write-payload (write-back given version e c a d fv p w)
 
     -- one entry, of the path and version meant, and at its place the value meant
-    pub write-taken : Takable d → (n : ℕ) × (writeRead (writeIn (drop 8 m)) ≡ writeAnswer given version e c a n) × (datumIn (drop 8 m) (valueIn (drop 8 m) n) ≡ d)
+    pub write-taken : Takable d → (n : ℕ) × (writeRead (writeIn (drop envelopeLength m)) ≡ writeAnswer given version e c a n) × (datumIn (drop envelopeLength m) (valueIn (drop envelopeLength m) n) ≡ d)
     write-taken h =
         let (n, answer, tree) = write-answered given version e c a d fv p w in (
           n,
@@ -143,11 +143,11 @@ module _ (exchange : ℕ) (given : Bool) (version e c a : ℕ) (d : Datum) where
         )
 
 -- A SUCCESS
-module _ (exchange turn : ℕ) where
-  pub success-meant : responseIn (drop 8 (successMessage exchange turn)) ≡ just 0
+module _ (edition exchange turn : ℕ) where
+  pub success-meant : responseIn (drop envelopeLength (successMessage edition exchange turn)) ≡ just 0
   unfolding successMessage
-  success-meant = ap responseIn (after-envelope statusOpcode exchange turn (statusOctets 0)) ∙ status-back 0 (omega arith)
+  success-meant = ap responseIn (after-envelope edition statusOpcode exchange turn (statusOctets 0)) ∙ status-back 0 (omega arith)
 
-  pub success-envelope : exchange < 2 ^ 40 → turn < 2 ^ 16 → envelopeIn (successMessage exchange turn) ≡ envelopeAs statusOpcode exchange turn
+  pub success-envelope : edition < 16 → exchange < exchangeLimit → turn < 2 ^ 16 → envelopeIn (successMessage edition exchange turn) ≡ envelopeAs edition statusOpcode exchange turn
   unfolding successMessage
-  success-envelope h t = envelope-read statusOpcode exchange turn (omega arith) h t (statusOctets 0)
+  success-envelope f h t = envelope-read edition statusOpcode exchange turn f (omega arith) h t (statusOctets 0)

@@ -26,6 +26,7 @@ use Rattle.cache.specs.declared.State.{State}
 use Rattle.cache.specs.State.{panelRight}
 use Rattle.cache.specs.Reaction.{Reaction}
 use Rattle.cache.specs.Begin.{sendable, beginning, beginsRead, beginsWrite}
+use Rattle.interaction_writer.specs.Envelope.{panelEdition, exchangeLimit}
 use Rattle.cache_trip.specs.Begun.{ReadBegun, WriteBegun}
 use Rattle.cache_trip.specs.Taken.{Takable}
 use Rattle.cache_trip.proofs.BeginLaws.{read-envelope, read-taken, write-envelope, write-taken}
@@ -48,20 +49,20 @@ takable src v h = takable-of src v (left _ _ h) (not-true (longV v) (right (usab
 
 -- what is begun was let through
 module _ (page : List ℕ) (s : State) (room : ℕ) where
-  began : (P : List ℕ → Type 0) (next : Reaction) → (panelRight page s ≡ true → s .asked .used < 2 ^ 40 - 1 → next .number ≡ 0 → P (next .reply)) → beginning page s room next .number ≡ 0 → P (beginning page s room next .reply)
+  began : (P : List ℕ → Type 0) (next : Reaction) → (panelRight page s ≡ true → s .asked .used < exchangeLimit - 1 → next .number ≡ 0 → P (next .reply)) → beginning page s room next .number ≡ 0 → P (beginning page s room next .reply)
   began P next law =
       let Q : Reaction → Type 0 = λ r. r .number ≡ 0 → P (r .reply) in
       pick-elim Q (panelRight page s) _ _
       (λ t. pick-elim Q (ltb room maxMessage) _ _ (λ _ h. absurd (omega (arith, h)))
-      (λ _. pick-elim Q (ltb (s .asked .used) (2 ^ 40 - 1)) _ _ (λ l. law t (ltb-true (s .asked .used) (2 ^ 40 - 1) l)) (λ _ h. absurd (omega (arith, h)))))
+      (λ _. pick-elim Q (ltb (s .asked .used) (exchangeLimit - 1)) _ _ (λ l. law t (ltb-true (s .asked .used) (exchangeLimit - 1) l)) (λ _ h. absurd (omega (arith, h)))))
       (λ _ h. absurd (omega (arith, h)))
 
   -- A READ
   pub read-begun : ((i : ℕ) → getD (s .held .versions) i 0 < 2 ^ 32) → beginsRead page s room .number ≡ 0 → ReadBegun s (beginsRead page s room .reply)
   unfolding beginsRead panelRight
   read-begun small = began (ReadBegun s) _ (λ t l _. record {
-    envelope = read-envelope (s .asked .used + 1) (filtersOf (s .held)) (omega (arith, l));
-    request = read-taken (s .held) (record { versions = small; clusters = held-right page (s .held) (left _ _ t) .few-clusters }) (s .asked .used + 1);
+    envelope = read-envelope panelEdition (s .asked .used + 1) (filtersOf (s .held)) (omega arith) (omega (arith, l));
+    request = read-taken (s .held) (record { versions = small; clusters = held-right page (s .held) (left _ _ t) .few-clusters }) panelEdition (s .asked .used + 1);
   })
 
   -- A WRITE
@@ -70,12 +71,12 @@ module _ (page : List ℕ) (s : State) (room : ℕ) where
     unfolding beginsWrite
     write-begun = began (WriteBegun s given version e c a (datumIn src v)) _ (λ t l. pick-elim (λ (r : Reaction). r .number ≡ 0 → WriteBegun s given version e c a (datumIn src v) (r .reply)) (sendable src v) _ _ (λ q _. made l (takable src v q)) (λ _ h. absurd (omega (arith, h))))
       where
-        made : s .asked .used < 2 ^ 40 - 1 → Takable (datumIn src v) → WriteBegun s given version e c a (datumIn src v) (writeMessage (s .asked .used + 1) given version e c a (datumIn src v))
+        made : s .asked .used < exchangeLimit - 1 → Takable (datumIn src v) → WriteBegun s given version e c a (datumIn src v) (writeMessage panelEdition (s .asked .used + 1) given version e c a (datumIn src v))
         made l h =
-            let r = write-taken (s .asked .used + 1) given version e c a (datumIn src v) fv p w h in
+            let r = write-taken panelEdition (s .asked .used + 1) given version e c a (datumIn src v) fv p w h in
             record {
               place = r .0;
-              envelope = write-envelope (s .asked .used + 1) given version e c a (datumIn src v) (omega (arith, l));
+              envelope = write-envelope panelEdition (s .asked .used + 1) given version e c a (datumIn src v) (omega arith) (omega (arith, l));
               request = r .1;
               value = r .2;
             }

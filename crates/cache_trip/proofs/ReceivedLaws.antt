@@ -15,7 +15,7 @@ use Rattle.interaction_report.specs.Report.{PartAt}
 use Rattle.blocks.specs.Data.{ReportOf}
 use Rattle.blocks.proofs.BlockLaws.{never}
 use Rattle.schema.proofs.BoolLaws.{left, right, by-test}
-use Rattle.interaction_writer.specs.Envelope.{envelopeOctets}
+use Rattle.interaction_writer.specs.Envelope.{envelopeOctets, panelEdition, exchangeLimit}
 use Rattle.interaction_writer.specs.Spelling.{Each, spelling, joined}
 use Rattle.interaction_writer.specs.Block.{Block}
 use Rattle.interaction_writer.proofs.EnvelopeLaws.{length-envelope}
@@ -130,18 +130,18 @@ module _ (l : List Block) (m : Bool) (h : Each Sent l) (page : List ℕ) (s : St
 -- THE REPLY AWAITED, in its envelope
 module _ (page : List ℕ) (s : State) (room : ℕ) (valid : panelRight page s ≡ true) (large : maxMessage ≤ room) (turn-fits : s .asked .turn < 2 ^ 16) (payload : List ℕ) (short : length payload ≤ 1024) where
   abbrev reply : ℕ → List ℕ
-  reply opcode = envelopeOctets opcode (s .asked .exchange) (s .asked .turn) ++ payload
+  reply opcode = envelopeOctets panelEdition opcode (s .asked .exchange) (s .asked .turn) ++ payload
 
-  exchange-fits : s .asked .exchange < 2 ^ 40
+  exchange-fits : s .asked .exchange < exchangeLimit
   unfolding panelRight askedRight
   exchange-fits =
       let a = right (heldRight page (s .held)) _ valid in
-      let b = right (ltb (s .asked .used) (2 ^ 40)) _ a in
-      omega (arith, ltb-true (s .asked .used) (2 ^ 40) (left (ltb (s .asked .used) (2 ^ 40)) _ a), leb-true (s .asked .exchange) (s .asked .used) (left (leb (s .asked .exchange) (s .asked .used)) _ b))
+      let b = right (ltb (s .asked .used) exchangeLimit) _ a in
+      omega (arith, ltb-true (s .asked .used) exchangeLimit (left (ltb (s .asked .used) exchangeLimit) _ a), leb-true (s .asked .exchange) (s .asked .used) (left (leb (s .asked .exchange) (s .asked .used)) _ b))
 
-  replied : (opcode : ℕ) → opcode < 16 → forCache opcode ≡ true → awaited (s .asked) (record { edition = 0; opcode = opcode; exchange = s .asked .exchange; turn = s .asked .turn }) ≡ true → received page s (reply opcode) room ≡ takes page s opcode payload
+  replied : (opcode : ℕ) → opcode < 16 → forCache panelEdition opcode ≡ true → awaited (s .asked) (record { edition = panelEdition; opcode = opcode; exchange = s .asked .exchange; turn = s .asked .turn }) ≡ true → received page s (reply opcode) room ≡ takes page s opcode payload
   replied opcode small for a =
-      taken-as page s (reply opcode) room valid large (envelope-read opcode (s .asked .exchange) (s .asked .turn) small exchange-fits turn-fits payload) (omega (arith, short, length-append (envelopeOctets opcode (s .asked .exchange) (s .asked .turn)) payload, length-envelope opcode (s .asked .exchange) (s .asked .turn))) refl for a (sym (after-envelope opcode (s .asked .exchange) (s .asked .turn) payload))
+      taken-as page s (reply opcode) room valid large (envelope-read panelEdition opcode (s .asked .exchange) (s .asked .turn) (omega arith) small exchange-fits turn-fits payload) (omega (arith, short, length-append (envelopeOctets panelEdition opcode (s .asked .exchange) (s .asked .turn)) payload, length-envelope panelEdition opcode (s .asked .exchange) (s .asked .turn))) for a (sym (after-envelope panelEdition opcode (s .asked .exchange) (s .asked .turn) payload))
 
   pub report-received : s .asked .stage ≡ reading → received page s (reply reportOpcode) room ≡ takesPart page s payload
   unfolding takes forCache awaited opcodeAwaited isOpen
@@ -161,6 +161,6 @@ outcome-short o f =
     omega (arith, length-response (outcomeTree o ∷ []), length-append (spelling (outcomeTree o)) [], write-status-bound (o .endpoint) (o .cluster) (o .attribute) (p .endpoint-fits) (p .cluster-fits) (p .attribute-fits) (o .code) (f .code-fits))
 
 -- so a write ends with the status that the sign wrote, and nothing else changes
-pub write-ended : (page : List ℕ) (s : State) (room : ℕ) → panelRight page s ≡ true → maxMessage ≤ room → s .asked .turn < 2 ^ 16 → s .asked .stage ≡ writing → (o : Outcome) → OutcomeFits o → OfPath (s .asked) o → received page s (envelopeOctets writeResponseOpcode (s .asked .exchange) (s .asked .turn) ++ outcomesOctets (o ∷ [])) room ≡ unsent (endedBy s (o .code)) page
+pub write-ended : (page : List ℕ) (s : State) (room : ℕ) → panelRight page s ≡ true → maxMessage ≤ room → s .asked .turn < 2 ^ 16 → s .asked .stage ≡ writing → (o : Outcome) → OutcomeFits o → OfPath (s .asked) o → received page s (envelopeOctets panelEdition writeResponseOpcode (s .asked .exchange) (s .asked .turn) ++ outcomesOctets (o ∷ [])) room ≡ unsent (endedBy s (o .code)) page
 write-ended page s room valid large turn-fits e o f p =
     response-received page s room valid large turn-fits (outcomesOctets (o ∷ [])) (outcome-short o f) e ∙ ap (λ r. unsent r page) (answer-taken s o f p)

@@ -9,6 +9,7 @@ use Rattle.interaction.specs.Read.{readIn, readRead}
 use Rattle.interaction_write.specs.Write.{writeIn, writeRead}
 use Rattle.round_trip.specs.Meant.{readAnswer, writeAnswer}
 use Rattle.exchange.specs.Rules.{readOpcode, writeOpcode}
+use Rattle.interaction_writer.specs.Envelope.{panelEdition}
 use Rattle.envelope.specs.declared.Envelope.{Envelope}
 use Rattle.envelope.specs.declared.Envelope.the-variants.{Whole}
 use Rattle.envelope.specs.Envelope.{envelopeIn, envelopeLength}
@@ -21,17 +22,17 @@ pub record Sendable (c : Cached) : Type 0 where
   pub versions : (i : ℕ) → getD (c .versions) i 0 < 2 ^ 32
   pub clusters : c .«cluster_count» ≤ 32
 
-abbrev pub envelopeAs : ℕ → ℕ → ℕ → Envelope
-envelopeAs opcode exchange turn = Whole (record { edition = 0; opcode = opcode; exchange = exchange; turn = turn })
+abbrev pub envelopeAs : ℕ → ℕ → ℕ → ℕ → Envelope
+envelopeAs edition opcode exchange turn = Whole (record { edition = edition; opcode = opcode; exchange = exchange; turn = turn })
 
 -- a read begun: turn 0 of the next exchange, with no ground to refuse it, and the panel's filters
 pub record ReadBegun (s : State) (m : List ℕ) : Type 0 where
-  pub envelope : envelopeIn m ≡ envelopeAs readOpcode (s .asked .used + 1) 0
+  pub envelope : envelopeIn m ≡ envelopeAs panelEdition readOpcode (s .asked .used + 1) 0
   pub request : readRead (readIn (drop envelopeLength m)) ≡ readAnswer (filtersOf (s .held))
 
 -- a write begun: of one entry, and the value that stands at its place
 pub record WriteBegun (s : State) (given : Bool) (version endpoint cluster attribute : ℕ) (d : Datum) (m : List ℕ) : Type 0 where
   pub place : ℕ
-  pub envelope : envelopeIn m ≡ envelopeAs writeOpcode (s .asked .used + 1) 0
+  pub envelope : envelopeIn m ≡ envelopeAs panelEdition writeOpcode (s .asked .used + 1) 0
   pub request : writeRead (writeIn (drop envelopeLength m)) ≡ writeAnswer given version endpoint cluster attribute place
   pub value : datumIn (drop envelopeLength m) (valueIn (drop envelopeLength m) place) ≡ d

@@ -7,9 +7,9 @@ use native.Mathlib.Omega.{arith}
 use borrow.Author.Tests.{le-ltb}
 use lib.ListN.{length, getD, take, length-append}
 use lib.Seq.{take-suc, take-at}
-use Rattle.interaction_writer.specs.Envelope.{bigNumber, envelopeWord, envelopeOctets}
+use Rattle.interaction_writer.specs.Envelope.{bigNumber, exchangeLimit, envelopeWord, envelopeOctets}
 use Rattle.interaction_writer.proofs.EnvelopeLaws.{length-envelope, envelope-back}
-use Rattle.envelope.specs.Envelope.{fieldsOf, envelopeIn}
+use Rattle.envelope.specs.Envelope.{envelopeLength, fieldsOf, envelopeIn}
 use Rattle.envelope.specs.declared.Envelope.the-variants.{Whole}
 
 -- one byte more makes what stood before it 256 times as much
@@ -33,17 +33,17 @@ pub big-below : (s : List ℕ) (i v b : ℕ) → v < 256 ^ i → b < 256 → v *
 big-below s i v b l k = rw pow-suc (omega arith)
 
 -- THE LAW
-pub envelope-read : (opcode exchange turn : ℕ) → opcode < 16 → exchange < 2 ^ 40 → turn < 2 ^ 16 → (q : List ℕ) → envelopeIn (envelopeOctets opcode exchange turn ++ q) ≡ Whole (record { edition = 0; opcode = opcode; exchange = exchange; turn = turn })
+pub envelope-read : (edition opcode exchange turn : ℕ) → edition < 16 → opcode < 16 → exchange < exchangeLimit → turn < 2 ^ 16 → (q : List ℕ) → envelopeIn (envelopeOctets edition opcode exchange turn ++ q) ≡ Whole (record { edition = edition; opcode = opcode; exchange = exchange; turn = turn })
 unfolding envelopeIn fieldsOf envelopeWord
-envelope-read opcode exchange turn fo fx ft q =
-    let bs : List ℕ = envelopeOctets opcode exchange turn in
-    let n = length-envelope opcode exchange turn in
-    let l : 8 ≤ length (bs ++ q) = omega (arith, length-append bs q) in
-    let t : take 8 (bs ++ q) ≡ bs = take-at bs q 8 n in
-    let w : ℕ = envelopeWord opcode exchange turn in
-    let e0 : w / 2 ^ 60 ≡ 0 = omega arith in
+envelope-read edition opcode exchange turn fe fo fx ft q =
+    let bs : List ℕ = envelopeOctets edition opcode exchange turn in
+    let n = length-envelope edition opcode exchange turn in
+    let l : envelopeLength ≤ length (bs ++ q) = omega (arith, length-append bs q) in
+    let t : take envelopeLength (bs ++ q) ≡ bs = take-at bs q envelopeLength n in
+    let w : ℕ = envelopeWord edition opcode exchange turn in
+    let e0 : w / 2 ^ 60 ≡ edition = omega arith in
     let e1 : w / 2 ^ 56 % 2 ^ 4 ≡ opcode = omega arith in
-    let e2 : w / 2 ^ 16 % 2 ^ 40 ≡ exchange = omega arith in
+    let e2 : w / 2 ^ 16 % exchangeLimit ≡ exchange = omega arith in
     let e3 : w % 2 ^ 16 ≡ turn = omega arith in
-    rw (le-ltb (length (bs ++ q)) 8 l, t, envelope-back opcode exchange turn fo fx ft)
+    rw (le-ltb (length (bs ++ q)) envelopeLength l, t, envelope-back edition opcode exchange turn fe fo fx ft)
     (ap Whole (λ j. record { edition = e0 j; opcode = e1 j; exchange = e2 j; turn = e3 j }))

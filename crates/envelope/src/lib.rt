@@ -3,7 +3,8 @@ ghost use mathlib.Core.Path.{_≡_};
 ghost use Prim.Native.Nat.{_≤_};
 ghost use lib.ListN.{length, take};
 ghost use Rattle.interaction_writer.specs.Envelope.{bigNumber};
-ghost use Rattle.envelope.specs.Envelope.{fieldsOf, envelopeIn};
+ghost use Rattle.envelope.specs.Envelope.{envelopeLength, fieldsOf, envelopeIn};
+use interaction_writer::envelope::EXCHANGE_LIMIT;
 
 // How long an envelope is, and what a message may have.
 pub const LENGTH: usize = 8;
@@ -31,12 +32,12 @@ fn wide(x: u8) -> u64
 
 // The number in the first eight bytes, the most significant first.
 fn word(s: &[u8]) -> u64
-    requires { ⌜ 8 ≤ length (now s) ⌝ }
-    ensures { λ r. ⌜ r ≡ bigNumber (take 8 (now (s .entry))) ⌝ }
+    requires { ⌜ envelopeLength ≤ length (now s) ⌝ }
+    ensures { λ r. ⌜ r ≡ bigNumber (take envelopeLength (now (s .entry))) ⌝ }
 {
     let mut v: u64 = 0;
     let mut i: usize = 0;
-    while i < 8 {
+    while i < LENGTH {
         v = v * 256 + wide(s[i]);
         i += 1;
     }
@@ -49,7 +50,7 @@ fn fields_of(w: u64) -> Fields
     Fields {
         edition: w / 1152921504606846976,
         opcode: w / 72057594037927936 % 16,
-        exchange: w / 65536 % 1099511627776,
+        exchange: w / 65536 % EXCHANGE_LIMIT,
         turn: w % 65536,
     }
 }
@@ -58,7 +59,7 @@ fn fields_of(w: u64) -> Fields
 pub fn envelope_of(s: &[u8]) -> Envelope
     ensures { λ r. ⌜ r ≡ envelopeIn (now (s .entry)) ⌝ }
 {
-    if s.len() < 8 {
+    if s.len() < LENGTH {
         return Envelope::Short;
     }
     Envelope::Whole(fields_of(word(s)))

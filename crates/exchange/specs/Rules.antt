@@ -33,6 +33,10 @@ unfoldable pub forServer : ℕ → Bool
 unfolding beginning
 forServer opcode = eqb opcode statusOpcode || beginning opcode
 
+-- "the sign's reply number k has turn k": the turn of the first
+abbrev pub firstReply : ℕ
+firstReply = 1
+
 -- the highest turn of 16 bits
 abbrev pub maxTurn : ℕ
 maxTurn = 65535
@@ -42,7 +46,7 @@ unfoldable pub onRequest : Progress → ℕ → ℕ → Step
 onRequest x exchange turn =
     pick (eqb turn 0)
     (pick (ltb (x .last) exchange) Begin
-    (pick (eqb exchange (x .last) && (eqb (x .turn) 1 && eqb (x .closed) 0)) Repeat Silence))
+    (pick (eqb exchange (x .last) && (eqb (x .turn) firstReply && eqb (x .closed) 0)) Repeat Silence))
     Silence
 
 -- what a success for the newest reply brings: nothing, or the next part of a report, which was promised
@@ -58,7 +62,7 @@ onPromised k code = pick (eqb code 0) (pick (ltb k maxTurn) Next Silence) Close
 
 -- "success: turn k - 1 (at least 1) gets the kept reply again"
 abbrev pub onEarlier : ℕ → ℕ → ℕ → Step
-onEarlier k turn code = pick (eqb code 0 && (leb 1 turn && eqb (turn + 1) k)) Repeat Silence
+onEarlier k turn code = pick (eqb code 0 && (leb firstReply turn && eqb (turn + 1) k)) Repeat Silence
 
 -- a status with this code; "closed means silence"
 unfoldable pub onStatus : Progress → ℕ → ℕ → ℕ → Step

@@ -13,6 +13,9 @@ pub const WRITE: u64 = 6;
 
 pub const WRITE_RESPONSE: u64 = 7;
 
+// The turn of the first reply.
+pub const FIRST_REPLY: u64 = 1;
+
 // The highest turn of 16 bits.
 pub const MAX_TURN: u64 = 65_535;
 
@@ -75,7 +78,7 @@ pub fn on_request(x: Progress, exchange: u64, turn: u64) -> Step
     if exchange != x.last {
         return Step::Silence;
     }
-    if x.turn != 1 {
+    if x.turn != FIRST_REPLY {
         return Step::Silence;
     }
     if x.closed != 0 {
@@ -104,7 +107,7 @@ fn on_earlier(k: u64, turn: u64, code: u64) -> Step
     if code != 0 {
         return Step::Silence;
     }
-    if turn < 1 {
+    if turn < FIRST_REPLY {
         return Step::Silence;
     }
     if turn >= k {

@@ -8,28 +8,27 @@ use lib.Arith.{mod-mul}
 use lib.ListN.{length}
 use Rattle.octets.specs.Store.{Stored}
 use Rattle.octets.proofs.StoreLaws.{then}
-use Rattle.interaction_writer.specs.Envelope.{bigOctets, bigNumber, envelopeWord, envelopeOctets}
+use Rattle.interaction_writer.specs.Envelope.{bigOctets, bigNumber, envelopeLength, exchangeLimit, envelopeWord, envelopeOctets}
 
 -- the octets as the code stores them
-envelope-is : (opcode exchange turn w : ℕ) → w ≡ (opcode * 1099511627776 + exchange) * 65536 + turn → envelopeOctets opcode exchange turn ≡ (w / 72057594037927936 % 256) ∷ (w / 281474976710656 % 256) ∷ (w / 1099511627776 % 256) ∷ (w / 4294967296 % 256) ∷ (w / 16777216 % 256) ∷ (w / 65536 % 256) ∷ (w / 256 % 256) ∷ (w % 256) ∷ []
+envelope-is : (edition opcode exchange turn w : ℕ) → w ≡ ((edition * 16 + opcode) * 1099511627776 + exchange) * 65536 + turn → envelopeOctets edition opcode exchange turn ≡ (w / 72057594037927936 % 256) ∷ (w / 281474976710656 % 256) ∷ (w / 1099511627776 % 256) ∷ (w / 4294967296 % 256) ∷ (w / 16777216 % 256) ∷ (w / 65536 % 256) ∷ (w / 256 % 256) ∷ (w % 256) ∷ []
 unfolding envelopeOctets envelopeWord bigOctets
-envelope-is opcode exchange turn w e =
-    let z : 0 + opcode ≡ opcode = omega arith in
+envelope-is edition opcode exchange turn w e =
     let o : w / 1 ≡ w = omega arith in
-    rw (z, ← e, o) refl
+    rw (← e, o) refl
 
 -- and as it stores them, two at a time
-pub envelope-stored : {o : List ℕ} {at : ℕ} {o₁ : List ℕ} {p : ℕ} {o₂ : List ℕ} {q : ℕ} {o₃ : List ℕ} {r : ℕ} {o₄ : List ℕ} {s : ℕ} (opcode exchange turn w : ℕ) → w ≡ (opcode * 1099511627776 + exchange) * 65536 + turn → Stored o at ((w / 72057594037927936 % 256) ∷ (w / 281474976710656 % 256) ∷ []) o₁ p → Stored o₁ p ((w / 1099511627776 % 256) ∷ (w / 4294967296 % 256) ∷ []) o₂ q → Stored o₂ q ((w / 16777216 % 256) ∷ (w / 65536 % 256) ∷ []) o₃ r → Stored o₃ r ((w / 256 % 256) ∷ (w % 256) ∷ []) o₄ s → Stored o at (envelopeOctets opcode exchange turn) o₄ s
-envelope-stored opcode exchange turn w e x y z u = rw (envelope-is opcode exchange turn w e) (then x (then y (then z u)))
+pub envelope-stored : {o : List ℕ} {at : ℕ} {o₁ : List ℕ} {p : ℕ} {o₂ : List ℕ} {q : ℕ} {o₃ : List ℕ} {r : ℕ} {o₄ : List ℕ} {s : ℕ} (edition opcode exchange turn w : ℕ) → w ≡ ((edition * 16 + opcode) * 1099511627776 + exchange) * 65536 + turn → Stored o at ((w / 72057594037927936 % 256) ∷ (w / 281474976710656 % 256) ∷ []) o₁ p → Stored o₁ p ((w / 1099511627776 % 256) ∷ (w / 4294967296 % 256) ∷ []) o₂ q → Stored o₂ q ((w / 16777216 % 256) ∷ (w / 65536 % 256) ∷ []) o₃ r → Stored o₃ r ((w / 256 % 256) ∷ (w % 256) ∷ []) o₄ s → Stored o at (envelopeOctets edition opcode exchange turn) o₄ s
+envelope-stored edition opcode exchange turn w e x y z u = rw (envelope-is edition opcode exchange turn w e) (then x (then y (then z u)))
 
 pub length-big : (w n : ℕ) → length (bigOctets w n) ≡ w
 unfolding bigOctets
 length-big zero n = refl
 length-big (suc w) n = ap suc (length-big w n)
 
-pub length-envelope : (opcode exchange turn : ℕ) → length (envelopeOctets opcode exchange turn) ≡ 8
+pub length-envelope : (edition opcode exchange turn : ℕ) → length (envelopeOctets edition opcode exchange turn) ≡ envelopeLength
 unfolding envelopeOctets
-length-envelope opcode exchange turn = length-big 8 (envelopeWord opcode exchange turn)
+length-envelope edition opcode exchange turn = length-big envelopeLength (envelopeWord edition opcode exchange turn)
 
 -- octets, most significant first, are the number's low octets
 pub big-back : (w n : ℕ) → bigNumber (bigOctets w n) ≡ n % 256 ^ w
@@ -39,12 +38,8 @@ big-back (suc w) n =
     let e : n % (256 * 256 ^ w) ≡ (n / 256 ^ w % 256) * 256 ^ w + n % 256 ^ w = mod-mul n (omega arith) (one-le-pow w 256 (omega arith)) in
     rw (length-big w n, big-back w n, pow-suc, mul-comm (256 ^ w) 256) (sym e)
 
--- THE ENVELOPE, read back: its number, and the fields in it, edition 0 above
-module _ (opcode exchange turn : ℕ) (fo : opcode < 16) (fx : exchange < 2 ^ 40) (ft : turn < 2 ^ 16) where
-  pub envelope-back : bigNumber (envelopeOctets opcode exchange turn) ≡ envelopeWord opcode exchange turn
+-- THE ENVELOPE, read back: its number, and the fields in it
+module _ (edition opcode exchange turn : ℕ) (fe : edition < 16) (fo : opcode < 16) (fx : exchange < exchangeLimit) (ft : turn < 2 ^ 16) where
+  pub envelope-back : bigNumber (envelopeOctets edition opcode exchange turn) ≡ envelopeWord edition opcode exchange turn
   unfolding envelopeOctets envelopeWord
-  envelope-back = big-back 8 (envelopeWord opcode exchange turn) ∙ mod-eq-of-lt (omega arith)
-
-  pub envelope-fields : (envelopeWord opcode exchange turn / 2 ^ 56 ≡ opcode) × ((envelopeWord opcode exchange turn / 2 ^ 16 % 2 ^ 40 ≡ exchange) × (envelopeWord opcode exchange turn % 2 ^ 16 ≡ turn))
-  unfolding envelopeWord
-  envelope-fields = (omega arith, (omega arith, omega arith))
+  envelope-back = big-back envelopeLength (envelopeWord edition opcode exchange turn) ∙ mod-eq-of-lt (omega arith)

@@ -10,13 +10,13 @@ use Rattle.tlv.specs.Tree.Tree.{primitive}
 use Rattle.tlv.specs.Value.{Datum}
 use Rattle.tlv_writer.specs.Width.{leastOf, leastWidth, leastSignedWidth, twos, widthCode}
 use Rattle.tlv_writer.specs.Element.{formOf, labelOf, headFor, unsignedOctets, signedOctets, booleanOctets, openOctets, datumOctets}
-use Rattle.interaction_writer.specs.Envelope.{bigOctets, envelopeWord, envelopeOctets}
+use Rattle.interaction_writer.specs.Envelope.{bigOctets, panelEdition, envelopeWord, envelopeOctets}
 use Rattle.interaction_writer.specs.Spelling.{writerTag, spelling, members, primitiveD}
 use Rattle.interaction_writer.specs.Block.{pathTree, dataMembers, dataBlockTree, statusTree, answerMembers, answerTree, statusBlockTree}
 use Rattle.interaction_writer.specs.Message.{messageTree, revision, statusMembers, reportEnding, reportMembers, responseMembers}
 
 -- S1: the reply, envelope and payload
-pub s1 : envelopeOctets 5 7 1 ++ spelling (messageTree (reportMembers (dataBlockTree 5 1 6 0 (Datum.boolean true) ∷ []) false)) ≡ 0x05 ∷ 0 ∷ 0 ∷ 0 ∷ 0 ∷ 0x07 ∷ 0 ∷ 0x01 ∷ 0x15 ∷ 0x36 ∷ 0x01 ∷ 0x15 ∷ 0x35 ∷ 0x01 ∷ 0x24 ∷ 0 ∷ 0x05 ∷ 0x37 ∷ 0x01 ∷ 0x24 ∷ 0x02 ∷ 0x01 ∷ 0x24 ∷ 0x03 ∷ 0x06 ∷ 0x24 ∷ 0x04 ∷ 0 ∷ 0x18 ∷ 0x29 ∷ 0x02 ∷ 0x18 ∷ 0x18 ∷ 0x18 ∷ 0x29 ∷ 0x04 ∷ 0x24 ∷ 0xff ∷ 0x0a ∷ 0x18 ∷ []
+pub s1 : envelopeOctets panelEdition 5 7 1 ++ spelling (messageTree (reportMembers (dataBlockTree 5 1 6 0 (Datum.boolean true) ∷ []) false)) ≡ 0x05 ∷ 0 ∷ 0 ∷ 0 ∷ 0 ∷ 0x07 ∷ 0 ∷ 0x01 ∷ 0x15 ∷ 0x36 ∷ 0x01 ∷ 0x15 ∷ 0x35 ∷ 0x01 ∷ 0x24 ∷ 0 ∷ 0x05 ∷ 0x37 ∷ 0x01 ∷ 0x24 ∷ 0x02 ∷ 0x01 ∷ 0x24 ∷ 0x03 ∷ 0x06 ∷ 0x24 ∷ 0x04 ∷ 0 ∷ 0x18 ∷ 0x29 ∷ 0x02 ∷ 0x18 ∷ 0x18 ∷ 0x18 ∷ 0x29 ∷ 0x04 ∷ 0x24 ∷ 0xff ∷ 0x0a ∷ 0x18 ∷ []
 unfolding envelopeOctets envelopeWord bigOctets spelling members writerTag primitiveD dataBlockTree dataMembers pathTree reportMembers reportEnding revision datumOctets unsignedOctets booleanOctets openOctets headFor headOctets bytesOf tagWidth numberWidth formOf labelOf leastWidth leastOf widthCode
 s1 = refl
 

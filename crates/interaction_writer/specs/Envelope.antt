@@ -13,12 +13,21 @@ unfoldable pub bigNumber : List ℕ → ℕ
 bigNumber [] = 0
 bigNumber (b ∷ l) = b * 256 ^ length l + bigNumber l
 
-abbrev pub edition : ℕ
-edition = 0
+-- "Eight bytes"
+abbrev pub envelopeLength : ℕ
+envelopeLength = 8
+
+-- "edition 4 bits (0)": that of the exchanges that a panel begins, and there are no others
+abbrev pub panelEdition : ℕ
+panelEdition = 0
+
+-- how many exchange numbers there are: they have 40 bits
+abbrev pub exchangeLimit : ℕ
+exchangeLimit = 2 ^ 40
 
 -- edition 4 bits, opcode 4, exchange 40, turn 16
-unfoldable pub envelopeWord : ℕ → ℕ → ℕ → ℕ
-envelopeWord opcode exchange turn = ((edition * 2 ^ 4 + opcode) * 2 ^ 40 + exchange) * 2 ^ 16 + turn
+unfoldable pub envelopeWord : ℕ → ℕ → ℕ → ℕ → ℕ
+envelopeWord edition opcode exchange turn = ((edition * 2 ^ 4 + opcode) * exchangeLimit + exchange) * 2 ^ 16 + turn
 
-unfoldable pub envelopeOctets : ℕ → ℕ → ℕ → List ℕ
-envelopeOctets opcode exchange turn = bigOctets 8 (envelopeWord opcode exchange turn)
+unfoldable pub envelopeOctets : ℕ → ℕ → ℕ → ℕ → List ℕ
+envelopeOctets edition opcode exchange turn = bigOctets envelopeLength (envelopeWord edition opcode exchange turn)

@@ -1,16 +1,30 @@
 // The envelope of a message.
-ghost use Prim.Native.Nat.{_+_, _^_, _≤_, _<_};
+ghost use Prim.Native.Nat.{_+_, _≤_, _<_};
 ghost use lib.ListN.{length};
 ghost use Rattle.octets.specs.Store.{Stored};
-ghost use Rattle.interaction_writer.specs.Envelope.{envelopeOctets};
+ghost use Rattle.interaction_writer.specs.Envelope.{envelopeLength, exchangeLimit, envelopeOctets};
 use octets::put2;
 
-// Edition 0, opcode, exchange and turn, most significant byte first.
-pub fn put_envelope(b: &mut [u8], at: usize, opcode: u8, exchange: u64, turn: u16) -> usize
-    requires { ⌜ (opcode < 16) × ((exchange < 2 ^ 40) × (at + 8 ≤ length (now b))) ⌝ }
-    ensures { λ r. ⌜ Stored (now (b .entry)) at (envelopeOctets opcode exchange turn) (now (b .exit)) r ⌝ }
+// The edition of the exchanges that a panel begins: there are no others.
+pub const PANEL_EDITION: u8 = 0;
+
+// How many exchange numbers there are: they have 40 bits.
+pub const EXCHANGE_LIMIT: u64 = 1_099_511_627_776;
+
+// Edition, opcode, exchange and turn, most significant byte first.
+pub fn put_envelope(
+    b: &mut [u8],
+    at: usize,
+    edition: u8,
+    opcode: u8,
+    exchange: u64,
+    turn: u16,
+) -> usize
+    requires { ⌜ (edition < 16) × ((opcode < 16) × ((exchange < exchangeLimit) × (at + envelopeLength ≤ length (now b)))) ⌝ }
+    ensures { λ r. ⌜ Stored (now (b .entry)) at (envelopeOctets edition opcode exchange turn) (now (b .exit)) r ⌝ }
 {
-    let word = ((opcode as u64) * 1099511627776 + exchange) * 65536 + turn as u64;
+    let kind = (edition as u64) * 16 + opcode as u64;
+    let word = (kind * EXCHANGE_LIMIT + exchange) * 65536 + turn as u64;
     let p = put2(
         b,
         at,

@@ -13,7 +13,7 @@ use Rattle.tlv.proofs.Picks.{pick-elim}
 use Rattle.blocks.proofs.BlockLaws.{never}
 use Rattle.schema.specs.Rules.{Rules}
 use Rattle.schema.proofs.BoolLaws.{left, right, by-test}
-use Rattle.interaction_writer.specs.Envelope.{envelopeOctets}
+use Rattle.interaction_writer.specs.Envelope.{envelopeOctets, panelEdition, exchangeLimit}
 use Rattle.round_trip.specs.Meant.{Outcome, OutcomeFits, outcomesOctets}
 use Rattle.exchange.specs.Rules.{writeResponseOpcode}
 use Rattle.envelope.specs.Envelope.{maxMessage}
@@ -44,15 +44,15 @@ module _ (w : List ℕ) (rules : Rules w) where
     refused : (n : ℕ) → (n ≡ 6 → ⊥) → (n ≡ 7 → ⊥) → Takes w sent sys (refusal n s page) sys
     refused n six seven = record { panel = panel; told = inl (refl, refl); never-6 = six; never-7 = seven }
 
-    pub not-awaited : (opcode x turn : ℕ) → opcode < 16 → x < 2 ^ 40 → turn < 2 ^ 16 → (payload : List ℕ)
-        → awaited (s .asked) (record { edition = 0; opcode = opcode; exchange = x; turn = turn }) ≡ false
-        → (room : ℕ) → maxMessage ≤ room → Takes w sent sys (received page s (envelopeOctets opcode x turn ++ payload) room) sys
+    pub not-awaited : (opcode x turn : ℕ) → opcode < 16 → x < exchangeLimit → turn < 2 ^ 16 → (payload : List ℕ)
+        → awaited (s .asked) (record { edition = panelEdition; opcode = opcode; exchange = x; turn = turn }) ≡ false
+        → (room : ℕ) → maxMessage ≤ room → Takes w sent sys (received page s (envelopeOctets panelEdition opcode x turn ++ payload) room) sys
     unfolding received
     not-awaited opcode x turn fo fx ft payload a room l =
-        let m : List ℕ = envelopeOctets opcode x turn ++ payload in
+        let m : List ℕ = envelopeOctets panelEdition opcode x turn ++ payload in
         let P : Reaction → Type 0 = λ r. Takes w sent sys r sys in
-        rw (valid-right page s (panel .valid), le-ltb room maxMessage l, envelope-read opcode x turn fo fx ft payload, a)
-        (pick-elim P (leb (length m) maxMessage && (eqb 0 0 && forCache opcode)) _ _ (λ _. refused 5 (λ e. omega (arith, e)) (λ e. omega (arith, e))) (λ _. refused 4 (λ e. omega (arith, e)) (λ e. omega (arith, e))))
+        rw (valid-right page s (panel .valid), le-ltb room maxMessage l, envelope-read panelEdition opcode x turn (omega arith) fo fx ft payload, a)
+        (pick-elim P (leb (length m) maxMessage && forCache panelEdition opcode) _ _ (λ _. refused 5 (λ e. omega (arith, e)) (λ e. omega (arith, e))) (λ _. refused 4 (λ e. omega (arith, e)) (λ e. omega (arith, e))))
 
     -- THE ANSWER TO A WRITE
     ended : (code : ℕ) → Holds (unsent (endedBy s code) page) → s .asked .stage ≡ writing → Takes w sent sys (unsent (endedBy s code) page) sys
@@ -75,20 +75,20 @@ module _ (w : List ℕ) (rules : Rules w) where
       never-7 = λ z. omega (arith, z);
     }
 
-    module _ (x : ℕ) (o : Outcome) (fx : x < 2 ^ 40) (fits : OutcomeFits o) (wrote : Wrote sent x (o .endpoint) (o .cluster) (o .attribute)) (room : ℕ) (l : maxMessage ≤ room) where
+    module _ (x : ℕ) (o : Outcome) (fx : x < exchangeLimit) (fits : OutcomeFits o) (wrote : Wrote sent x (o .endpoint) (o .cluster) (o .attribute)) (room : ℕ) (l : maxMessage ≤ room) where
       own : s .asked .stage ≡ writing → s .asked .exchange ≡ x → s .asked .turn ≡ 1 → Takes w sent sys (received page s (answerBytes x o) room) sys
       unfolding answerBytes
       own e q t =
           let paths = panel .writing-is e .own (o .endpoint) (o .cluster) (o .attribute) (subst (λ (n : ℕ). Wrote sent n (o .endpoint) (o .cluster) (o .attribute)) (sym q) wrote) in
           let is : received page s (answerBytes x o) room ≡ unsent (endedBy s (o .code)) page =
-          sym (λ i. received page s (envelopeOctets writeResponseOpcode (q i) (t i) ++ outcomesOctets (o ∷ [])) room)
+          sym (λ i. received page s (envelopeOctets panelEdition writeResponseOpcode (q i) (t i) ++ outcomesOctets (o ∷ [])) room)
           ∙ write-ended page s room (valid-right page s (panel .valid)) l (panel .turn-fits) e o fits (record { same-endpoint = paths .0; same-cluster = paths .1; same-attribute = paths .2 }) in
           subst (λ (r : Reaction). Takes w sent sys r sys) (sym is)
           (ended (o .code) (subst Holds is (received-kept page s (panel .valid) (answerBytes x o) room)) e)
 
       pub answer-taken : Takes w sent sys (received page s (answerBytes x o) room) sys
       unfolding answerBytes awaited opcodeAwaited
-      answer-taken = by-test (awaited (s .asked) (record { edition = 0; opcode = writeResponseOpcode; exchange = x; turn = 1 }))
+      answer-taken = by-test (awaited (s .asked) (record { edition = panelEdition; opcode = writeResponseOpcode; exchange = x; turn = 1 }))
           (λ t. let a = right (isOpen (s .asked .stage)) _ t in
           let b = right (eqb x (s .asked .exchange)) _ a in
           own (eqb-true _ _ (right (eqb 1 (s .asked .turn)) _ b)) (sym (eqb-true _ _ (left _ _ a))) (sym (eqb-true _ _ (left _ _ b))))

@@ -31,6 +31,7 @@ use Rattle.protocol.specs.Model.{Filter, Message, read, write, exchangeOf, Cach
 use Rattle.refinement.proofs.Terms.{filtersAs}
 use Rattle.refinement.proofs.Bytes.{MessageAs, reads, writes, WriteFits}
 use Rattle.refinement.proofs.Panel.{Writing, PanelAs}
+use Rattle.interaction_writer.specs.Envelope.{panelEdition, exchangeLimit}
 use Rattle.panel_steps.proofs.Reactions.{Still, Begins}
 use Rattle.panel_steps.proofs.FilterLaws.{filters-for}
 use Rattle.panel_steps.proofs.WriteLaws.{own-path}
@@ -60,12 +61,12 @@ module _ (w : List ℕ) (rules : Rules w) where
     refused : (P : Reaction → Type 0) (n : ℕ) → (n ≡ 0 → ⊥) → Unless P (refusal n s page)
     refused P n h = inl (record { state = refl; page-is = refl; reply = refl }, h)
 
-    begun : (P : Reaction → Type 0) (room : ℕ) (next : Reaction) → (s .asked .used + 1 < 2 ^ 40 → Holds next → Unless P next) → Holds (beginning page s room next) → Unless P (beginning page s room next)
+    begun : (P : Reaction → Type 0) (room : ℕ) (next : Reaction) → (s .asked .used + 1 < exchangeLimit → Holds next → Unless P next) → Holds (beginning page s room next) → Unless P (beginning page s room next)
     begun P room next goes =
         let Q : Reaction → Type 0 = λ x. Holds x → Unless P x in
         pick-elim Q (panelRight page s) _ _
         (λ _. pick-elim Q (ltb room maxMessage) _ _ (λ _ _. refused P 3 (λ e. omega (arith, e)))
-        (λ _. pick-elim Q (ltb (s .asked .used) (2 ^ 40 - 1)) _ _ (λ t. goes (omega (arith, ltb-true (s .asked .used) (2 ^ 40 - 1) t))) (λ _ _. refused P 8 (λ e. omega (arith, e)))))
+        (λ _. pick-elim Q (ltb (s .asked .used) (exchangeLimit - 1)) _ _ (λ t. goes (omega (arith, ltb-true (s .asked .used) (exchangeLimit - 1) t))) (λ _ _. refused P 8 (λ e. omega (arith, e)))))
         (λ _ _. refused P 2 (λ e. omega (arith, e)))
 
     next-exchange : suc (sys .cache .exchange) ≡ s .asked .used + 1
@@ -103,11 +104,11 @@ module _ (w : List ℕ) (rules : Rules w) where
     abbrev ReadBegun : Reaction → Type 0
     ReadBegun x = Begins w old x (read (suc (sys .cache .exchange)) fs) (cacheWith true fs) × FiltersFor (sys .cache) fs
 
-    read-sent : s .asked .used + 1 < 2 ^ 40 → let next = sent page s reading 0 0 0 (readMessage (s .asked .used + 1) (filtersOf (s .held))) in Holds next → ReadBegun next
+    read-sent : s .asked .used + 1 < exchangeLimit → let next = sent page s reading 0 0 0 (readMessage panelEdition (s .asked .used + 1) (filtersOf (s .held))) in Holds next → ReadBegun next
     read-sent u v = (
       record {
         number = refl;
-        panel = asked-panel reading 0 0 0 (readMessage (s .asked .used + 1) (filtersOf (s .held))) fs v (λ e. absurd (omega (arith, e)));
+        panel = asked-panel reading 0 0 0 (readMessage panelEdition (s .asked .used + 1) (filtersOf (s .held))) fs v (λ e. absurd (omega (arith, e)));
         message = reads (s .asked .used + 1) (filtersOf (s .held)) refl (ap (λ (x : ℕ). read x fs) next-exchange) u (filters-fit (s .held) (panel .held .versions-fit)) (omega (arith, filters-few (s .held), panel .valid .held .right .few-clusters));
       },
       filters-for w rules old page s (sys .cache) panel,
@@ -124,9 +125,9 @@ module _ (w : List ℕ) (rules : Rules w) where
       WriteBegun x = Begins w old x (write (suc (sys .cache .exchange))) (cacheWith false [])
 
       abbrev message : List ℕ
-      message = writeMessage (s .asked .used + 1) given version e c a (datumIn src v)
+      message = writeMessage panelEdition (s .asked .used + 1) given version e c a (datumIn src v)
 
-      write-sent : sendable src v ≡ true → s .asked .used + 1 < 2 ^ 40 → Holds (sent page s writing e c a message) → WriteBegun (sent page s writing e c a message)
+      write-sent : sendable src v ≡ true → s .asked .used + 1 < exchangeLimit → Holds (sent page s writing e c a message) → WriteBegun (sent page s writing e c a message)
       unfolding askedAs keeping
       write-sent t u h =
           let fits : WriteFits version e c a (datumIn src v) = record { version-fits = fv; path = p; writable = q; takable = takable src v t } in

@@ -13,7 +13,7 @@ use Rattle.tlv.specs.Value.{Datum}
 use Rattle.blocks.proofs.BlockLaws.{never}
 use Rattle.schema.specs.Rules.{Rules}
 use Rattle.schema.proofs.BoolLaws.{both, left, right, by-test, same}
-use Rattle.interaction_writer.specs.Envelope.{envelopeOctets}
+use Rattle.interaction_writer.specs.Envelope.{envelopeOctets, panelEdition}
 use Rattle.exchange.specs.Rules.{reportOpcode, maxTurn}
 use Rattle.envelope.specs.declared.Fields.{Fields}
 use Rattle.envelope.specs.Envelope.{maxMessage}
@@ -66,7 +66,7 @@ module _ (w : List ℕ) (rules : Rules w) where
         taken : received page s (partBytes w p) room ≡ pick (p .more) (goesOn held (s .asked) texts) (ends held (s .asked) texts)
         unfolding partBytes
         taken =
-            sym (λ i. received page s (envelopeOctets reportOpcode (q i) (t i) ++ payload) room)
+            sym (λ i. received page s (envelopeOctets panelEdition reportOpcode (q i) (t i) ++ payload) room)
             ∙ ReceivedLaws.report-received page s room (valid-right page s (panel .valid)) large (panel .turn-fits) payload (sound .short) e
             ∙ ReceivedLaws.part-taken (map (blockAs w) (p .entries)) (p .more) (each-sent w rules (p .entries) (sound .entries)) page s (λ m z. omega (arith, turns m, t, z)) (law .0)
 
@@ -91,10 +91,10 @@ module _ (w : List ℕ) (rules : Rules w) where
         }
           where
             message : List ℕ
-            message = successMessage (s .asked .exchange) (s .asked .turn)
+            message = successMessage panelEdition (s .asked .exchange) (s .asked .turn)
 
             sized : Sized message
-            sized = success-sized (s .asked .exchange) (s .asked .turn)
+            sized = success-sized panelEdition (s .asked .exchange) (s .asked .turn)
 
         last : p .more ≡ false → Holds (ends held (s .asked) texts) → Takes w sent sys (ends held (s .asked) texts) (accept sys p)
         unfolding accept endedAs isOpen primedAs
@@ -127,7 +127,7 @@ module _ (w : List ℕ) (rules : Rules w) where
 
       -- awaited by the panel exactly if in the protocol
       abbrev fields : Fields
-      fields = record { edition = 0; opcode = reportOpcode; exchange = p .exchange; turn = p .turn }
+      fields = record { edition = panelEdition; opcode = reportOpcode; exchange = p .exchange; turn = p .turn }
 
       to-own : Receive.awaited (s .asked) fields ≡ true → (s .asked .stage ≡ reading) × (s .asked .exchange ≡ p .exchange) × (s .asked .turn ≡ p .turn)
       unfolding Receive.awaited opcodeAwaited

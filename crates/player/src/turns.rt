@@ -1,6 +1,7 @@
 // What a line leaves behind: the ends after it, and the newest messages.
 use super::ends::Played;
 use super::ends::Player;
+use cache::begin::LAST_EXCHANGE;
 use envelope::MAX_MESSAGE;
 use script::Scan;
 use script::is_done;
@@ -11,9 +12,6 @@ use script_answer::quietly;
 use script_panel::Acted;
 use script_setup::access::Given;
 use script_sign::Replied;
-
-// The last exchange number of 40 bits.
-const LAST_EXCHANGE: u64 = 1_099_511_627_775;
 
 pub fn wrong(player: Player, fault: u8) -> Played {
     Played {

@@ -32,6 +32,7 @@ use Rattle.refinement.proofs.Bytes.{MessageAs, partBytes, ReplyAs, silent, repo
 use Rattle.refinement.proofs.Sign.{Serves}
 use Rattle.panel_steps.proofs.Reactions.{Still, Begins, Takes}
 use Rattle.panel_steps.proofs.BeginLaws.{read-begins}
+use Rattle.interaction_writer.specs.Envelope.{panelEdition}
 use Rattle.promises.specs.World.{Plan, World, Start, subjectOf, granted, with, afterSign, afterPanel, answered}
 use Rattle.promises.specs.Runs.{hears, gets, Run, none, then, Reach, Calm, Heard, Got}
 use Rattle.promises.specs.Claims.{In, Complete, Possible}
@@ -273,7 +274,7 @@ module _ (p : Plan) (b : Start p) where
             (omega (arith, reach-inv (node p b) follows .sent r j .begun, reach-open (node p b) follows .last))
         go (answer n o e fn fo wrote) =
             subst Below (sym (ap envelopeIn e ∙ answer-envelope n o fn))
-            (subst Below (write-envelope n (wrote .given) (wrote .version) (o .endpoint) (o .cluster) (o .attribute) (wrote .value) fn) (request-below _ (wrote .there)))
+            (subst Below (write-envelope panelEdition n (wrote .given) (wrote .version) (o .endpoint) (o .cluster) (o .attribute) (wrote .value) (omega arith) fn) (request-below _ (wrote .there)))
 
     not-new : (n : ℕ) (e : Envelope) → Below e → claims.exchangeOf e ≡ just n → s .cache .exchange < n → ⊥
     not-new n Short h q l = nothing-just n q

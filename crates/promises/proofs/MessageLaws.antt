@@ -17,13 +17,14 @@ use Rattle.envelope.specs.declared.Envelope.{Envelope}
 use Rattle.envelope.specs.declared.Envelope.the-variants.{Whole, Short}
 use Rattle.envelope.specs.Envelope.{envelopeIn}
 use Rattle.envelope.proofs.BigLaws.{envelope-read}
-use Rattle.exchange.specs.Rules.{readOpcode, reportOpcode, writeOpcode, writeResponseOpcode}
+use Rattle.exchange.specs.Rules.{readOpcode, reportOpcode, writeOpcode, writeResponseOpcode, firstReply}
 use Rattle.cache_request.specs.Messages.{readMessage}
 use Rattle.cache_trip.specs.Begun.{envelopeAs}
 use Rattle.cache_trip.proofs.BeginLaws.{after-envelope, read-envelope, write-envelope, success-envelope}
 use Rattle.protocol.specs.Model.{Message, read, write, success, Part, exchangeOf}
 use Rattle.refinement.proofs.Terms.{filtersAs}
 use Rattle.refinement.proofs.Bytes.{MessageAs, reads, writes, succeeds, partPayload, partBytes, PartRight, answerBytes}
+use Rattle.interaction_writer.specs.Envelope.{envelopeLength, panelEdition, exchangeLimit}
 
 abbrev filtersIn : Opt Read → List Wanted
 filtersIn nothing = []
@@ -37,18 +38,18 @@ byEnvelope w q (Whole f) =
 
 -- WHAT A MESSAGE OF THE PANEL IS, from its bytes
 unfoldable meaning : List ℕ → List ℕ → Message
-meaning w m = byEnvelope w (drop 8 m) (envelopeIn m)
+meaning w m = byEnvelope w (drop envelopeLength m) (envelopeIn m)
 
 meant : (w m : List ℕ) (u : Message) → MessageAs w m u → u ≡ meaning w m
 unfolding meaning readMessage
 meant w m u (reads x fs em eu fx fit few) =
-    eu ∙ ap (λ (o : Opt Read). read x (filtersAs w (filtersIn o))) (sym filters) ∙ ap (byEnvelope w (drop 8 m)) (sym (ap envelopeIn em ∙ read-envelope x fs fx))
+    eu ∙ ap (λ (o : Opt Read). read x (filtersAs w (filtersIn o))) (sym filters) ∙ ap (byEnvelope w (drop envelopeLength m)) (sym (ap envelopeIn em ∙ read-envelope panelEdition x fs (omega arith) fx))
   where
-    filters : readIn (drop 8 m) ≡ just (readMeans fs)
-    filters = ap (λ (l : List ℕ). readIn (drop 8 l)) em ∙ ap readIn (after-envelope readOpcode x 0 (readOctets fs)) ∙ read-back fs fit
+    filters : readIn (drop envelopeLength m) ≡ just (readMeans fs)
+    filters = ap (λ (l : List ℕ). readIn (drop envelopeLength l)) em ∙ ap readIn (after-envelope panelEdition readOpcode x 0 (readOctets fs)) ∙ read-back fs fit
 meant w m u (writes x given version e c a d em eu fx fit) =
-    eu ∙ ap (byEnvelope w (drop 8 m)) (sym (ap envelopeIn em ∙ write-envelope x given version e c a d fx))
-meant w m u (succeeds x turn em eu fx ft) = eu ∙ ap (byEnvelope w (drop 8 m)) (sym (ap envelopeIn em ∙ success-envelope x turn fx ft))
+    eu ∙ ap (byEnvelope w (drop envelopeLength m)) (sym (ap envelopeIn em ∙ write-envelope panelEdition x given version e c a d (omega arith) fx))
+meant w m u (succeeds x turn em eu fx ft) = eu ∙ ap (byEnvelope w (drop envelopeLength m)) (sym (ap envelopeIn em ∙ success-envelope panelEdition x turn (omega arith) fx ft))
 
 pub message-one : (w m : List ℕ) (u u′ : Message) → MessageAs w m u → MessageAs w m u′ → u ≡ u′
 message-one w m u u′ a b = meant w m u a ∙ sym (meant w m u′ b)
@@ -59,17 +60,17 @@ InExchange x Short = ⊥
 InExchange x (Whole f) = f .exchange ≡ x
 
 pub message-in : (w m : List ℕ) (u : Message) → MessageAs w m u → InExchange (exchangeOf u) (envelopeIn m)
-message-in w m u (reads x fs em eu fx fit few) = subst (InExchange (exchangeOf u)) (sym (ap envelopeIn em ∙ read-envelope x fs fx)) (ap exchangeOf (sym eu))
+message-in w m u (reads x fs em eu fx fit few) = subst (InExchange (exchangeOf u)) (sym (ap envelopeIn em ∙ read-envelope panelEdition x fs (omega arith) fx)) (ap exchangeOf (sym eu))
 message-in w m u (writes x given version e c a d em eu fx fit) =
-    subst (InExchange (exchangeOf u)) (sym (ap envelopeIn em ∙ write-envelope x given version e c a d fx)) (ap exchangeOf (sym eu))
+    subst (InExchange (exchangeOf u)) (sym (ap envelopeIn em ∙ write-envelope panelEdition x given version e c a d (omega arith) fx)) (ap exchangeOf (sym eu))
 message-in w m u (succeeds x turn em eu fx ft) =
-    subst (InExchange (exchangeOf u)) (sym (ap envelopeIn em ∙ success-envelope x turn fx ft)) (ap exchangeOf (sym eu))
+    subst (InExchange (exchangeOf u)) (sym (ap envelopeIn em ∙ success-envelope panelEdition x turn (omega arith) fx ft)) (ap exchangeOf (sym eu))
 
 -- A REPLY's envelope
-pub part-envelope : (w : List ℕ) (q : Part Datum) → PartRight w q → envelopeIn (partBytes w q) ≡ envelopeAs reportOpcode (q .exchange) (q .turn)
+pub part-envelope : (w : List ℕ) (q : Part Datum) → PartRight w q → envelopeIn (partBytes w q) ≡ envelopeAs panelEdition reportOpcode (q .exchange) (q .turn)
 unfolding partBytes
-part-envelope w q r = envelope-read reportOpcode (q .exchange) (q .turn) (omega arith) (r .exchange) (r .turn) (partPayload w q)
+part-envelope w q r = envelope-read panelEdition reportOpcode (q .exchange) (q .turn) (omega arith) (omega arith) (r .exchange) (r .turn) (partPayload w q)
 
-pub answer-envelope : (x : ℕ) (o : Outcome) → x < 2 ^ 40 → envelopeIn (answerBytes x o) ≡ envelopeAs writeResponseOpcode x 1
+pub answer-envelope : (x : ℕ) (o : Outcome) → x < exchangeLimit → envelopeIn (answerBytes x o) ≡ envelopeAs panelEdition writeResponseOpcode x firstReply
 unfolding answerBytes
-answer-envelope x o fx = envelope-read writeResponseOpcode x 1 (omega arith) fx (omega arith) (outcomesOctets (o ∷ []))
+answer-envelope x o fx = envelope-read panelEdition writeResponseOpcode x firstReply (omega arith) (omega arith) fx (omega arith) (outcomesOctets (o ∷ []))

@@ -39,6 +39,7 @@ use Rattle.protocol.specs.Model.{System}
 use Rattle.panel_steps.proofs.Reactions.{Takes}
 use Rattle.panel_steps.proofs.AnswerLaws.{answer-taken}
 use Rattle.panel_steps.proofs.PartLaws.{part-taken}
+use Rattle.interaction_writer.specs.Envelope.{exchangeLimit}
 use Rattle.promises.specs.World.{Plan, World, Start, answered, altered}
 use Rattle.promises.specs.Runs.{Reach}
 use Rattle.promises.specs.Never.{Never}
@@ -84,7 +85,7 @@ module _ (page : List ℕ) (s : cache.State) (valid : ValidPanel page s) (room :
 
   begun-fair : (next : Reaction) → Fair next → Fair (begin.beginning page s room next)
   begun-fair next f =
-      rw (valid-right page s valid) (pick-elim Fair (ltb room maxMessage) _ _ (λ _ z. omega (arith, z)) (λ _. pick-elim Fair (ltb (s .asked .used) (2 ^ 40 - 1)) _ _ (λ _. f) (λ _ z. omega (arith, z))))
+      rw (valid-right page s valid) (pick-elim Fair (ltb room maxMessage) _ _ (λ _ z. omega (arith, z)) (λ _. pick-elim Fair (ltb (s .asked .used) (exchangeLimit - 1)) _ _ (λ _. f) (λ _ z. omega (arith, z))))
 
   read-fair : Fair (begin.beginsRead page s room)
   unfolding begin.beginsRead

@@ -39,6 +39,7 @@ use Rattle.protocol.proofs.OnceLaws.{part-once, passes-more, passes-reach, cut}
 use Rattle.protocol.proofs.ProgressLaws.{calm-parts, calm-keeps}
 use Rattle.refinement.proofs.Terms.{placeAt, mayRead}
 use Rattle.refinement.proofs.Bytes.{blockAs, partPayload, partBytes, PartRight}
+use Rattle.interaction_writer.specs.Envelope.{panelEdition}
 use Rattle.promises.specs.World.{Plan, World, Start, granted, afterPanel}
 use Rattle.promises.specs.Runs.{Step, Run, Reach, none, then, join, Passes, Quiet, Calm}
 use Rattle.promises.specs.Claims.{In, Last, exchangeOf, Arrived, Taking, Making, Open, Ended, Ending, Stays, SecondHalf, MayReadSome, CallsWhole, versionOf, changesOf}
@@ -190,7 +191,7 @@ module _ (p : Plan) (b : Start p) {u v : World} (reach : Reach p b u) (exchange 
   unfolding partBytes
   last-one =
       let (x, here, more, step) = report-taken (map (blockAs w) (q .entries)) (q .more) (each-sent w (rules p b) (q .entries) (right .entries)) in
-      (x, ap partIn (after-envelope reportOpcode (q .exchange) (q .turn) (partPayload w q)) ∙ here, λ z. omega (arith, sym z ∙ more ∙ ap (λ (m : Bool). pick m 1 ABSENT) (over .last)))
+      (x, ap partIn (after-envelope panelEdition reportOpcode (q .exchange) (q .turn) (partPayload w q)) ∙ here, λ z. omega (arith, sym z ∙ more ∙ ap (λ (m : Bool). pick m 1 ABSENT) (over .last)))
 
   taking : Taking (join reach run) exchange
   taking =

@@ -28,6 +28,7 @@ use Rattle.cache.specs.Begin as begin
 use Rattle.cache_receive.specs.Receive.{forCache, opcodeAwaited, awaited, endedAs, goesOn, pastTurns, partTaken, takesPart, takes, inEnvelope, received}
 use Rattle.protocol.specs.Model.{System}
 use Rattle.protocol.specs.Steps as model
+use Rattle.interaction_writer.specs.Envelope.{exchangeLimit}
 use Rattle.promises.specs.World.{Plan, World, Start, afterSign, afterPanel}
 use Rattle.promises.specs.Runs.{Step, alters, beginsRead, beginsWrite, resends, hears, overhears, gets, Run, none, then, Quiet, Calm}
 use Rattle.promises.proofs.MessageLaws.{part-envelope, answer-envelope}
@@ -84,7 +85,7 @@ module _ (page : List ℕ) (s : State) (g : Goes s) where
       go : (e : Envelope) → NoStatus e → Keeps (inEnvelope page s m e)
       go Short h = g
       go (Whole f) h =
-          pick-elim Keeps (leb (length m) maxMessage && (eqb (f .edition) 0 && forCache (f .opcode))) _ _
+          pick-elim Keeps (leb (length m) maxMessage && forCache (f .edition) (f .opcode)) _ _
           (λ _. by-test (awaited (s .asked) f) (λ t. rw t (takes-goes f h t (drop envelopeLength m))) (λ z. rw z g)) (λ _. g)
 
 -- a call that begins nothing is refused, and leaves the panel as it was
@@ -95,7 +96,7 @@ module _ (page : List ℕ) (s : State) where
   beginning-same : (room : ℕ) (next : Reaction) → Unbegun next → Unbegun (begin.beginning page s room next)
   beginning-same room next f =
       pick-elim Unbegun (panelRight page s) _ _
-      (λ _. pick-elim Unbegun (ltb room maxMessage) _ _ (λ _ _. refl) (λ _. pick-elim Unbegun (ltb (s .asked .used) (2 ^ 40 - 1)) _ _ (λ _. f) (λ _ _. refl))) (λ _ _. refl)
+      (λ _. pick-elim Unbegun (ltb room maxMessage) _ _ (λ _ _. refl) (λ _. pick-elim Unbegun (ltb (s .asked .used) (exchangeLimit - 1)) _ _ (λ _. f) (λ _ _. refl))) (λ _ _. refl)
 
   read-same : (room : ℕ) → Unbegun (begin.beginsRead page s room)
   unfolding begin.beginsRead

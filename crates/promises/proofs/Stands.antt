@@ -17,13 +17,14 @@ use Rattle.protocol.specs.Model.{Message, Part, Cache, System}
 use Rattle.refinement.proofs.Bytes.{MessageAs, PartRight, partBytes, answerBytes, Wrote, ReplyAs, silent, reports, answers}
 use Rattle.refinement.proofs.Sign.{SignAs, Serves}
 use Rattle.refinement.proofs.Panel.{PanelAs}
+use Rattle.interaction_writer.specs.Envelope.{exchangeLimit}
 use Rattle.promises.specs.World.{Plan, World, granted, with, afterSign, afterPanel}
 use Rattle.promises.proofs.MessageLaws.{part-envelope}
 
 -- a reply ever made: a part that the protocol has, or the answer to a write
 pub data ReplyOf (w : List ℕ) (sent : List (List ℕ)) (parts : List (Part Datum)) (m : List ℕ) : Type 0 where
   part : (q : Part Datum) → List·Memᴰ q parts → m ≡ partBytes w q → ReplyOf w sent parts m
-  answer : (x : ℕ) (o : Outcome) → m ≡ answerBytes x o → x < 2 ^ 40 → OutcomeFits o → Wrote sent x (o .endpoint) (o .cluster) (o .attribute) → ReplyOf w sent parts m
+  answer : (x : ℕ) (o : Outcome) → m ≡ answerBytes x o → x < exchangeLimit → OutcomeFits o → Wrote sent x (o .endpoint) (o .cluster) (o .attribute) → ReplyOf w sent parts m
 
 pub record Stands (p : Plan) (u : World) (s : System Datum) : Type 0 where
   pub sign : SignAs (p .words) (p .defaults) (granted p) (u .requests) (u .edits) (u .sign) (s .clusters) (s .row)

@@ -52,6 +52,7 @@ use Rattle.panel_steps.proofs.FreshLaws.{fresh-panel}
 use Rattle.panel_steps.proofs.BeginLaws.{read-begins, write-begins, resent}
 use Rattle.panel_steps.proofs.AnswerLaws.{answer-taken, room-small}
 use Rattle.panel_steps.proofs.PartLaws.{part-taken}
+use Rattle.interaction_writer.specs.Envelope.{exchangeLimit}
 use Rattle.promises.specs.World.{Plan, subjectOf, World, Start, begin, granted, with, afterSign, afterPanel, answered, altered, Typed}
 use Rattle.promises.specs.Runs.{Step, alters, beginsRead, beginsWrite, resends, hears, overhears, gets, Quiet, Hears, Gets}
 use Rattle.promises.proofs.MessageLaws.{InExchange, message-one, message-in, part-envelope, answer-envelope}
@@ -82,7 +83,7 @@ typed-writable src value.Other t = inl refl
 other-kept : (P : Reaction → Type 0) (page : List ℕ) (s : cache.State) (e c a : ℕ) (given : Bool) (version : ℕ) (src : List ℕ) (room : ℕ) → ((n : ℕ) → P (refusal n s page)) → P (begin.beginsWrite page s e c a given version src value.Other room)
 unfolding begin.beginsWrite begin.sendable usableIn
 other-kept P page s e c a given version src room f =
-    pick-elim P (panelRight page s) _ _ (λ _. pick-elim P (ltb room maxMessage) _ _ (λ _. f 3) (λ _. pick-elim P (ltb (s .asked .used) (2 ^ 40 - 1)) _ _ (λ _. f 10) (λ _. f 8))) (λ _. f 2)
+    pick-elim P (panelRight page s) _ _ (λ _. pick-elim P (ltb room maxMessage) _ _ (λ _. f 3) (λ _. pick-elim P (ltb (s .asked .used) (exchangeLimit - 1)) _ _ (λ _. f 10) (λ _. f 8))) (λ _. f 2)
 
 -- no bytes are no envelope
 no-envelope : envelopeIn [] ≡ Short
@@ -98,7 +99,7 @@ opcodeIn Short = 0
 opcodeIn (Whole f) = f .opcode
 
 -- an answer to a write is no part
-pub other-reply : {w : List ℕ} (q : Part Datum) → PartRight w q → (x : ℕ) (o : Outcome) → x < 2 ^ 40 → partBytes w q ≡ answerBytes x o → ⊥
+pub other-reply : {w : List ℕ} (q : Part Datum) → PartRight w q → (x : ℕ) (o : Outcome) → x < exchangeLimit → partBytes w q ≡ answerBytes x o → ⊥
 other-reply {w} q r x o fx e =
     let five : _≡_ {A = ℕ} 5 7 = ap opcodeIn (sym (part-envelope w q r) ∙ ap envelopeIn e ∙ answer-envelope x o fx) in omega (arith, five)
 

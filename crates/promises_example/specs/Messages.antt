@@ -4,7 +4,7 @@ use mathlib.Core.List.{List, [], _∷_, _++_, map}
 use Prim.Native.Nat.{ℕ}
 use lib.ListN.{length, drop}
 use Rattle.tlv.specs.Value as value
-use Rattle.interaction_writer.specs.Envelope.{envelopeOctets}
+use Rattle.interaction_writer.specs.Envelope.{panelEdition, envelopeOctets}
 use Rattle.interaction_writer.specs.Spelling.{spelling}
 use Rattle.interaction_writer.specs.Block.{Block, blockTree}
 use Rattle.interaction_writer.specs.Message.{messageTree, reportMembers}
@@ -14,10 +14,10 @@ use Rattle.promises_example.specs.Plan.{text}
 
 -- of exchange 1: the request, and the success for reply 1
 unfoldable pub request : List ℕ
-request = readMessage 1 []
+request = readMessage panelEdition 1 []
 
 unfoldable pub success : List ℕ
-success = successMessage 1 1
+success = successMessage panelEdition 1 1
 
 -- a text of a cluster of endpoint 1, at a version
 abbrev shown : ℕ → ℕ → ℕ → List ℕ → Block
@@ -25,7 +25,7 @@ shown version cluster attribute bytes = Block.value version 1 cluster attribute 
 
 -- the reply of a turn with these blocks, and whether it promises more
 abbrev partOf : ℕ → List Block → Bool → List ℕ
-partOf turn blocks more = envelopeOctets reportOpcode 1 turn ++ spelling (messageTree (reportMembers (map blockTree blocks) more))
+partOf turn blocks more = envelopeOctets panelEdition reportOpcode 1 turn ++ spelling (messageTree (reportMembers (map blockTree blocks) more))
 
 -- cluster 6 whole, and two texts of cluster 8; more is promised
 unfoldable pub part1 : List ℕ

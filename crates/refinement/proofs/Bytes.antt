@@ -7,14 +7,14 @@ use lib.ListN.{length}
 use Rattle.tlv.specs.Value.{Datum}
 use Rattle.tlv_writer.specs.Meaning.{Writable}
 use Rattle.interaction.specs.declared.Wanted.{Wanted}
-use Rattle.interaction_writer.specs.Envelope.{envelopeOctets}
+use Rattle.interaction_writer.specs.Envelope.{panelEdition, exchangeLimit, envelopeOctets}
 use Rattle.interaction_writer.specs.Spelling.{Each, primitiveD}
 use Rattle.interaction_writer.specs.Block.{Block}
 use Rattle.interaction_writer.specs.Meaning.{PathFits}
 use Rattle.round_trip.specs.Meant.{WantedFits, reportOctets, Outcome, OutcomeFits, outcomesOctets}
 use Rattle.schema.specs.Rows.{attributeCount}
 use Rattle.schema.specs.Rules.{pathAt}
-use Rattle.exchange.specs.Rules.{reportOpcode, writeResponseOpcode}
+use Rattle.exchange.specs.Rules.{reportOpcode, writeResponseOpcode, firstReply}
 use Rattle.cache_request.specs.Messages.{readMessage, writeMessage, successMessage}
 use Rattle.cache_trip.specs.Taken.{Takable}
 use Rattle.protocol.specs.Model.{Entry, Message, read, write, success, Part}
@@ -29,7 +29,7 @@ abbrev pub partPayload : List ℕ → Part Datum → List ℕ
 partPayload w p = reportOctets (map (blockAs w) (p .entries)) (p .more)
 
 unfoldable pub partBytes : List ℕ → Part Datum → List ℕ
-partBytes w p = envelopeOctets reportOpcode (p .exchange) (p .turn) ++ partPayload w p
+partBytes w p = envelopeOctets panelEdition reportOpcode (p .exchange) (p .turn) ++ partPayload w p
 
 -- an entry that a sign of this schema can have sent
 pub record EntryRight (w : List ℕ) (e : Entry Datum) : Type 0 where
@@ -42,12 +42,12 @@ pub record EntryRight (w : List ℕ) (e : Entry Datum) : Type 0 where
 pub record PartRight (w : List ℕ) (p : Part Datum) : Type 0 where
   pub entries : (e : Entry Datum) → List·Memᴰ e (p .entries) → EntryRight w e
   pub short : length (partPayload w p) ≤ 1024
-  pub exchange : p .exchange < 2 ^ 40
+  pub exchange : p .exchange < exchangeLimit
   pub turn : p .turn < 2 ^ 16
 
 -- the answer to a write of one entry
 unfoldable pub answerBytes : ℕ → Outcome → List ℕ
-answerBytes exchange o = envelopeOctets writeResponseOpcode exchange 1 ++ outcomesOctets (o ∷ [])
+answerBytes exchange o = envelopeOctets panelEdition writeResponseOpcode exchange firstReply ++ outcomesOctets (o ∷ [])
 
 -- THE PANEL'S
 pub record WriteFits (version endpoint cluster attribute : ℕ) (d : Datum) : Type 0 where
@@ -57,9 +57,9 @@ pub record WriteFits (version endpoint cluster attribute : ℕ) (d : Datum) : Ty
   pub takable : Takable d
 
 pub data MessageAs (w m : List ℕ) (u : Message) : Type 0 where
-  reads : (x : ℕ) (fs : List Wanted) → m ≡ readMessage x fs → u ≡ read x (filtersAs w fs) → x < 2 ^ 40 → Each WantedFits fs → length fs ≤ 32 → MessageAs w m u
-  writes : (x : ℕ) (given : Bool) (version e c a : ℕ) (d : Datum) → m ≡ writeMessage x given version e c a d → u ≡ write x → x < 2 ^ 40 → WriteFits version e c a d → MessageAs w m u
-  succeeds : (x turn : ℕ) → m ≡ successMessage x turn → u ≡ success x turn → x < 2 ^ 40 → turn < 2 ^ 16 → MessageAs w m u
+  reads : (x : ℕ) (fs : List Wanted) → m ≡ readMessage panelEdition x fs → u ≡ read x (filtersAs w fs) → x < exchangeLimit → Each WantedFits fs → length fs ≤ 32 → MessageAs w m u
+  writes : (x : ℕ) (given : Bool) (version e c a : ℕ) (d : Datum) → m ≡ writeMessage panelEdition x given version e c a d → u ≡ write x → x < exchangeLimit → WriteFits version e c a d → MessageAs w m u
+  succeeds : (x turn : ℕ) → m ≡ successMessage panelEdition x turn → u ≡ success x turn → x < exchangeLimit → turn < 2 ^ 16 → MessageAs w m u
 
 -- a write of this path was sent in this exchange
 pub record Wrote (sent : List (List ℕ)) (x e c a : ℕ) : Type 0 where
@@ -67,10 +67,10 @@ pub record Wrote (sent : List (List ℕ)) (x e c a : ℕ) : Type 0 where
   pub version : ℕ
   pub value : Datum
   pub fits : WriteFits version e c a value
-  pub there : List·Memᴰ (writeMessage x given version e c a value) sent
+  pub there : List·Memᴰ (writeMessage panelEdition x given version e c a value) sent
 
 -- A REPLY of the sign, and the parts that it is in the protocol: silence and the answer to a write are none
 pub data ReplyAs (w : List ℕ) (sent : List (List ℕ)) (reply : List ℕ) (parts : List (Part Datum)) : Type 0 where
   silent : reply ≡ [] → parts ≡ [] → ReplyAs w sent reply parts
   reports : (p : Part Datum) → reply ≡ partBytes w p → parts ≡ p ∷ [] → PartRight w p → ReplyAs w sent reply parts
-  answers : (x : ℕ) (o : Outcome) → reply ≡ answerBytes x o → parts ≡ [] → x < 2 ^ 40 → OutcomeFits o → Wrote sent x (o .endpoint) (o .cluster) (o .attribute) → ReplyAs w sent reply parts
+  answers : (x : ℕ) (o : Outcome) → reply ≡ answerBytes x o → parts ≡ [] → x < exchangeLimit → OutcomeFits o → Wrote sent x (o .endpoint) (o .cluster) (o .attribute) → ReplyAs w sent reply parts

@@ -22,11 +22,13 @@ use Rattle.writes.specs.Offer.{Held}
 use Rattle.writes.specs.Entry.{InWidth, heldAfter, codesOf, codesIn}
 use Rattle.writes.proofs.ResponseLaws.{of-taken}
 use Rattle.writes.proofs.StatusLaws.{codes-octets, codes-kept}
+use Rattle.interaction_writer.specs.Envelope.{panelEdition}
+use Rattle.exchange.specs.Rules.{firstReply}
 use Rattle.replies.specs.declared.Row.{Row}
 use Rattle.replies.specs.declared.Standing.{Standing}
-use Rattle.replies.specs.Messages.{maxMessage, statusMessage, responseMessage}
+use Rattle.replies.specs.Messages.{maxMessage, responseMessage}
 use Rattle.replies.specs.Row.{keptReply, rowIn, reported, blocksOf}
-use Rattle.replies.specs.Begin.{once, beginningPlace, requestOf, readBy, readBegun, Left, entriesOf, responseTo, writeBy, writeBegun, Wrote}
+use Rattle.replies.specs.Begin.{once, beginningPlace, requestOf, readBy, readBegun, Left, entriesOf, responseTo, writeBy, writeBegun, Wrote, refusalOf}
 use Rattle.replies.proofs.MessageLaws.{answer-length}
 use Rattle.replies.proofs.RequestLaws.{read-octet, read-few, write-octet}
 use Rattle.replies.proofs.LentLaws.{begins-same}
@@ -53,10 +55,10 @@ module _ (s : List ℕ) {r : ReadRequest} (e : r ≡ readRead (readIn s)) where
     unfolding readBegun
     by-read = ap (readBy w v defaults edits g x exchange) (sym e)
 
-    pub read-refused : (r .verdict ≡ 0 → ⊥) → readBegun w v defaults edits g x exchange s ≡ once x exchange (statusMessage exchange (r .verdict))
+    pub read-refused : (r .verdict ≡ 0 → ⊥) → readBegun w v defaults edits g x exchange s ≡ once x exchange (refusalOf exchange (r .verdict))
     read-refused n = by-read ∙ rw (ne-eqb (r .verdict) 0 n)
 
-    pub read-answered : r .verdict ≡ 0 → readBegun w v defaults edits g x exchange s ≡ reported x exchange 1 (requestOf w r) beginningPlace (blocksOf w v defaults edits g (requestOf w r) beginningPlace)
+    pub read-answered : r .verdict ≡ 0 → readBegun w v defaults edits g x exchange s ≡ reported x exchange firstReply (requestOf w r) beginningPlace (blocksOf w v defaults edits g (requestOf w r) beginningPlace)
     read-answered z = by-read ∙ rw (eq-eqb (r .verdict) 0 z)
 
 -- ---- a write
@@ -88,9 +90,9 @@ module _ (s : List ℕ) {r : WriteRequest} (e : r ≡ writeRead (writeIn s)) whe
     by-write = ap (writeBy w g defaults h x exchange s) (sym e)
 
     -- refused whole
-    pub wrote-refused : (r .verdict ≡ 0 → ⊥) → {t : Standing} {row kept old new : List ℕ} → (rowIn row t kept ≡ once x exchange (statusMessage exchange (r .verdict))) × ((new ≡ store old 0 (keptReply (rowIn row t kept))) × (length (keptReply (rowIn row t kept)) ≡ t .len)) → Wrote (writeBegun w g defaults h x exchange s) t h row row kept old new
+    pub wrote-refused : (r .verdict ≡ 0 → ⊥) → {t : Standing} {row kept old new : List ℕ} → (rowIn row t kept ≡ once x exchange (refusalOf exchange (r .verdict))) × ((new ≡ store old 0 (keptReply (rowIn row t kept))) × (length (keptReply (rowIn row t kept)) ≡ t .len)) → Wrote (writeBegun w g defaults h x exchange s) t h row row kept old new
     wrote-refused n (p, q) =
-        let l : writeBegun w g defaults h x exchange s ≡ record { held = h; row = once x exchange (statusMessage exchange (r .verdict)) } = by-write ∙ rw (ne-eqb (r .verdict) 0 n) in
+        let l : writeBegun w g defaults h x exchange s ≡ record { held = h; row = once x exchange (refusalOf exchange (r .verdict)) } = by-write ∙ rw (ne-eqb (r .verdict) 0 n) in
         wrote-as ((λ j. record { held = h; row = p j }) ∙ sym l) q
 
     module _ (z : r .verdict ≡ 0) where
@@ -101,20 +103,20 @@ module _ (s : List ℕ) {r : WriteRequest} (e : r ≡ writeRead (writeIn s)) whe
           wrote-as ((λ j. record { held = a j; row = (p ∙ ap (once x exchange) (sym c)) j }) ∙ sym l) q
 
       -- its statuses
-      pub response-sent : {codes old new : List ℕ} {end : ℕ} → codes ≡ codesIn (codesOf w g defaults s h (entriesOf r)) → Stored old 0 (responseMessage exchange (entriesOf r) (take (r .entries .count) codes)) new end → Stored old 0 (responseMessage exchange (entriesOf r) (codesOf w g defaults s h (entriesOf r))) new end
+      pub response-sent : {codes old new : List ℕ} {end : ℕ} → codes ≡ codesIn (codesOf w g defaults s h (entriesOf r)) → Stored old 0 (responseMessage panelEdition exchange firstReply (entriesOf r) (take (r .entries .count) codes)) new end → Stored old 0 (responseMessage panelEdition exchange firstReply (entriesOf r) (codesOf w g defaults s h (entriesOf r))) new end
       response-sent {codes} {old} {new} {end} c u =
           let n = r .entries .count in
           let q : take n codes ≡ codesOf w g defaults s h (entriesOf r) =
           ap (take n) c ∙ codes-kept w g defaults s h (r .entries .kept) n (omega (arith, writes-few z, writes-whole)) (writes-few z) in
-          subst (λ (l : List ℕ). Stored old 0 (responseMessage exchange (entriesOf r) l) new end) q u
+          subst (λ (l : List ℕ). Stored old 0 (responseMessage panelEdition exchange firstReply (entriesOf r) l) new end) q u
 
-      pub response-short : length (responseMessage exchange (entriesOf r) (codesOf w g defaults s h (entriesOf r))) ≤ maxMessage
+      pub response-short : length (responseMessage panelEdition exchange firstReply (entriesOf r) (codesOf w g defaults s h (entriesOf r))) ≤ maxMessage
       response-short =
-          answer-length exchange (entriesOf r) (codesOf w g defaults s h (entriesOf r)) (omega (arith, writes-few z, length-take (r .entries .count) (r .entries .kept)))
+          answer-length panelEdition exchange firstReply (entriesOf r) (codesOf w g defaults s h (entriesOf r)) (omega (arith, writes-few z, length-take (r .entries .count) (r .entries .kept)))
           (of-taken InWidth (r .entries .kept) (r .entries .count) noEntry (λ i l. writes-wide i)) (codes-octets w g defaults s h (entriesOf r))
 
     pub silent : r .suppress ≡ 1 → responseTo w g defaults s h exchange r ≡ []
     silent q = rw (eq-eqb (r .suppress) 1 q)
 
-    pub spoken : (r .suppress ≡ 1 → ⊥) → responseTo w g defaults s h exchange r ≡ responseMessage exchange (entriesOf r) (codesOf w g defaults s h (entriesOf r))
+    pub spoken : (r .suppress ≡ 1 → ⊥) → responseTo w g defaults s h exchange r ≡ responseMessage panelEdition exchange firstReply (entriesOf r) (codesOf w g defaults s h (entriesOf r))
     spoken n = rw (ne-eqb (r .suppress) 1 n)

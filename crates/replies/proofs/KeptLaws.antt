@@ -16,17 +16,18 @@ use Rattle.acl.specs.declared.Grants.{Grants}
 use Rattle.values.specs.declared.Values.{Values}
 use Rattle.selection.proofs.RequestLaws.{paths-count}
 use Rattle.exchange.specs.declared.Progress.{Progress}
-use Rattle.exchange.specs.Rules.{maxTurn, part}
+use Rattle.exchange.specs.Rules.{maxTurn, part, firstReply}
 use Rattle.report.specs.declared.Place.{Place}
 use Rattle.report.specs.declared.part.Request.{Request}
 use Rattle.report.specs.Blocks.{viewOf}
 use Rattle.report.specs.Chunk.{blockRoom, left, any}
 use Rattle.writes.specs.Offer.{Held}
 use Rattle.writes.specs.Entry.{codesOf}
+use Rattle.interaction_writer.specs.Envelope.{panelEdition, exchangeLimit}
 use Rattle.replies.specs.declared.Row.{Row}
-use Rattle.replies.specs.Messages.{envelopeLength, maxMessage, statusMessage, reportMessage, responseMessage}
+use Rattle.replies.specs.Messages.{envelopeLength, maxMessage, reportMessage, responseMessage}
 use Rattle.replies.specs.Row.{keptAt, keeping, keptReply, pathsOf, blocksOf, nextOf, reported, nextPart, rowRight}
-use Rattle.replies.specs.Begin.{once, beginningPlace, requestOf, readBegun, Left, entriesOf, responseTo, writeBegun}
+use Rattle.replies.specs.Begin.{once, beginningPlace, requestOf, readBegun, Left, entriesOf, responseTo, writeBegun, refusalOf}
 use Rattle.replies.proofs.MessageLaws.{status-length, report-length, status-some, report-some, response-some}
 use Rattle.replies.proofs.RowLaws.{RightRow, row-right, right-row, kept-back}
 use Rattle.replies.proofs.PlaceLaws.{Reached, part-reached}
@@ -38,7 +39,7 @@ next-small : (b : Bool) → nextOf b ≤ part
 next-small true = omega arith
 next-small false = omega arith
 
-module _ (x : Row) (exchange : ℕ) (below : exchange < 2 ^ 40) where
+module _ (x : Row) (exchange : ℕ) (below : exchange < exchangeLimit) where
   once-right : RightRow x → (reply : List ℕ) → length reply ≤ maxMessage → RightRow (once x exchange reply)
   unfolding keeping
   once-right r reply h = record { exchange = below; turn = omega arith; next = omega arith; closed = omega arith; asked = r .asked; phase = r .phase; path = r .path; index = r .index; sent = r .sent; len = h }
@@ -57,7 +58,7 @@ module _ (x : Row) (exchange : ℕ) (below : exchange < 2 ^ 40) where
         path = r .path;
         index = r .index;
         sent = r .sent;
-        len = report-length exchange turn (blocksOf w v defaults edits g q at);
+        len = report-length panelEdition exchange turn (blocksOf w v defaults edits g q at);
       }
 
 -- THE NEXT PART
@@ -72,13 +73,13 @@ next-right w v defaults edits g x h t =
 answered-short : (w : List ℕ) (g : Grants) (defaults : List ℕ) (h : Held) (x : Row) (exchange : ℕ) (s : List ℕ) → writeRead (writeIn s) .verdict ≡ 0 → length (responseTo w g defaults s h exchange (writeRead (writeIn s))) ≤ maxMessage
 answered-short w g defaults h x exchange s z =
     let q = writeRead (writeIn s) in
-    pick-elim (λ (l : List ℕ). length l ≤ maxMessage) (eqb (q .suppress) 1) [] (responseMessage exchange (entriesOf q) (codesOf w g defaults s h (entriesOf q)))
+    pick-elim (λ (l : List ℕ). length l ≤ maxMessage) (eqb (q .suppress) 1) [] (responseMessage panelEdition exchange firstReply (entriesOf q) (codesOf w g defaults s h (entriesOf q)))
     (λ t. omega arith) (λ t. response-short s refl w g defaults h x exchange z)
 
-refused-short : (exchange code : ℕ) → code < 2 ^ 8 → length (statusMessage exchange code) ≤ maxMessage
-refused-short exchange code f = omega (arith, status-length exchange code f)
+refused-short : (exchange code : ℕ) → code < 2 ^ 8 → length (refusalOf exchange code) ≤ maxMessage
+refused-short exchange code f = omega (arith, status-length panelEdition exchange firstReply code f)
 
-module _ (x : Row) (exchange : ℕ) (below : exchange < 2 ^ 40) (right : rowRight x ≡ true) where
+module _ (x : Row) (exchange : ℕ) (below : exchange < exchangeLimit) (right : rowRight x ≡ true) where
   -- A READ that begins
   pub read-right : (w : List ℕ) (v : Values) (defaults edits : List ℕ) (g : Grants) (s : List ℕ) → rowRight (readBegun w v defaults edits g x exchange s) ≡ true
   unfolding readBegun requestOf
@@ -86,8 +87,8 @@ module _ (x : Row) (exchange : ℕ) (below : exchange < 2 ^ 40) (right : rowRigh
       let q = readRead (readIn s) in
       right-row (readBegun w v defaults edits g x exchange s)
       (pick-elim RightRow (eqb (q .verdict) 0) _ _
-      (λ t. let f = request-few s refl (eqb-true (q .verdict) 0 t) in reported-right x exchange below w v defaults edits g 1 (omega arith) (requestOf w q) beginningPlace (f .0) (record { phase = refl; path = omega arith; index = omega arith; sent = refl }))
-      (λ t. once-right x exchange below (row-right x right) (statusMessage exchange (q .verdict)) (refused-short exchange (q .verdict) (read-fits s refl))))
+      (λ t. let f = request-few s refl (eqb-true (q .verdict) 0 t) in reported-right x exchange below w v defaults edits g firstReply (omega arith) (requestOf w q) beginningPlace (f .0) (record { phase = refl; path = omega arith; index = omega arith; sent = refl }))
+      (λ t. once-right x exchange below (row-right x right) (refusalOf exchange (q .verdict)) (refused-short exchange (q .verdict) (read-fits s refl))))
 
   -- A WRITE that begins
   pub write-right : (w : List ℕ) (g : Grants) (defaults : List ℕ) (h : Held) (s : List ℕ) → rowRight (writeBegun w g defaults h x exchange s .row) ≡ true
@@ -97,7 +98,7 @@ module _ (x : Row) (exchange : ℕ) (below : exchange < 2 ^ 40) (right : rowRigh
       right-row (writeBegun w g defaults h x exchange s .row)
       (pick-elim (λ (l : Left). RightRow (l .row)) (eqb (q .verdict) 0) _ _
       (λ t. once-right x exchange below (row-right x right) (responseTo w g defaults s h exchange q) (answered-short w g defaults h x exchange s (eqb-true (q .verdict) 0 t)))
-      (λ t. once-right x exchange below (row-right x right) (statusMessage exchange (q .verdict)) (refused-short exchange (q .verdict) (write-fits s refl))))
+      (λ t. once-right x exchange below (row-right x right) (refusalOf exchange (q .verdict)) (refused-short exchange (q .verdict) (write-fits s refl))))
 
 -- ---- THE KEPT REPLY of a right row is a message
 pub reply-bound : (x : Row) → rowRight x ≡ true → length (keptReply x) ≤ maxMessage
@@ -116,24 +117,24 @@ of-pick f true x y h g = h refl
 of-pick f false x y h g = g refl
 
 module _ (x : Row) (whole : length (x .kept) ≡ maxMessage) where
-  pub next-reply : (w : List ℕ) (v : Values) (defaults edits : List ℕ) (g : Grants) → keptReply (nextPart w v defaults edits g x) ≡ reportMessage (x .progress .last) (x .progress .turn + 1) (blocksOf w v defaults edits g (x .request) (x .place))
+  pub next-reply : (w : List ℕ) (v : Values) (defaults edits : List ℕ) (g : Grants) → keptReply (nextPart w v defaults edits g x) ≡ reportMessage panelEdition (x .progress .last) (x .progress .turn + 1) (blocksOf w v defaults edits g (x .request) (x .place))
   unfolding nextPart
-  next-reply w v defaults edits g = kept-back x whole _ _ _ _ (report-length (x .progress .last) (x .progress .turn + 1) (blocksOf w v defaults edits g (x .request) (x .place)))
+  next-reply w v defaults edits g = kept-back x whole _ _ _ _ (report-length panelEdition (x .progress .last) (x .progress .turn + 1) (blocksOf w v defaults edits g (x .request) (x .place)))
 
   module _ (exchange : ℕ) (s : List ℕ) where
     pub read-reply : (w : List ℕ) (v : Values) (defaults edits : List ℕ) (g : Grants) →
         let q = readRead (readIn s) in
-        keptReply (readBegun w v defaults edits g x exchange s) ≡ pick (eqb (q .verdict) 0) (reportMessage exchange 1 (blocksOf w v defaults edits g (requestOf w q) beginningPlace)) (statusMessage exchange (q .verdict))
+        keptReply (readBegun w v defaults edits g x exchange s) ≡ pick (eqb (q .verdict) 0) (reportMessage panelEdition exchange firstReply (blocksOf w v defaults edits g (requestOf w q) beginningPlace)) (refusalOf exchange (q .verdict))
     unfolding readBegun
     read-reply w v defaults edits g =
         let q = readRead (readIn s) in
         of-pick (λ (y : Row). keptReply y) (eqb (q .verdict) 0) _ _
-        (λ t. kept-back x whole _ _ _ _ (report-length exchange 1 (blocksOf w v defaults edits g (requestOf w q) beginningPlace)))
+        (λ t. kept-back x whole _ _ _ _ (report-length panelEdition exchange firstReply (blocksOf w v defaults edits g (requestOf w q) beginningPlace)))
         (λ t. kept-back x whole _ _ _ _ (refused-short exchange (q .verdict) (read-fits s refl)))
 
     pub write-reply : (w : List ℕ) (g : Grants) (defaults : List ℕ) (h : Held) →
         let q = writeRead (writeIn s) in
-        keptReply (writeBegun w g defaults h x exchange s .row) ≡ pick (eqb (q .verdict) 0) (responseTo w g defaults s h exchange q) (statusMessage exchange (q .verdict))
+        keptReply (writeBegun w g defaults h x exchange s .row) ≡ pick (eqb (q .verdict) 0) (responseTo w g defaults s h exchange q) (refusalOf exchange (q .verdict))
     unfolding writeBegun
     write-reply w g defaults h =
         let q = writeRead (writeIn s) in
@@ -145,7 +146,7 @@ module _ (x : Row) (whole : length (x .kept) ≡ maxMessage) where
 
 pub next-some : (w : List ℕ) (v : Values) (defaults edits : List ℕ) (g : Grants) (x : Row) → envelopeLength ≤ nextPart w v defaults edits g x .len
 unfolding nextPart keeping
-next-some w v defaults edits g x = report-some (x .progress .last) (x .progress .turn + 1) (blocksOf w v defaults edits g (x .request) (x .place))
+next-some w v defaults edits g x = report-some panelEdition (x .progress .last) (x .progress .turn + 1) (blocksOf w v defaults edits g (x .request) (x .place))
 
 module _ (x : Row) (exchange : ℕ) (s : List ℕ) where
   pub read-some : (w : List ℕ) (v : Values) (defaults edits : List ℕ) (g : Grants) → envelopeLength ≤ readBegun w v defaults edits g x exchange s .len
@@ -153,7 +154,7 @@ module _ (x : Row) (exchange : ℕ) (s : List ℕ) where
   read-some w v defaults edits g =
       let q = readRead (readIn s) in
       pick-elim (λ (y : Row). envelopeLength ≤ y .len) (eqb (q .verdict) 0) _ _
-      (λ t. report-some exchange 1 (blocksOf w v defaults edits g (requestOf w q) beginningPlace)) (λ t. status-some exchange (q .verdict))
+      (λ t. report-some panelEdition exchange firstReply (blocksOf w v defaults edits g (requestOf w q) beginningPlace)) (λ t. status-some panelEdition exchange firstReply (q .verdict))
 
   module _ (w : List ℕ) (g : Grants) (defaults : List ℕ) (h : Held) where
     -- a write that is not refused and asked for silence gets it
@@ -167,6 +168,6 @@ module _ (x : Row) (exchange : ℕ) (s : List ℕ) where
     write-some n =
         let q = writeRead (writeIn s) in
         pick-elim (λ (l : Left). envelopeLength ≤ l .row .len) (eqb (q .verdict) 0) _ _
-        (λ t. pick-elim (λ (l : List ℕ). envelopeLength ≤ length l) (eqb (q .suppress) 1) [] (responseMessage exchange (entriesOf q) (codesOf w g defaults s h (entriesOf q)))
-        (λ u. absurd (n (eqb-true (q .verdict) 0 t) (eqb-true (q .suppress) 1 u))) (λ u. response-some exchange (entriesOf q) (codesOf w g defaults s h (entriesOf q))))
-        (λ t. status-some exchange (q .verdict))
+        (λ t. pick-elim (λ (l : List ℕ). envelopeLength ≤ length l) (eqb (q .suppress) 1) [] (responseMessage panelEdition exchange firstReply (entriesOf q) (codesOf w g defaults s h (entriesOf q)))
+        (λ u. absurd (n (eqb-true (q .verdict) 0 t) (eqb-true (q .suppress) 1 u))) (λ u. response-some panelEdition exchange firstReply (entriesOf q) (codesOf w g defaults s h (entriesOf q))))
+        (λ t. status-some panelEdition exchange firstReply (q .verdict))

@@ -25,65 +25,65 @@ use Rattle.writes.proofs.ResponseLaws.{response-length}
 use Rattle.replies.specs.Messages.{envelopeLength, maxMessage, statusMessage, reportMessage, responseMessage}
 use Rattle.replies.specs.Sent.{Sent}
 
-pub status-length : (exchange code : ℕ) → code < 2 ^ 8 → length (statusMessage exchange code) ≡ 16
+pub status-length : (edition exchange turn code : ℕ) → code < 2 ^ 8 → length (statusMessage edition exchange turn code) ≡ 16
 unfolding statusMessage
-status-length exchange code h =
+status-length edition exchange turn code h =
     omega (
       arith,
-      length-append (envelopeOctets statusOpcode exchange 1) (spelling (messageTree (statusMembers code))),
-      length-envelope statusOpcode exchange 1,
+      length-append (envelopeOctets edition statusOpcode exchange turn) (spelling (messageTree (statusMembers code))),
+      length-envelope edition statusOpcode exchange turn,
       length-status-response code h,
     )
 
 -- EVERY PART has at most 1,032 octets with its envelope
-pub report-length : (exchange turn : ℕ) (l : List Placed) → length (reportMessage exchange turn l) ≤ maxMessage
+pub report-length : (edition exchange turn : ℕ) (l : List Placed) → length (reportMessage edition exchange turn l) ≤ maxMessage
 unfolding reportMessage
-report-length exchange turn l =
-    omega (arith, length-append (envelopeOctets reportOpcode exchange turn) (partPayload l), length-envelope reportOpcode exchange turn, part-length l)
+report-length edition exchange turn l =
+    omega (arith, length-append (envelopeOctets edition reportOpcode exchange turn) (partPayload l), length-envelope edition reportOpcode exchange turn, part-length l)
 
-pub answer-length : (exchange : ℕ) (xs : List Entry) (codes : List ℕ) → length xs ≤ maxWrites → ((i : ℕ) → i < length xs → InWidth (getD xs i noEntry)) → ((i : ℕ) → i < length codes → getD codes i 0 < 2 ^ 8) → length (responseMessage exchange xs codes) ≤ maxMessage
+pub answer-length : (edition exchange turn : ℕ) (xs : List Entry) (codes : List ℕ) → length xs ≤ maxWrites → ((i : ℕ) → i < length xs → InWidth (getD xs i noEntry)) → ((i : ℕ) → i < length codes → getD codes i 0 < 2 ^ 8) → length (responseMessage edition exchange turn xs codes) ≤ maxMessage
 unfolding responseMessage
-answer-length exchange xs codes l f g =
+answer-length edition exchange turn xs codes l f g =
     omega (
       arith,
-      length-append (envelopeOctets writeResponseOpcode exchange 1) (responsePayload xs codes),
-      length-envelope writeResponseOpcode exchange 1,
+      length-append (envelopeOctets edition writeResponseOpcode exchange turn) (responsePayload xs codes),
+      length-envelope edition writeResponseOpcode exchange turn,
       response-length xs codes l f g,
     )
 
 -- no message is empty
-pub status-some : (exchange code : ℕ) → envelopeLength ≤ length (statusMessage exchange code)
+pub status-some : (edition exchange turn code : ℕ) → envelopeLength ≤ length (statusMessage edition exchange turn code)
 unfolding statusMessage
-status-some exchange code =
+status-some edition exchange turn code =
     omega (
       arith,
-      length-append (envelopeOctets statusOpcode exchange 1) (spelling (messageTree (statusMembers code))),
-      length-envelope statusOpcode exchange 1,
+      length-append (envelopeOctets edition statusOpcode exchange turn) (spelling (messageTree (statusMembers code))),
+      length-envelope edition statusOpcode exchange turn,
     )
 
-pub report-some : (exchange turn : ℕ) (l : List Placed) → envelopeLength ≤ length (reportMessage exchange turn l)
+pub report-some : (edition exchange turn : ℕ) (l : List Placed) → envelopeLength ≤ length (reportMessage edition exchange turn l)
 unfolding reportMessage
-report-some exchange turn l =
-    omega (arith, length-append (envelopeOctets reportOpcode exchange turn) (partPayload l), length-envelope reportOpcode exchange turn)
+report-some edition exchange turn l =
+    omega (arith, length-append (envelopeOctets edition reportOpcode exchange turn) (partPayload l), length-envelope edition reportOpcode exchange turn)
 
-pub response-some : (exchange : ℕ) (xs : List Entry) (codes : List ℕ) → envelopeLength ≤ length (responseMessage exchange xs codes)
+pub response-some : (edition exchange turn : ℕ) (xs : List Entry) (codes : List ℕ) → envelopeLength ≤ length (responseMessage edition exchange turn xs codes)
 unfolding responseMessage
-response-some exchange xs codes =
+response-some edition exchange turn xs codes =
     omega (
       arith,
-      length-append (envelopeOctets writeResponseOpcode exchange 1) (responsePayload xs codes),
-      length-envelope writeResponseOpcode exchange 1,
+      length-append (envelopeOctets edition writeResponseOpcode exchange turn) (responsePayload xs codes),
+      length-envelope edition writeResponseOpcode exchange turn,
     )
 
 -- what follows an envelope: where it begins, and the room for it
-pub after-envelope : (opcode exchange turn : ℕ) {o o₁ : List ℕ} {p : ℕ} → Stored o 0 (envelopeOctets opcode exchange turn) o₁ p → (p ≡ envelopeLength) × (length o₁ ≡ length o)
-after-envelope opcode exchange turn e = (omega (arith, e .place, length-envelope opcode exchange turn), same-length e)
+pub after-envelope : (edition opcode exchange turn : ℕ) {o o₁ : List ℕ} {p : ℕ} → Stored o 0 (envelopeOctets edition opcode exchange turn) o₁ p → (p ≡ envelopeLength) × (length o₁ ≡ length o)
+after-envelope edition opcode exchange turn e = (omega (arith, e .place, length-envelope edition opcode exchange turn), same-length e)
 
 -- an envelope, and a part after it
-pub part-sent : {o o₁ new : List ℕ} {p exchange turn : ℕ} {at : Place} {l : List Placed} {f : Filled} → Stored o 0 (envelopeOctets reportOpcode exchange turn) o₁ p → Made o₁ p at l new f → Sent o exchange turn at l new f
+pub part-sent : {o o₁ new : List ℕ} {p edition exchange turn : ℕ} {at : Place} {l : List Placed} {f : Filled} → Stored o 0 (envelopeOctets edition reportOpcode exchange turn) o₁ p → Made o₁ p at l new f → Sent o edition exchange turn at l new f
 unfolding reportMessage
 part-sent e m = record { stored = then e (m .stored); place = m .place; more = m .more }
 
 -- of the same blocks
-pub sent-of : {o new : List ℕ} {exchange turn : ℕ} {at : Place} {l m : List Placed} {f : Filled} → l ≡ m → Sent o exchange turn at l new f → Sent o exchange turn at m new f
-sent-of {o} {new} {exchange} {turn} {at} {f = f} e s = subst (λ (k : List Placed). Sent o exchange turn at k new f) e s
+pub sent-of : {o new : List ℕ} {edition exchange turn : ℕ} {at : Place} {l m : List Placed} {f : Filled} → l ≡ m → Sent o edition exchange turn at l new f → Sent o edition exchange turn at m new f
+sent-of {o} {new} {edition} {exchange} {turn} {at} {f = f} e s = subst (λ (k : List Placed). Sent o edition exchange turn at k new f) e s

@@ -18,6 +18,7 @@ use Rattle.report.specs.declared.Place.{Place}
 use Rattle.report.specs.declared.Filled.{Filled}
 use Rattle.report.specs.declared.part.Request.{Request}
 use Rattle.report.specs.Blocks.{Placed, attributePhase}
+use Rattle.interaction_writer.specs.Envelope.{exchangeLimit, panelEdition}
 use Rattle.replies.specs.declared.Row.{Row}
 use Rattle.replies.specs.Messages.{maxMessage, reportMessage}
 use Rattle.replies.specs.Row.{keptAt, keeping, keptReply, nextOf, reported, rowRight}
@@ -66,15 +67,15 @@ module _ (x : Row) (whole : length (x .kept) ≡ maxMessage) where
     nothing-given old e = sym (ap (λ (z : Row). store old 0 (keptReply z)) e ∙ ap (store old 0) (kept-back [] (omega arith)))
 
   -- a part
-  module _ {old : List ℕ} {exchange turn : ℕ} {at : Place} {l : List Placed} {new : List ℕ} {f : Filled} (s : Sent old exchange turn at l new f) (room : maxMessage ≤ length old) where
+  module _ {old : List ℕ} {exchange turn : ℕ} {at : Place} {l : List Placed} {new : List ℕ} {f : Filled} (s : Sent old panelEdition exchange turn at l new f) (room : maxMessage ≤ length old) where
     pub part-given : (r : Request) {y : Row} → y ≡ keeping x (record { last = exchange; turn = turn; next = nextOf (f .more); closed = 0 }) r (f .place) (take (f .end - 0) new) → (y ≡ reported x exchange turn r at l) × ((new ≡ store old 0 (keptReply y)) × (length (keptReply y) ≡ y .len))
     part-given r e =
-        both-given (record { last = exchange; turn = turn; next = nextOf (s .more 1); closed = 0 }) r (s .place 1) (s .stored) (report-length exchange turn l) room
+        both-given (record { last = exchange; turn = turn; next = nextOf (s .more 1); closed = 0 }) r (s .place 1) (s .stored) (report-length panelEdition exchange turn l) room
         (e ∙ (λ j. keeping x (record { last = exchange; turn = turn; next = nextOf (s .more j); closed = 0 }) r (s .place j) (take (f .end - 0) new)))
 
-module _ {old : List ℕ} {exchange turn : ℕ} {at : Place} {l : List Placed} {new : List ℕ} {f : Filled} (s : Sent old exchange turn at l new f) (room : maxMessage ≤ length old) where
-  report-room : length (reportMessage exchange turn l) ≤ length old
-  report-room = omega (arith, report-length exchange turn l)
+module _ {old : List ℕ} {edition exchange turn : ℕ} {at : Place} {l : List Placed} {new : List ℕ} {f : Filled} (s : Sent old edition exchange turn at l new f) (room : maxMessage ≤ length old) where
+  report-room : length (reportMessage edition exchange turn l) ≤ length old
+  report-room = omega (arith, report-length edition exchange turn l)
 
   pub report-within : f .end ≤ length new
   report-within = ends-within (s .stored) report-room
@@ -83,12 +84,12 @@ module _ {old : List ℕ} {exchange turn : ℕ} {at : Place} {l : List Placed} {
   report-end = part-end (s .stored) report-room
 
   pub report-short : length (take (f .end - 0) new) ≤ maxMessage
-  report-short = omega (arith, part-short (s .stored) report-room, report-length exchange turn l)
+  report-short = omega (arith, part-short (s .stored) report-room, report-length edition exchange turn l)
 
 -- ---- a right row
 
 pub record RightRow (x : Row) : Type 0 where
-  pub exchange : x .progress .last < 2 ^ 40
+  pub exchange : x .progress .last < exchangeLimit
   pub turn : x .progress .turn ≤ maxTurn
   pub next : x .progress .next ≤ part
   pub closed : x .progress .closed ≤ 1
@@ -111,7 +112,7 @@ row-right x h =
     let t₃ = leb (x .progress .closed) 1 in
     let t₂ = leb (x .progress .next) part in
     let t₁ = leb (x .progress .turn) maxTurn in
-    let t₀ = ltb (x .progress .last) (2 ^ 40) in
+    let t₀ = ltb (x .progress .last) exchangeLimit in
     let r₈ : Bool = t₈ && t₉ in
     let r₇ : Bool = t₇ && r₈ in
     let r₆ : Bool = t₆ && r₇ in
@@ -129,7 +130,7 @@ row-right x h =
     let h₇ = right t₆ r₇ h₆ in
     let h₈ = right t₇ r₈ h₇ in
     record {
-      exchange = ltb-true (x .progress .last) (2 ^ 40) (left t₀ r₁ h);
+      exchange = ltb-true (x .progress .last) exchangeLimit (left t₀ r₁ h);
       turn = leb-true (x .progress .turn) maxTurn (left t₁ r₂ h₁);
       next = leb-true (x .progress .next) part (left t₂ r₃ h₂);
       closed = leb-true (x .progress .closed) 1 (left t₃ r₄ h₃);
@@ -145,7 +146,7 @@ pub right-row : (x : Row) → RightRow x → rowRight x ≡ true
 unfolding rowRight
 right-row x r =
     rw (
-      lt-ltb (x .progress .last) (2 ^ 40) (r .exchange),
+      lt-ltb (x .progress .last) exchangeLimit (r .exchange),
       le-leb (x .progress .turn) maxTurn (r .turn),
       le-leb (x .progress .next) part (r .next),
       le-leb (x .progress .closed) 1 (r .closed),

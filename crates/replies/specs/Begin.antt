@@ -11,12 +11,13 @@ use Rattle.interaction.specs.Read.{readIn, readRead}
 use Rattle.interaction_write.specs.declared.Entry.{Entry}
 use Rattle.interaction_write.specs.declared.WriteRequest.{WriteRequest}
 use Rattle.interaction_write.specs.Write.{writeIn, writeRead}
+use Rattle.interaction_writer.specs.Envelope.{panelEdition}
 use Rattle.acl.specs.declared.Grants.{Grants}
 use Rattle.values.specs.declared.Values.{Values}
 use Rattle.selection.specs.Request.{pathsWords}
 use Rattle.selection.specs.Filters.{filterWords}
 use Rattle.exchange.specs.declared.Progress.{Progress}
-use Rattle.exchange.specs.Rules.{nothing}
+use Rattle.exchange.specs.Rules.{firstReply, nothing}
 use Rattle.report.specs.declared.Place.{Place}
 use Rattle.report.specs.declared.part.Request.{Request}
 use Rattle.report.specs.Blocks.{startOf}
@@ -29,11 +30,15 @@ use Rattle.replies.specs.Row.{keeping, keptReply, reported, blocksOf, st
 
 -- an exchange whose one reply was given, and that promised nothing
 abbrev pub answered : ℕ → Progress
-answered exchange = record { last = exchange; turn = 1; next = nothing; closed = 0 }
+answered exchange = record { last = exchange; turn = firstReply; next = nothing; closed = 0 }
 
 -- one reply, of which nothing goes on: a status, a write response, or silence
 abbrev pub once : Row → ℕ → List ℕ → Row
 once x exchange reply = keeping x (answered exchange) (x .request) (x .place) reply
+
+-- "a request that would start an exchange gets a Status Response at turn 1"
+abbrev pub refusalOf : ℕ → ℕ → List ℕ
+refusalOf exchange code = statusMessage panelEdition exchange firstReply code
 
 abbrev pub beginningPlace : Place
 beginningPlace = startOf 0 0
@@ -51,8 +56,8 @@ requestOf w r =
 abbrev pub readBy : List ℕ → Values → List ℕ → List ℕ → Grants → Row → ℕ → ReadRequest → Row
 readBy w v defaults edits g x exchange r =
     pick (eqb (r .verdict) 0)
-    (reported x exchange 1 (requestOf w r) beginningPlace (blocksOf w v defaults edits g (requestOf w r) beginningPlace))
-    (once x exchange (statusMessage exchange (r .verdict)))
+    (reported x exchange firstReply (requestOf w r) beginningPlace (blocksOf w v defaults edits g (requestOf w r) beginningPlace))
+    (once x exchange (refusalOf exchange (r .verdict)))
 
 unfoldable pub readBegun : List ℕ → Values → List ℕ → List ℕ → Grants → Row → ℕ → List ℕ → Row
 readBegun w v defaults edits g x exchange payload = readBy w v defaults edits g x exchange (readRead (readIn payload))
@@ -68,13 +73,13 @@ entriesOf r = take (r .entries .count) (r .entries .kept)
 -- "SuppressResponse true: stored, silence .. a refusal of the whole request is still sent"
 abbrev pub responseTo : List ℕ → Grants → List ℕ → List ℕ → Held → ℕ → WriteRequest → List ℕ
 responseTo w g defaults payload h exchange r =
-    pick (eqb (r .suppress) 1) [] (responseMessage exchange (entriesOf r) (codesOf w g defaults payload h (entriesOf r)))
+    pick (eqb (r .suppress) 1) [] (responseMessage panelEdition exchange firstReply (entriesOf r) (codesOf w g defaults payload h (entriesOf r)))
 
 abbrev pub writeBy : List ℕ → Grants → List ℕ → Held → Row → ℕ → List ℕ → WriteRequest → Left
 writeBy w g defaults h x exchange payload r =
     pick (eqb (r .verdict) 0)
     (record { held = heldAfter w g defaults payload h (entriesOf r); row = once x exchange (responseTo w g defaults payload h exchange r) })
-    (record { held = h; row = once x exchange (statusMessage exchange (r .verdict)) })
+    (record { held = h; row = once x exchange (refusalOf exchange (r .verdict)) })
 
 -- a write: nothing stored if it is refused whole
 unfoldable pub writeBegun : List ℕ → Grants → List ℕ → Held → Row → ℕ → List ℕ → Left

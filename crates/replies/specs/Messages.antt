@@ -18,13 +18,15 @@ envelopeLength = Envelope.envelopeLength
 abbrev pub maxMessage : ℕ
 maxMessage = Envelope.maxMessage
 
--- a refusal of a whole request: "a Status Response at turn 1"
-unfoldable pub statusMessage : ℕ → ℕ → List ℕ
-statusMessage exchange code = envelopeOctets statusOpcode exchange 1 ++ spelling (messageTree (statusMembers code))
+-- a status: a refusal of a whole request
+unfoldable pub statusMessage : ℕ → ℕ → ℕ → ℕ → List ℕ
+statusMessage edition exchange turn code =
+    envelopeOctets edition statusOpcode exchange turn ++ spelling (messageTree (statusMembers code))
 
--- reply k of a read
-unfoldable pub reportMessage : ℕ → ℕ → List Placed → List ℕ
-reportMessage exchange turn l = envelopeOctets reportOpcode exchange turn ++ partPayload l
+-- a part of a report
+unfoldable pub reportMessage : ℕ → ℕ → ℕ → List Placed → List ℕ
+reportMessage edition exchange turn l = envelopeOctets edition reportOpcode exchange turn ++ partPayload l
 
-unfoldable pub responseMessage : ℕ → List Entry → List ℕ → List ℕ
-responseMessage exchange xs codes = envelopeOctets writeResponseOpcode exchange 1 ++ responsePayload xs codes
+-- the statuses of a write
+unfoldable pub responseMessage : ℕ → ℕ → ℕ → List Entry → List ℕ → List ℕ
+responseMessage edition exchange turn xs codes = envelopeOctets edition writeResponseOpcode exchange turn ++ responsePayload xs codes

@@ -1,12 +1,13 @@
 -- The exchange that a sign serves: how far it has come, the request being answered, the place reached, and the kept reply.
 use mathlib.Core.Bool.{Bool, _&&_}
 use mathlib.Core.List.{List, [], _∷_}
-use Prim.Native.Nat.{ℕ, _+_, _^_}
+use Prim.Native.Nat.{ℕ, _+_}
 use lib.Dec.{leb, ltb, eqb}
 use lib.ListN.{length, getD, take, drop}
 use Rattle.octets.specs.Store.{store}
 use Rattle.tlv.specs.Octet.{pick}
 use Rattle.interaction.specs.Read.{maxPaths}
+use Rattle.interaction_writer.specs.Envelope.{panelEdition, exchangeLimit}
 use Rattle.schema.specs.Layout.{attributeLimit}
 use Rattle.acl.specs.declared.Grants.{Grants}
 use Rattle.values.specs.declared.Values.{Values}
@@ -51,7 +52,7 @@ nextOf more = pick more part nothing
 abbrev pub reported : Row → ℕ → ℕ → Request → Place → List Placed → Row
 reported x exchange turn r at l =
     keeping x (record { last = exchange; turn = turn; next = nextOf (any (left blockRoom l)); closed = 0 }) r (after at (taken blockRoom l))
-    (reportMessage exchange turn l)
+    (reportMessage panelEdition exchange turn l)
 
 -- "turn k, when more was promised, gets reply k + 1"
 unfoldable pub nextPart : List ℕ → Values → List ℕ → List ℕ → Grants → Row → Row
@@ -61,7 +62,7 @@ nextPart w v defaults edits g x =
 -- refusal 2: numbers in their widths, counts, the place reached, of which nothing was sent, and the kept reply's length
 unfoldable pub rowRight : Row → Bool
 rowRight x =
-    ltb (x .progress .last) (2 ^ 40)
+    ltb (x .progress .last) exchangeLimit
     && (leb (x .progress .turn) maxTurn
     && (leb (x .progress .next) part
     && (leb (x .progress .closed) 1

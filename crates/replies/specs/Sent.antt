@@ -9,7 +9,7 @@ use Rattle.report.specs.Blocks.{Placed}
 use Rattle.report.specs.Chunk.{blockRoom, taken, left, after, any}
 use Rattle.replies.specs.Messages.{reportMessage}
 
-pub record Sent (old : List ℕ) (exchange turn : ℕ) (at : Place) (l : List Placed) (new : List ℕ) (r : Filled) : Type 0 where
-  pub stored : Stored old 0 (reportMessage exchange turn l) new (r .end)
+pub record Sent (old : List ℕ) (edition exchange turn : ℕ) (at : Place) (l : List Placed) (new : List ℕ) (r : Filled) : Type 0 where
+  pub stored : Stored old 0 (reportMessage edition exchange turn l) new (r .end)
   pub place : r .place ≡ after at (taken blockRoom l)
   pub more : r .more ≡ any (left blockRoom l)

@@ -2,16 +2,17 @@
 ghost use mathlib.Core.Path.{_≡_};
 ghost use mathlib.Core.Bool.{true};
 ghost use mathlib.Core.List.{List};
-ghost use Prim.Native.Nat.{ℕ, _<_, _≤_, _^_, _*_};
+ghost use Prim.Native.Nat.{ℕ, _<_, _≤_, _*_};
 ghost use lib.ListN.{length};
 ghost use Rattle.octets.specs.Store.{store};
+ghost use Rattle.interaction_writer.specs.Envelope.{exchangeLimit};
 ghost use Rattle.schema.specs.Layout.{textSize};
 ghost use Rattle.schema.specs.Check.{wellFormed, textCount};
 ghost use Rattle.values.specs.Values.{valuesOf};
 ghost use Rattle.writes.specs.Offer.{heldOf};
-ghost use Rattle.replies.specs.Messages.{maxMessage, statusMessage};
+ghost use Rattle.replies.specs.Messages.{maxMessage};
 ghost use Rattle.replies.specs.Row.{rowIn, keptReply};
-ghost use Rattle.replies.specs.Begin.{once, readBegun, writeBegun, Begins, Wrote};
+ghost use Rattle.replies.specs.Begin.{refusalOf, once, readBegun, writeBegun, Begins, Wrote};
 use super::MAX_MESSAGE;
 use super::Standing;
 use super::kept::keep;
@@ -20,10 +21,12 @@ use super::message::put_part;
 use super::message::put_status;
 use super::message::put_statuses;
 use acl::Grants;
+use exchange::FIRST_REPLY;
 use exchange::NOTHING;
 use exchange::Progress;
 use interaction::read_request;
 use interaction_write::write_request;
+use interaction_writer::envelope::PANEL_EDITION;
 use report::ATTRIBUTE_PHASE;
 use report::Place;
 use schema::ATTRIBUTES;
@@ -45,7 +48,7 @@ fn once_kept(kept: &mut [u8; MAX_MESSAGE], t: Standing, exchange: u64, reply: &[
     Standing {
         progress: Progress {
             last: exchange,
-            turn: 1,
+            turn: FIRST_REPLY,
             next: NOTHING,
             closed: 0,
         },
@@ -63,10 +66,10 @@ fn refuse(
     code: u8,
     out: &mut [u8],
 ) -> Standing
-    requires { ⌜ (exchange < 2 ^ 40) × (maxMessage ≤ length (now out)) ⌝ }
-    ensures { λ r. ⌜ ((row : List ℕ) → (rowIn row r (now (kept .exit)) ≡ once (rowIn row t (now (kept .entry))) exchange (statusMessage exchange code)) × ((now (out .exit) ≡ store (now (out .entry)) 0 (keptReply (rowIn row r (now (kept .exit))))) × (length (keptReply (rowIn row r (now (kept .exit)))) ≡ r .len))) ⌝ }
+    requires { ⌜ (exchange < exchangeLimit) × (maxMessage ≤ length (now out)) ⌝ }
+    ensures { λ r. ⌜ ((row : List ℕ) → (rowIn row r (now (kept .exit)) ≡ once (rowIn row t (now (kept .entry))) exchange (refusalOf exchange code)) × ((now (out .exit) ≡ store (now (out .entry)) 0 (keptReply (rowIn row r (now (kept .exit))))) × (length (keptReply (rowIn row r (now (kept .exit)))) ≡ r .len))) ⌝ }
 {
-    let end = put_status(out, exchange, code);
+    let end = put_status(out, PANEL_EDITION, exchange, FIRST_REPLY as u16, code);
     once_kept(kept, t, exchange, &out[0..end])
 }
 
@@ -87,7 +90,7 @@ pub fn begin_read<'a>(
     payload: &'a [u8],
     out: &mut [u8],
 ) -> Standing
-    requires { ⌜ (wellFormed (now w) ≡ true) × ((exchange < 2 ^ 40) × (maxMessage ≤ length (now out))) ⌝ }
+    requires { ⌜ (wellFormed (now w) ≡ true) × ((exchange < exchangeLimit) × (maxMessage ≤ length (now out))) ⌝ }
     ensures { λ r. ⌜ Begins (readBegun (now (w .entry)) (valuesOf (now (words .entry)) (now (nulls .entry)) (now (edited .entry)) (now (versions .entry))) (now (defaults .entry)) (now (edits .entry)) g (rowIn (now (row .entry)) t (now (kept .entry))) exchange (now (payload .entry))) r (now (row .entry)) (now (row .exit)) (now (kept .exit)) (now (out .entry)) (now (out .exit)) ⌝ }
 {
     let r = read_request(payload);
@@ -119,8 +122,9 @@ pub fn begin_read<'a>(
             sent: 0,
         },
         out,
+        PANEL_EDITION,
         exchange,
-        1,
+        FIRST_REPLY as u16,
     );
     let place = f.place;
     let end = f.end;
@@ -128,7 +132,7 @@ pub fn begin_read<'a>(
     Standing {
         progress: Progress {
             last: exchange,
-            turn: 1,
+            turn: FIRST_REPLY,
             next: next_of(f.more),
             closed: 0,
         },
@@ -154,7 +158,7 @@ pub fn begin_write<'a>(
     payload: &'a [u8],
     out: &mut [u8],
 ) -> Standing
-    requires { ⌜ (wellFormed (now w) ≡ true) × ((length (now edits) ≡ textSize * textCount (now w)) × ((exchange < 2 ^ 40) × (maxMessage ≤ length (now out)))) ⌝ }
+    requires { ⌜ (wellFormed (now w) ≡ true) × ((length (now edits) ≡ textSize * textCount (now w)) × ((exchange < exchangeLimit) × (maxMessage ≤ length (now out)))) ⌝ }
     ensures { λ r. ⌜ ((row : List ℕ) → Wrote (writeBegun (now (w .entry)) g (now (defaults .entry)) (heldOf (now (words .entry)) (now (nulls .entry)) (now (edited .entry)) (now (versions .entry)) (now (edits .entry))) (rowIn row t (now (kept .entry))) exchange (now (payload .entry))) r (heldOf (now (words .exit)) (now (nulls .exit)) (now (edited .exit)) (now (versions .exit)) (now (edits .exit))) row row (now (kept .exit)) (now (out .entry)) (now (out .exit))) ⌝ }
 {
     let r = write_request(payload);
@@ -180,6 +184,14 @@ pub fn begin_write<'a>(
     if r.suppress == 1 {
         return once_kept(kept, t, exchange, &out[0..0]);
     }
-    let end = put_statuses(all, codes, n, out, exchange);
+    let end = put_statuses(
+        all,
+        codes,
+        n,
+        out,
+        PANEL_EDITION,
+        exchange,
+        FIRST_REPLY as u16,
+    );
     once_kept(kept, t, exchange, &out[0..end])
 }

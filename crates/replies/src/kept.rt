@@ -17,6 +17,7 @@ use acl::Grants;
 use exchange::NOTHING;
 use exchange::PART;
 use exchange::Progress;
+use interaction_writer::envelope::PANEL_EDITION;
 use octets::put_bytes;
 use schema::ATTRIBUTES;
 use schema::CLUSTERS;
@@ -86,6 +87,7 @@ pub fn next_part<'a>(
         t.asked,
         from,
         out,
+        PANEL_EDITION,
         was.last,
         turn as u16,
     );

@@ -1,12 +1,13 @@
 // Whole messages written from the start of the buffer on.
 ghost use mathlib.Core.Path.{_≡_};
 ghost use mathlib.Core.Bool.{true};
-ghost use Prim.Native.Nat.{ℕ, _<_, _≤_, _^_};
+ghost use Prim.Native.Nat.{ℕ, _<_, _≤_};
 ghost use lib.ListN.{length, take, getD};
 ghost use Rattle.octets.specs.Store.{Stored};
 ghost use Rattle.schema.specs.Check.{wellFormed};
 ghost use Rattle.interaction.specs.Read.{maxPaths};
 ghost use Rattle.interaction_write.specs.Write.{maxWrites, noEntry};
+ghost use Rattle.interaction_writer.specs.Envelope.{exchangeLimit};
 ghost use Rattle.writes.specs.Entry.{InWidth};
 ghost use Rattle.replies.specs.Messages.{maxMessage, statusMessage, responseMessage};
 ghost use Rattle.values.specs.Values.{valuesOf};
@@ -30,12 +31,12 @@ use schema::WORDS;
 use selection::request::ROW_WORDS;
 use writes::response::put_response;
 
-// A refusal of a whole request.
-pub fn put_status(out: &mut [u8], exchange: u64, code: u8) -> usize
-    requires { ⌜ (exchange < 2 ^ 40) × (maxMessage ≤ length (now out)) ⌝ }
-    ensures { λ r. ⌜ Stored (now (out .entry)) 0 (statusMessage exchange code) (now (out .exit)) r ⌝ }
+// A status: a refusal of a whole request.
+pub fn put_status(out: &mut [u8], edition: u8, exchange: u64, turn: u16, code: u8) -> usize
+    requires { ⌜ (edition < 16) × ((exchange < exchangeLimit) × (maxMessage ≤ length (now out))) ⌝ }
+    ensures { λ r. ⌜ Stored (now (out .entry)) 0 (statusMessage edition exchange turn code) (now (out .exit)) r ⌝ }
 {
-    let p = put_envelope(out, 0, STATUS as u8, exchange, 1);
+    let p = put_envelope(out, 0, edition, STATUS as u8, exchange, turn);
     put_status_response(out, p, code)
 }
 
@@ -45,12 +46,14 @@ pub fn put_statuses(
     codes: [u8; MAX_WRITES],
     n: usize,
     out: &mut [u8],
+    edition: u8,
     exchange: u64,
+    turn: u16,
 ) -> usize
-    requires { ⌜ (n ≤ maxWrites) × (((i : ℕ) → i < n → InWidth (getD entries i noEntry)) × ((exchange < 2 ^ 40) × (maxMessage ≤ length (now out)))) ⌝ }
-    ensures { λ r. ⌜ Stored (now (out .entry)) 0 (responseMessage exchange (take n entries) (take n codes)) (now (out .exit)) r ⌝ }
+    requires { ⌜ (n ≤ maxWrites) × (((i : ℕ) → i < n → InWidth (getD entries i noEntry)) × ((edition < 16) × ((exchange < exchangeLimit) × (maxMessage ≤ length (now out))))) ⌝ }
+    ensures { λ r. ⌜ Stored (now (out .entry)) 0 (responseMessage edition exchange turn (take n entries) (take n codes)) (now (out .exit)) r ⌝ }
 {
-    let p = put_envelope(out, 0, WRITE_RESPONSE as u8, exchange, 1);
+    let p = put_envelope(out, 0, edition, WRITE_RESPONSE as u8, exchange, turn);
     put_response(entries, codes, n, out, p)
 }
 
@@ -68,13 +71,14 @@ pub fn put_part<'a>(
     asked: usize,
     from: Place,
     out: &mut [u8],
+    edition: u8,
     exchange: u64,
     turn: u16,
 ) -> Filled
-    requires { ⌜ (wellFormed (now w) ≡ true) × ((asked ≤ maxPaths) × ((exchange < 2 ^ 40) × (maxMessage ≤ length (now out)))) ⌝ }
-    ensures { λ r. ⌜ Sent (now (out .entry)) exchange turn from (blocksOf (now (w .entry)) (valuesOf (now (words .entry)) (now (nulls .entry)) (now (edited .entry)) (now (versions .entry))) (now (defaults .entry)) (now (edits .entry)) g (requestIn (now (row .entry)) asked) from) (now (out .exit)) r ⌝ }
+    requires { ⌜ (wellFormed (now w) ≡ true) × ((asked ≤ maxPaths) × ((edition < 16) × ((exchange < exchangeLimit) × (maxMessage ≤ length (now out))))) ⌝ }
+    ensures { λ r. ⌜ Sent (now (out .entry)) edition exchange turn from (blocksOf (now (w .entry)) (valuesOf (now (words .entry)) (now (nulls .entry)) (now (edited .entry)) (now (versions .entry))) (now (defaults .entry)) (now (edits .entry)) g (requestIn (now (row .entry)) asked) from) (now (out .exit)) r ⌝ }
 {
-    let p = put_envelope(out, 0, REPORT as u8, exchange, turn);
+    let p = put_envelope(out, 0, edition, REPORT as u8, exchange, turn);
     make_part(
         w,
         words,

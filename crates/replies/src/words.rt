@@ -10,6 +10,7 @@ use exchange::MAX_TURN;
 use exchange::PART;
 use exchange::Progress;
 use interaction::MAX_PATHS;
+use interaction_writer::envelope::EXCHANGE_LIMIT;
 use report::ATTRIBUTE_PHASE;
 use report::Place;
 use schema::ATTRIBUTES;
@@ -60,7 +61,7 @@ pub fn row_ok(t: Standing) -> bool
 {
     let progress = t.progress;
     let place = t.place;
-    if 1_099_511_627_776 <= progress.last {
+    if EXCHANGE_LIMIT <= progress.last {
         return false;
     }
     if MAX_TURN < progress.turn {

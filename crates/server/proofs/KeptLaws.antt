@@ -21,11 +21,11 @@ use Rattle.writes.specs.Offer.{Held, changed}
 use Rattle.writes.specs.Entry.{heldAfter}
 use Rattle.writes.proofs.HeldLaws.{Right, changed-keeps, writes-keep}
 use Rattle.replies.specs.declared.Row.{Row}
-use Rattle.replies.specs.Messages.{statusMessage}
 use Rattle.replies.specs.Row.{rowRight, nextPart}
-use Rattle.replies.specs.Begin.{Left, once, entriesOf, responseTo, readBegun, writeBegun}
+use Rattle.replies.specs.Begin.{Left, once, entriesOf, responseTo, readBegun, writeBegun, refusalOf}
 use Rattle.replies.proofs.KeptLaws.{next-right, read-right, write-right}
 use Rattle.replies.proofs.RowLaws.{row-right, right-row}
+use Rattle.interaction_writer.specs.Envelope.{exchangeLimit}
 use Rattle.server.specs.declared.State.{State}
 use Rattle.server.specs.State.{signRight}
 use Rattle.server.specs.Start.{Altered, alteredBy}
@@ -46,7 +46,7 @@ write-keeps w defaults rules h r g x exchange payload =
     let q = writeRead (writeIn payload) in
     pick-elim (λ (l : Left). Right w defaults (l .held)) (eqb (q .verdict) 0)
     (record { held = heldAfter w g defaults payload h (entriesOf q); row = once x exchange (responseTo w g defaults payload h exchange q) })
-    (record { held = h; row = once x exchange (statusMessage exchange (q .verdict)) })
+    (record { held = h; row = once x exchange (refusalOf exchange (q .verdict)) })
     (λ _. writes-keep w defaults rules h r g payload (entriesOf q)) (λ _. r)
 
 closing-right : (x : Row) → rowRight x ≡ true → rowRight (closing x) ≡ true
@@ -85,7 +85,7 @@ module _ (w defaults edits : List ℕ) (s : State) (valid : ValidSign w defaults
       (moved k (changed-keeps w defaults rules h held-right e c a src new sized) (s .row) (parts .row))
 
   -- what a message gets
-  reacted-kept : (g : Grants) (e : Fields) → e .exchange < 2 ^ 40 → (payload : List ℕ) (step : Step) → (step ≡ Next → s .row .progress .turn < maxTurn) → ValidSign w defaults (reacted w defaults g s edits e payload step .edits) (reacted w defaults g s edits e payload step .state)
+  reacted-kept : (g : Grants) (e : Fields) → e .exchange < exchangeLimit → (payload : List ℕ) (step : Step) → (step ≡ Next → s .row .progress .turn < maxTurn) → ValidSign w defaults (reacted w defaults g s edits e payload step .edits) (reacted w defaults g s edits e payload step .state)
   unfolding reacted
   reacted-kept g e below payload Silence t = valid
   reacted-kept g e below payload Begin t =

@@ -15,13 +15,15 @@ use Rattle.schema.specs.Layout.{subjectWord}
 use Rattle.acl.specs.declared.Grants.{Grants}
 use Rattle.exchange.specs.declared.Progress.{Progress}
 use Rattle.exchange.specs.declared.Step.the-variants.{Next}
-use Rattle.exchange.specs.Rules.{statusOpcode, maxTurn, part, beginning, forServer, onStatus}
+use Rattle.exchange.specs.Rules as rules
+use Rattle.exchange.specs.Rules.{statusOpcode, maxTurn, part, beginning, onStatus}
 use Rattle.replies.specs.Messages.{envelopeLength, maxMessage}
 use Rattle.replies.specs.Row.{keptReply, nextPart}
 use Rattle.replies.proofs.KeptLaws.{next-right, next-some}
+use Rattle.interaction_writer.specs.Envelope.{panelEdition}
 use Rattle.server.specs.declared.State.{State}
 use Rattle.server.specs.State.{signRight}
-use Rattle.server.specs.Receive.{numberFor, replied, stepOf, reacted, received}
+use Rattle.server.specs.Receive.{numberFor, replied, stepOf, reacted, received, forServer}
 use Rattle.server.proofs.ReactLaws.{kept-length, next-whole, len-of}
 use Rattle.server.proofs.ReceiveLaws.{served, right-row-of}
 
@@ -29,7 +31,7 @@ use Rattle.server.proofs.ReceiveLaws.{served, right-row-of}
 pub record Success (w : List ℕ) (s : State) (subject : ℕ) (m : List ℕ) (e : Fields) : Type 0 where
   pub found : envelopeIn m ≡ Whole e
   pub fits : length m ≤ maxMessage
-  pub edition : e .edition ≡ 0
+  pub edition : e .edition ≡ panelEdition
   pub opcode : e .opcode ≡ statusOpcode
   pub ours : subject ≡ getD w subjectWord 0
   pub exchange : e .exchange ≡ s .row .progress .last
@@ -46,9 +48,9 @@ unfolding stepOf beginning onStatus
 step-next x e payload o a b c p =
     rw (o, c, eq-eqb (e .exchange) (x .last) a, p .unclosed, eq-eqb (e .turn) (x .turn) b, p .promised, lt-ltb (x .turn) maxTurn (p .left)) refl
 
-for-status : (opcode : ℕ) → opcode ≡ statusOpcode → forServer opcode ≡ true
-unfolding forServer
-for-status opcode o = rw o refl
+for-status : (edition opcode : ℕ) → edition ≡ panelEdition → opcode ≡ statusOpcode → forServer edition opcode ≡ true
+unfolding forServer rules.forServer
+for-status edition opcode e o = rw (e, o) refl
 
 some-number : (l : List ℕ) → envelopeLength ≤ length l → numberFor l ≡ 0
 some-number [] h = absurd (omega arith)
@@ -58,7 +60,7 @@ module _ (w defaults edits : List ℕ) (s : State) (g : Grants) (subject : ℕ) 
   pub promised-part : received w defaults edits s true g subject m room ≡ replied s edits (nextPart w (s .values) defaults edits g (s .row))
   unfolding reacted
   promised-part =
-      served w defaults edits s true g subject m room h refl enough (y .found) (y .fits) (y .edition) (for-status (e .opcode) (y .opcode)) (y .ours)
+      served w defaults edits s true g subject m room h refl enough (y .found) (y .fits) (for-status (e .edition) (e .opcode) (y .edition) (y .opcode)) (y .ours)
       ∙ ap (reacted w defaults g s edits e (drop envelopeLength m)) (step-next (s .row .progress) e (drop envelopeLength m) (y .opcode) (y .exchange) (y .turn) (y .status) p)
 
   -- so it is never silence

@@ -12,21 +12,20 @@ use Rattle.tlv.specs.Octet.{pick}
 use Rattle.envelope.specs.declared.Fields.{Fields}
 use Rattle.envelope.specs.declared.Envelope.the-variants.{Whole, Short}
 use Rattle.envelope.specs.Envelope.{envelopeIn, fieldsOf}
-use Rattle.interaction_writer.specs.Envelope.{bigNumber}
+use Rattle.interaction_writer.specs.Envelope.{bigNumber, exchangeLimit}
 use Rattle.schema.specs.Layout.{subjectWord, textSize}
 use Rattle.schema.specs.Check.{wellFormed, textCount}
 use Rattle.schema.proofs.BoolLaws.{left, right, by-test}
 use Rattle.node.specs.Check.{numbersRight}
 use Rattle.acl.specs.declared.Grants.{Grants}
 use Rattle.exchange.specs.declared.Step.{Step}
-use Rattle.exchange.specs.Rules.{forServer}
 use Rattle.values.specs.Valid.{valuesRight}
 use Rattle.values.proofs.ValidLaws.{edits-size}
 use Rattle.replies.specs.Messages.{envelopeLength, maxMessage}
 use Rattle.replies.specs.Row.{rowRight}
 use Rattle.server.specs.declared.State.{State}
 use Rattle.server.specs.State.{signRight}
-use Rattle.server.specs.Receive.{refusal, silence, stepOf, reacted, inEnvelope, received}
+use Rattle.server.specs.Receive.{refusal, silence, stepOf, reacted, inEnvelope, received, forServer}
 
 -- what a valid sign has
 module _ (w defaults edits : List ℕ) (s : State) (h : signRight w defaults edits s ≡ true) where
@@ -48,18 +47,18 @@ module _ (w defaults edits : List ℕ) (s : State) (h : signRight w defaults edi
   right-size = edits-size w defaults edits (s .values) right-values
 
 -- an envelope's exchange has 40 bits
-pub exchange-below : (m : List ℕ) {e : Fields} → envelopeIn m ≡ Whole e → e .exchange < 2 ^ 40
+pub exchange-below : (m : List ℕ) {e : Fields} → envelopeIn m ≡ Whole e → e .exchange < exchangeLimit
 unfolding envelopeIn fieldsOf
-exchange-below m {e} h = go (ltb (length m) 8) h
+exchange-below m {e} h = go (ltb (length m) envelopeLength) h
   where
-    go : (b : Bool) → pick b Short (Whole (fieldsOf (bigNumber (take 8 m)))) ≡ Whole e → e .exchange < 2 ^ 40
+    go : (b : Bool) → pick b Short (Whole (fieldsOf (bigNumber (take envelopeLength m)))) ≡ Whole e → e .exchange < exchangeLimit
     go true q = let z : _≡_ {A = ℕ} 0 1 = cc in absurd (omega arith)
-    go false q = let f : fieldsOf (bigNumber (take 8 m)) ≡ e = cc in omega (arith, ap (λ (x : Fields). x .exchange) f)
+    go false q = let f : fieldsOf (bigNumber (take envelopeLength m)) ≡ e = cc in omega (arith, ap (λ (x : Fields). x .exchange) f)
 
 -- and it has its eight octets
-pub long-enough : (m : List ℕ) {e : Fields} → envelopeIn m ≡ Whole e → 8 ≤ length m
+pub long-enough : (m : List ℕ) {e : Fields} → envelopeIn m ≡ Whole e → envelopeLength ≤ length m
 unfolding envelopeIn
-long-enough m {e} h = by-test (ltb (length m) 8) (λ t. let q : Short ≡ Whole e = rw t at h in let z : _≡_ {A = ℕ} 0 1 = cc in absurd (omega arith)) (λ f. ltb-false _ _ f)
+long-enough m {e} h = by-test (ltb (length m) envelopeLength) (λ t. let q : Short ≡ Whole e = rw t at h in let z : _≡_ {A = ℕ} 0 1 = cc in absurd (omega arith)) (λ f. ltb-false _ _ f)
 
 module _ (w defaults edits : List ℕ) (s : State) (table : Bool) (g : Grants) (subject : ℕ) (m : List ℕ) (room : ℕ) where
   pub broken : signRight w defaults edits s ≡ false → received w defaults edits s table g subject m room ≡ refusal 2 s edits
@@ -91,27 +90,23 @@ module _ (w defaults edits : List ℕ) (s : State) (table : Bool) (g : Grants) (
         too-long k = whole ∙ rw (lt-leb (length m) maxMessage k) refl
 
         module _ (k : length m ≤ maxMessage) where
-          pub other-edition : (e .edition ≡ 0 → ⊥) → received w defaults edits s table g subject m room ≡ refusal 4 s edits
-          other-edition n = whole ∙ rw (le-leb (length m) maxMessage k, ne-eqb (e .edition) 0 n) refl
+          pub not-for-server : forServer (e .edition) (e .opcode) ≡ false → received w defaults edits s table g subject m room ≡ refusal 4 s edits
+          not-for-server o = whole ∙ rw (le-leb (length m) maxMessage k, o) refl
 
-          module _ (n : e .edition ≡ 0) where
-            pub other-opcode : forServer (e .opcode) ≡ false → received w defaults edits s table g subject m room ≡ refusal 4 s edits
-            other-opcode o = whole ∙ rw (le-leb (length m) maxMessage k, eq-eqb (e .edition) 0 n, o) refl
+          module _ (o : forServer (e .edition) (e .opcode) ≡ true) where
+            pub other-subject : (subject ≡ getD w subjectWord 0 → ⊥) → received w defaults edits s table g subject m room ≡ silence s edits
+            other-subject u = whole ∙ rw (le-leb (length m) maxMessage k, o, ne-eqb subject (getD w subjectWord 0) u) refl
 
-            module _ (o : forServer (e .opcode) ≡ true) where
-              pub other-subject : (subject ≡ getD w subjectWord 0 → ⊥) → received w defaults edits s table g subject m room ≡ silence s edits
-              other-subject u = whole ∙ rw (le-leb (length m) maxMessage k, eq-eqb (e .edition) 0 n, o, ne-eqb subject (getD w subjectWord 0) u) refl
+            pub served : subject ≡ getD w subjectWord 0 → received w defaults edits s table g subject m room ≡ reacted w defaults g s edits e (drop envelopeLength m) (stepOf (s .row .progress) e (drop envelopeLength m))
+            served u = whole ∙ rw (le-leb (length m) maxMessage k, o, eq-eqb subject (getD w subjectWord 0) u) refl
 
-              pub served : subject ≡ getD w subjectWord 0 → received w defaults edits s table g subject m room ≡ reacted w defaults g s edits e (drop envelopeLength m) (stepOf (s .row .progress) e (drop envelopeLength m))
-              served u = whole ∙ rw (le-leb (length m) maxMessage k, eq-eqb (e .edition) 0 n, o, eq-eqb subject (getD w subjectWord 0) u) refl
-
-              -- the payload and the step as the code has them
-              pub served-as : subject ≡ getD w subjectWord 0 → {p : List ℕ} {k : Step} → p ≡ drop envelopeLength m → k ≡ stepOf (s .row .progress) e p → received w defaults edits s table g subject m room ≡ reacted w defaults g s edits e p k
-              served-as u {p} {k} a b =
-                  served u
-                  ∙ ap (λ (l : List ℕ). reacted w defaults g s edits e l (stepOf (s .row .progress) e l)) (sym a)
-                  ∙ ap (reacted w defaults g s edits e p) (sym b)
+            -- the payload and the step as the code has them
+            pub served-as : subject ≡ getD w subjectWord 0 → {p : List ℕ} {k : Step} → p ≡ drop envelopeLength m → k ≡ stepOf (s .row .progress) e p → received w defaults edits s table g subject m room ≡ reacted w defaults g s edits e p k
+            served-as u {p} {k} a b =
+                served u
+                ∙ ap (λ (l : List ℕ). reacted w defaults g s edits e l (stepOf (s .row .progress) e l)) (sym a)
+                ∙ ap (reacted w defaults g s edits e p) (sym b)
 
 -- what follows the envelope
-pub payload-of : (m : List ℕ) → take (length m - 8) (drop 8 m) ≡ drop envelopeLength m
-payload-of m = take-all (length m - 8) (drop 8 m) (omega (arith, length-drop 8 m))
+pub payload-of : (m : List ℕ) → take (length m - envelopeLength) (drop envelopeLength m) ≡ drop envelopeLength m
+payload-of m = take-all (length m - envelopeLength) (drop envelopeLength m) (omega (arith, length-drop envelopeLength m))

@@ -12,45 +12,45 @@ use Rattle.envelope.specs.declared.Fields.{Fields}
 use Rattle.envelope.specs.declared.Envelope.{Envelope}
 use Rattle.envelope.specs.declared.Envelope.the-variants as envelope
 use Rattle.envelope.specs.Envelope.{fieldsOf, envelopeIn}
-use Rattle.interaction_writer.specs.Envelope.{bigNumber}
+use Rattle.interaction_writer.specs.Envelope.{bigNumber, exchangeLimit}
 use Rattle.schema.specs.Layout.{subjectWord}
 use Rattle.schema.proofs.BoolLaws.{both}
 use Rattle.acl.specs.declared.Grants.{Grants}
 use Rattle.exchange.specs.declared.Step.{Step}
 use Rattle.exchange.specs.declared.Step.the-variants.{Silence, Begin, Repeat, Next, Close}
-use Rattle.exchange.specs.Rules.{readOpcode, maxTurn, forServer}
+use Rattle.exchange.specs.Rules.{readOpcode, maxTurn}
 use Rattle.replies.specs.Messages.{envelopeLength, maxMessage}
 use Rattle.replies.specs.Row.{keptReply, nextPart}
 use Rattle.replies.specs.Begin.{readBegun, writeBegun}
 use Rattle.server.proofs.StepLaws.{next-turn}
 use Rattle.server.specs.declared.State.{State}
 use Rattle.server.specs.State.{signRight}
-use Rattle.server.specs.Receive.{Reaction, refusal, numberFor, answering, silence, replied, wrote, stepOf, reacted, inEnvelope, received}
+use Rattle.server.specs.Receive.{Reaction, refusal, numberFor, answering, silence, replied, wrote, stepOf, reacted, inEnvelope, received, forServer}
 
 -- ---- an envelope's exchange has 40 bits
 
 abbrev Below : Envelope → Type 0
 Below envelope.Short = Unit
-Below (envelope.Whole e) = e .exchange < 2 ^ 40
+Below (envelope.Whole e) = e .exchange < exchangeLimit
 
-fields-below : (n : ℕ) → fieldsOf n .exchange < 2 ^ 40
+fields-below : (n : ℕ) → fieldsOf n .exchange < exchangeLimit
 unfolding fieldsOf
 fields-below n = omega arith
 
 envelope-below : (m : List ℕ) → Below (envelopeIn m)
 unfolding envelopeIn
-envelope-below m = pick-elim Below (ltb (length m) 8) envelope.Short (envelope.Whole (fieldsOf (bigNumber (take 8 m)))) (λ _. tt) (λ _. fields-below (bigNumber (take 8 m)))
+envelope-below m = pick-elim Below (ltb (length m) envelopeLength) envelope.Short (envelope.Whole (fieldsOf (bigNumber (take envelopeLength m)))) (λ _. tt) (λ _. fields-below (bigNumber (take envelopeLength m)))
 
 -- ---- a property of what is answered: of the refusals, of silence, and of every reaction
 
 module _ (P : Reaction → Type 0) (w defaults edits : List ℕ) (s : State) (g : Grants) where
-  module _ (no-message : P (refusal 4 s edits)) (silent : P (silence s edits)) (each : (e : Fields) → e .exchange < 2 ^ 40 → (payload : List ℕ) (step : Step) → (step ≡ Next → s .row .progress .turn < maxTurn) → P (reacted w defaults g s edits e payload step)) where
+  module _ (no-message : P (refusal 4 s edits)) (silent : P (silence s edits)) (each : (e : Fields) → e .exchange < exchangeLimit → (payload : List ℕ) (step : Step) → (step ≡ Next → s .row .progress .turn < maxTurn) → P (reacted w defaults g s edits e payload step)) where
     enveloped : (subject : ℕ) (m : List ℕ) (x : Envelope) → Below x → P (inEnvelope w defaults g s edits subject m x)
     enveloped subject m envelope.Short b = no-message
     enveloped subject m (envelope.Whole e) b =
         let payload = drop envelopeLength m in
         let r = reacted w defaults g s edits e payload (stepOf (s .row .progress) e payload) in
-        pick-elim P (leb (length m) maxMessage && (eqb (e .edition) 0 && forServer (e .opcode))) (pick (eqb subject (getD w subjectWord 0)) r (silence s edits)) (refusal 4 s edits)
+        pick-elim P (leb (length m) maxMessage && forServer (e .edition) (e .opcode)) (pick (eqb subject (getD w subjectWord 0)) r (silence s edits)) (refusal 4 s edits)
         (λ _. pick-elim P (eqb subject (getD w subjectWord 0)) r (silence s edits) (λ _. each e b payload (stepOf (s .row .progress) e payload) (λ z. next-turn (s .row .progress) e payload z)) (λ _. silent))
         (λ _. no-message)
 

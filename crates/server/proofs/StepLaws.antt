@@ -14,7 +14,7 @@ use Rattle.interaction.specs.Status.{responseRead, responseIn}
 use Rattle.envelope.specs.declared.Fields.{Fields}
 use Rattle.exchange.specs.declared.Progress.{Progress}
 use Rattle.exchange.specs.declared.Step.the-variants.{Silence, Begin, Repeat, Next, Close}
-use Rattle.exchange.specs.Rules.{maxTurn, beginning, onRequest, onPromised, onEarlier, onStatus}
+use Rattle.exchange.specs.Rules.{maxTurn, beginning, onRequest, onPromised, onEarlier, onStatus, firstReply}
 use Rattle.server.specs.Receive.{byStatus, stepOf}
 
 never : {A : Type 0} → _≡_ {A = ℕ} 0 1 → A
@@ -39,7 +39,7 @@ module _ (x : Progress) where
       go false b t q = never (cc)
 
   earlier-never : (turn code : ℕ) → onEarlier (x .turn) turn code ≡ Next → ⊥
-  earlier-never turn code h = go (eqb code 0 && (leb 1 turn && eqb (turn + 1) (x .turn))) h
+  earlier-never turn code h = go (eqb code 0 && (leb firstReply turn && eqb (turn + 1) (x .turn))) h
     where
       go : (b : Bool) → pick b Repeat Silence ≡ Next → ⊥
       go true q = never (cc)
@@ -56,7 +56,7 @@ module _ (x : Progress) where
 
   request-never : (exchange turn : ℕ) → onRequest x exchange turn ≡ Next → ⊥
   unfolding onRequest
-  request-never exchange turn h = go (eqb turn 0) (ltb (x .last) exchange) (eqb exchange (x .last) && (eqb (x .turn) 1 && eqb (x .closed) 0)) h
+  request-never exchange turn h = go (eqb turn 0) (ltb (x .last) exchange) (eqb exchange (x .last) && (eqb (x .turn) firstReply && eqb (x .closed) 0)) h
     where
       go : (a b c : Bool) → pick a (pick b Begin (pick c Repeat Silence)) Silence ≡ Next → ⊥
       go true true c q = never (cc)

@@ -9,6 +9,7 @@ use Rattle.octets.specs.Store.{store}
 use Rattle.tlv.specs.Octet.{pick}
 use Rattle.tlv.specs.Decode.{Opt}
 use Rattle.tlv.specs.Decode.Opt.{just, nothing}
+use Rattle.interaction_writer.specs.Envelope.{panelEdition}
 use Rattle.envelope.specs.declared.Fields.{Fields}
 use Rattle.envelope.specs.declared.Envelope.{Envelope}
 use Rattle.envelope.specs.declared.Envelope.the-variants.{Whole, Short}
@@ -19,7 +20,8 @@ use Rattle.acl.specs.declared.Grants.{Grants}
 use Rattle.exchange.specs.declared.Progress.{Progress}
 use Rattle.exchange.specs.declared.Step.{Step}
 use Rattle.exchange.specs.declared.Step.the-variants.{Silence, Begin, Repeat, Next, Close}
-use Rattle.exchange.specs.Rules.{readOpcode, beginning, forServer, onRequest, onStatus}
+use Rattle.exchange.specs.Rules as rules
+use Rattle.exchange.specs.Rules.{readOpcode, beginning, onRequest, onStatus}
 use Rattle.writes.specs.Offer.{Held}
 use Rattle.replies.specs.declared.Row.{Row}
 use Rattle.replies.specs.Messages.{envelopeLength, maxMessage}
@@ -93,11 +95,15 @@ module _ (w defaults : List ℕ) (g : Grants) (s : State) (edits : List ℕ) (e 
   reacted Next = replied s edits (nextPart w (s .values) defaults edits g (s .row))
   reacted Close = silence (withRow s (closing (s .row))) edits
 
+-- refusal 4, "edition not 0, opcode not for this end"
+unfoldable pub forServer : ℕ → ℕ → Bool
+forServer edition opcode = eqb edition panelEdition && rules.forServer opcode
+
 -- 4: "message under 8 or over 1,032 bytes, edition not 0, opcode not for this end"; then another subject's silence
 abbrev pub inEnvelope : List ℕ → List ℕ → Grants → State → List ℕ → ℕ → List ℕ → Envelope → Reaction
 inEnvelope w defaults g s edits subject m Short = refusal 4 s edits
 inEnvelope w defaults g s edits subject m (Whole e) =
-    pick (leb (length m) maxMessage && (eqb (e .edition) 0 && forServer (e .opcode)))
+    pick (leb (length m) maxMessage && forServer (e .edition) (e .opcode))
     (pick (eqb subject (getD w subjectWord 0))
     (reacted w defaults g s edits e (drop envelopeLength m) (stepOf (s .row .progress) e (drop envelopeLength m)))
     (silence s edits))

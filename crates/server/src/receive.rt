@@ -2,8 +2,9 @@
 ghost use mathlib.Core.Path.{_≡_};
 ghost use mathlib.Core.Bool.{true, _&&_};
 ghost use mathlib.Core.List.{List};
-ghost use Prim.Native.Nat.{ℕ, _≤_, _<_, _^_};
+ghost use Prim.Native.Nat.{ℕ, _≤_, _<_};
 ghost use lib.ListN.{length, take};
+ghost use Rattle.interaction_writer.specs.Envelope.{exchangeLimit};
 ghost use Rattle.exchange.specs.declared.Step.the-variants as steps;
 ghost use Rattle.exchange.specs.Rules.{maxTurn};
 ghost use Rattle.acl.specs.Access.{grantsOf, tableOk};
@@ -13,7 +14,7 @@ ghost use Rattle.writes.specs.Offer.{heldOf};
 ghost use Rattle.replies.specs.Messages.{maxMessage};
 ghost use Rattle.replies.specs.Row.{rowIn, standingIn};
 ghost use Rattle.server.specs.State.{signRight, stateIn};
-ghost use Rattle.server.specs.Receive.{closing, stepOf, begun, reacted, inEnvelope, received, outcomeWith, Reacted};
+ghost use Rattle.server.specs.Receive.{closing, stepOf, begun, reacted, forServer, inEnvelope, received, outcomeWith, Reacted};
 use super::BROKEN;
 use super::DONE;
 use super::NO_MESSAGE;
@@ -33,11 +34,11 @@ use exchange::Progress;
 use exchange::READ;
 use exchange::Step;
 use exchange::begins;
-use exchange::is_for_server;
 use exchange::on_request;
 use exchange::on_status;
 use interaction::StatusResponse;
 use interaction::status_response;
+use interaction_writer::envelope::PANEL_EDITION;
 use replies::ENVELOPE;
 use replies::MAX_MESSAGE;
 use replies::Standing;
@@ -121,7 +122,7 @@ fn begin<'a>(
     payload: &'a [u8],
     out: &mut [u8],
 ) -> Outcome
-    requires { ⌜ (t ≡ standingIn (now row)) × ((signRight (now w) (now defaults) (now edits) (stateIn (valuesOf (now words) (now nulls) (now edited) (now versions)) (now row) (now kept)) ≡ true) × ((e .exchange < 2 ^ 40) × (maxMessage ≤ length (now out)))) ⌝ }
+    requires { ⌜ (t ≡ standingIn (now row)) × ((signRight (now w) (now defaults) (now edits) (stateIn (valuesOf (now words) (now nulls) (now edited) (now versions)) (now row) (now kept)) ≡ true) × ((e .exchange < exchangeLimit) × (maxMessage ≤ length (now out)))) ⌝ }
     ensures { λ r. ⌜ Reacted (begun (now (w .entry)) (now (defaults .entry)) g (stateIn (valuesOf (now (words .entry)) (now (nulls .entry)) (now (edited .entry)) (now (versions .entry))) (now (row .entry)) (now (kept .entry))) (now (edits .entry)) e (now (payload .entry))) r (heldOf (now (words .exit)) (now (nulls .exit)) (now (edited .exit)) (now (versions .exit)) (now (edits .exit))) (now (row .entry)) (now (row .exit)) (now (kept .exit)) (now (out .entry)) (now (out .exit)) ⌝ }
 {
     if e.opcode == READ {
@@ -181,7 +182,7 @@ fn react<'a>(
     step: Step,
     out: &mut [u8],
 ) -> Outcome
-    requires { ⌜ (t ≡ standingIn (now row)) × ((signRight (now w) (now defaults) (now edits) (stateIn (valuesOf (now words) (now nulls) (now edited) (now versions)) (now row) (now kept)) ≡ true) × ((e .exchange < 2 ^ 40) × ((step ≡ steps.Next → t .progress .turn < maxTurn) × (maxMessage ≤ length (now out))))) ⌝ }
+    requires { ⌜ (t ≡ standingIn (now row)) × ((signRight (now w) (now defaults) (now edits) (stateIn (valuesOf (now words) (now nulls) (now edited) (now versions)) (now row) (now kept)) ≡ true) × ((e .exchange < exchangeLimit) × ((step ≡ steps.Next → t .progress .turn < maxTurn) × (maxMessage ≤ length (now out))))) ⌝ }
     ensures { λ r. ⌜ Reacted (reacted (now (w .entry)) (now (defaults .entry)) g (stateIn (valuesOf (now (words .entry)) (now (nulls .entry)) (now (edited .entry)) (now (versions .entry))) (now (row .entry)) (now (kept .entry))) (now (edits .entry)) e (now (payload .entry)) step) r (heldOf (now (words .exit)) (now (nulls .exit)) (now (edited .exit)) (now (versions .exit)) (now (edits .exit))) (now (row .entry)) (now (row .exit)) (now (kept .exit)) (now (out .entry)) (now (out .exit)) ⌝ }
 {
     match step {
@@ -231,6 +232,16 @@ fn react<'a>(
     }
 }
 
+// Whether a message is for a sign: the edition of a panel's exchanges, and an opcode that a server takes.
+fn is_for_server(edition: u64, opcode: u64) -> bool
+    ensures { λ r. ⌜ r ≡ forServer edition opcode ⌝ }
+{
+    if edition != PANEL_EDITION as u64 {
+        return false;
+    }
+    exchange::is_for_server(opcode)
+}
+
 // The core of receiving: what is granted to the subject is known, and whether the access table keeps the rules.
 pub fn serve<'a>(
     w: &'a [u64; WORDS],
@@ -266,10 +277,7 @@ pub fn serve<'a>(
     if MAX_MESSAGE < message.len() {
         return refuse(NO_MESSAGE);
     }
-    if e.edition != 0 {
-        return refuse(NO_MESSAGE);
-    }
-    if !is_for_server(e.opcode) {
+    if !is_for_server(e.edition, e.opcode) {
         return refuse(NO_MESSAGE);
     }
     if subject != subject_served(w) {

@@ -12,7 +12,7 @@ use Rattle.blocks.proofs.BlockLaws.{never}
 use Rattle.interaction.specs.declared.Wanted.{Wanted}
 use Rattle.interaction_writer.specs.Spelling.{spelling, Each}
 use Rattle.interaction_writer.specs.Message.{messageTree, reportMembers}
-use Rattle.interaction_writer.specs.Envelope.{envelopeOctets}
+use Rattle.interaction_writer.specs.Envelope.{envelopeOctets, panelEdition, exchangeLimit}
 use Rattle.schema.specs.Layout.{highColumn}
 use Rattle.schema.specs.Rows.{attributeRow, attributeCount}
 use Rattle.schema.specs.Check.{wellFormed}
@@ -65,7 +65,7 @@ module _ (w defaults edits : List ℕ) (v : Values) (g : Grants) (fs : List Want
 
   -- the message of a sign from there on is the part p of the protocol
   pub record Makes (x turn index : ℕ) (p : Part Datum) : Type 0 where
-    pub bytes : reportMessage x turn (blocks index) ≡ partBytes w p
+    pub bytes : reportMessage panelEdition x turn (blocks index) ≡ partBytes w p
     pub more : p .more ≡ any (left blockRoom (blocks index))
     pub right : PartRight w p
     pub path : p .more ≡ true → place index .path ≡ 0
@@ -140,7 +140,7 @@ module _ (w defaults edits : List ℕ) (v : Values) (g : Grants) (fs : List Want
         writable = rw (held .values i row) (value-writable w defaults edits v sound i row (words-fit (highColumn + i)));
       }
 
-  module _ (x turn index : ℕ) (since : ℕ → ℕ) (fx : x < 2 ^ 40) (ft : turn < 2 ^ 16) where
+  module _ (x turn index : ℕ) (since : ℕ → ℕ) (fx : x < exchangeLimit) (ft : turn < 2 ^ 16) where
     abbrev part : ℕ → Part Datum
     part n = partOf clusters x turn (ahead index) (filtersAs w fs) since n
 
@@ -164,13 +164,13 @@ module _ (w defaults edits : List ℕ) (v : Values) (g : Grants) (fs : List Want
       unfolding reportMessage partBytes partOf
       makes =
           record {
-            bytes = ap (λ (l : List ℕ). envelopeOctets reportOpcode x turn ++ l) same-payload;
+            bytes = ap (λ (l : List ℕ). envelopeOctets panelEdition reportOpcode x turn ++ l) same-payload;
             more = m .more;
             right = part-right;
             path = m .path;
             ahead = m .leaves;
           }
 
-  pub part-made : (x turn index : ℕ) (since : ℕ → ℕ) → x < 2 ^ 40 → turn < 2 ^ 16
+  pub part-made : (x turn index : ℕ) (since : ℕ → ℕ) → x < exchangeLimit → turn < 2 ^ 16
       → (n : ℕ) × Makes x turn index (partOf clusters x turn (readableFrom w g (attributeCount w - index) index) (filtersAs w fs) since n)
   part-made x turn index since fx ft = let (n, m) = matches index in (n, makes x turn index since fx ft n m)

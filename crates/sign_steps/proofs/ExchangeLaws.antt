@@ -17,23 +17,25 @@ use Rattle.acl.specs.declared.Grants.{Grants}
 use Rattle.exchange.specs.declared.Progress.{Progress}
 use Rattle.exchange.specs.declared.Step.{Step}
 use Rattle.exchange.specs.declared.Step.the-variants.{Silence, Begin, Repeat, Next}
-use Rattle.exchange.specs.Rules.{statusOpcode, maxTurn, beginning, forServer}
+use Rattle.exchange.specs.Rules as rules
+use Rattle.exchange.specs.Rules.{statusOpcode, maxTurn, beginning}
 use Rattle.cache_trip.specs.Begun.{envelopeAs}
 use Rattle.replies.specs.Messages.{envelopeLength, maxMessage}
-use Rattle.server.specs.Receive.{Reaction, stepOf, reacted}
+use Rattle.server.specs.Receive.{Reaction, stepOf, reacted, forServer}
 use Rattle.server.proofs.ReceiveLaws.{served}
 use Rattle.protocol.specs.Model.{Message, success, Node, System, Store, partOf, send, sendAgain, serve}
 use Rattle.refinement.proofs.Sign.{promised}
+use Rattle.interaction_writer.specs.Envelope.{panelEdition}
 use Rattle.sign_steps.proofs.Standing.{Standing}
 use Rattle.sign_steps.proofs.RuleLaws.{fields, repeats, request-step, own, newest, earlier, success-step, newest-only, own-same, newest-same, earlier-same}
 use Rattle.sign_steps.proofs.ServeLaws.{Serving, Served, Valid, silence-as, repeat-as, reaction, reacted-as}
 
-for-status : forServer statusOpcode ≡ true
-unfolding forServer
+for-status : forServer panelEdition statusOpcode ≡ true
+unfolding forServer rules.forServer
 for-status = refl
 
-for-request : (opcode : ℕ) → beginning opcode ≡ true → forServer opcode ≡ true
-unfolding forServer
+for-request : (opcode : ℕ) → beginning opcode ≡ true → forServer panelEdition opcode ≡ true
+unfolding forServer rules.forServer
 for-request opcode b = rw b (or-true (eqb opcode statusOpcode))
 
 -- a message in its envelope, for which there is room
@@ -46,12 +48,12 @@ module _ {w defaults : List ℕ} {g : Grants} {sent : List (List ℕ)} (here : S
   abbrev payload : List ℕ
   payload = drop envelopeLength m
 
-  opened : (opcode x turn : ℕ) → envelopeIn m ≡ envelopeAs opcode x turn → forServer opcode ≡ true → reaction here m room ≡ reacted w defaults g s edits (fields opcode x turn) payload (stepOf now (fields opcode x turn) payload)
+  opened : (opcode x turn : ℕ) → envelopeIn m ≡ envelopeAs panelEdition opcode x turn → forServer panelEdition opcode ≡ true → reaction here m room ≡ reacted w defaults g s edits (fields opcode x turn) payload (stepOf now (fields opcode x turn) payload)
   opened opcode x turn e o =
-      served w defaults edits s true g (getD w subjectWord 0) m room (stands .valid .right) refl enough e fits refl o refl
+      served w defaults edits s true g (getD w subjectWord 0) m room (stands .valid .right) refl enough e fits o refl
 
   -- A REQUEST: the newest exchange is begun, or its reply is given again
-  module _ (opcode x : ℕ) (found : envelopeIn m ≡ envelopeAs opcode x 0) (b : beginning opcode ≡ true) (u : Message) (next : ℕ → List (Store Datum) → System Datum) where
+  module _ (opcode x : ℕ) (found : envelopeIn m ≡ envelopeAs panelEdition opcode x 0) (b : beginning opcode ≡ true) (u : Message) (next : ℕ → List (Store Datum) → System Datum) where
     abbrev on : Step → Reaction
     on = reacted w defaults g s edits (fields opcode x 0) payload
 
@@ -68,7 +70,7 @@ module _ {w defaults : List ℕ} {g : Grants} {sent : List (List ℕ)} (here : S
         go false e valid = (0, [], rw (e 0 []) (repeat-as here (fields opcode x 0) payload (repeats now x)))
 
   -- A SUCCESS: the next part, or the kept reply again
-  module _ (x turn : ℕ) (found : envelopeIn m ≡ envelopeAs statusOpcode x turn) (status : responseIn payload ≡ just 0) where
+  module _ (x turn : ℕ) (found : envelopeIn m ≡ envelopeAs panelEdition statusOpcode x turn) (status : responseIn payload ≡ just 0) where
     abbrev then : Step → Reaction
     then = reacted w defaults g s edits (fields statusOpcode x turn) payload
 

@@ -3,6 +3,7 @@ use mathlib.Core.Path.{_≡_, refl, sym, ap, _∙_}
 use mathlib.Core.Bool.{Bool, true}
 use mathlib.Core.List.{List, [], List·Memᴰ, Memᴰ·cast}
 use Prim.Native.Nat.{ℕ, _^_, _≤_, _<_}
+use native.Mathlib.Omega.{arith}
 use lib.ListN.{length, getD, drop}
 use Rattle.tlv.specs.Value.{Datum}
 use Rattle.interaction.specs.declared.Wanted.{Wanted}
@@ -20,6 +21,7 @@ use Rattle.server.specs.Receive.{reacted}
 use Rattle.protocol.specs.Model.{Message, read, write, success, Node, storeAll, written, changesOf, partOf, send, serve}
 use Rattle.refinement.proofs.Terms.{nodeOf, filtersAs}
 use Rattle.refinement.proofs.Bytes.{WriteFits, MessageAs, reads, writes, succeeds}
+use Rattle.interaction_writer.specs.Envelope.{envelopeLength, panelEdition, exchangeLimit}
 use Rattle.sign_steps.proofs.Standing.{Standing}
 use Rattle.sign_steps.proofs.SizeLaws.{read-short, write-short}
 use Rattle.sign_steps.proofs.RuleLaws.{newer-same, repeats-same}
@@ -37,9 +39,9 @@ unfolding beginning
 begins-write = refl
 
 -- with no ground to refuse it
-read-taken : (x : ℕ) (fs : List Wanted) → Each WantedFits fs → length fs ≤ 32 → readRead (readIn (drop 8 (readMessage x fs))) ≡ readAnswer fs
+read-taken : (x : ℕ) (fs : List Wanted) → Each WantedFits fs → length fs ≤ 32 → readRead (readIn (drop envelopeLength (readMessage panelEdition x fs))) ≡ readAnswer fs
 unfolding readMessage
-read-taken x fs h few = ap (λ (q : List ℕ). readRead (readIn q)) (after-envelope readOpcode x 0 (readOctets fs)) ∙ read-answered fs h few
+read-taken x fs h few = ap (λ (q : List ℕ). readRead (readIn q)) (after-envelope panelEdition readOpcode x 0 (readOctets fs)) ∙ read-answered fs h few
 
 module _ {w defaults : List ℕ} {g : Grants} {sent : List (List ℕ)} (here : Standing w defaults g sent) (words-fit : (k : ℕ) → getD w k 0 < 2 ^ 64) (start : List ℕ) (room : ℕ) (enough : maxMessage ≤ room) where
   open Standing here using (edits, state as s, system as sys, stands)
@@ -51,28 +53,28 @@ module _ {w defaults : List ℕ} {g : Grants} {sent : List (List ℕ)} (here : S
   abbrev Taken : List ℕ → Message → Type 0
   Taken m u = Served here node u (reaction here m room)
 
-  module _ (x : ℕ) (fx : x < 2 ^ 40) where
-    read-as : (fs : List Wanted) → Each WantedFits fs → length fs ≤ 32 → Taken (readMessage x fs) (read x (filtersAs w fs))
+  module _ (x : ℕ) (fx : x < exchangeLimit) where
+    read-as : (fs : List Wanted) → Each WantedFits fs → length fs ≤ 32 → Taken (readMessage panelEdition x fs) (read x (filtersAs w fs))
     unfolding serve reacted
     read-as fs h few =
-        request-served here node (readMessage x fs) room enough (read-short x fs h few) readOpcode x (read-envelope x fs fx) begins-read (read x (filtersAs w fs))
+        request-served here node (readMessage panelEdition x fs) room enough (read-short panelEdition x fs h few) readOpcode x (read-envelope panelEdition x fs (omega arith) fx) begins-read (read x (filtersAs w fs))
         (λ size stores. send sys (partOf (sys .clusters) x 1 (node .readable) (filtersAs w fs) (changesOf (sys .clusters)) size))
         (λ size stores. rw (newer-same (s .row) (sys .row) (stands .row) x, repeats-same (s .row) (sys .row) (stands .row) x))
-        (λ valid. let (size, t) = first-served here words-fit start x fx fs few (drop 8 (readMessage x fs)) (read-taken x fs h few) valid in (size, [], t))
+        (λ valid. let (size, t) = first-served here words-fit start x fx fs few (drop envelopeLength (readMessage panelEdition x fs)) (read-taken x fs h few) valid in (size, [], t))
 
-    write-as : (given : Bool) (version e c a : ℕ) (d : Datum) → WriteFits version e c a d → List·Memᴰ (writeMessage x given version e c a d) sent → Taken (writeMessage x given version e c a d) (write x)
+    write-as : (given : Bool) (version e c a : ℕ) (d : Datum) → WriteFits version e c a d → List·Memᴰ (writeMessage panelEdition x given version e c a d) sent → Taken (writeMessage panelEdition x given version e c a d) (write x)
     unfolding serve reacted
     write-as given version e c a d f there =
-        let (n, answer, value) = write-taken x given version e c a d (f .version-fits) (f .path) (f .writable) (f .takable) in
-        request-served here node (writeMessage x given version e c a d) room enough (write-short x given version e c a d f) writeOpcode x (write-envelope x given version e c a d fx) begins-write (write x)
+        let (n, answer, value) = write-taken panelEdition x given version e c a d (f .version-fits) (f .path) (f .writable) (f .takable) in
+        request-served here node (writeMessage panelEdition x given version e c a d) room enough (write-short panelEdition x given version e c a d f) writeOpcode x (write-envelope panelEdition x given version e c a d (omega arith) fx) begins-write (write x)
         (λ size stores. written (storeAll sys stores) x)
         (λ size stores. rw (newer-same (s .row) (sys .row) (stands .row) x, repeats-same (s .row) (sys .row) (stands .row) x))
         (λ valid. let (stores, t) = write-served here x fx given version e c a d f n answer there valid in (0, stores, t))
 
-    success-as : (turn : ℕ) → turn < 2 ^ 16 → (sys .row .more ≡ true → sys .row .turn < maxTurn) → Taken (successMessage x turn) (success x turn)
+    success-as : (turn : ℕ) → turn < 2 ^ 16 → (sys .row .more ≡ true → sys .row .turn < maxTurn) → Taken (successMessage panelEdition x turn) (success x turn)
     unfolding reacted
     success-as turn ft turns =
-        success-served here node (successMessage x turn) room enough (success-sized x turn .fits) x turn (success-envelope x turn fx ft) (success-meant x turn)
+        success-served here node (successMessage panelEdition x turn) room enough (success-sized panelEdition x turn .fits) x turn (success-envelope panelEdition x turn (omega arith) fx ft) (success-meant panelEdition x turn)
         (λ h. rw (stands .row .turn) at (turns (stands .row .more ∙ h)))
         (λ own h valid. let more = stands .row .more ∙ h in next-served here words-fit (stands .row .going more) (turns more) x own valid)
 

@@ -29,6 +29,7 @@ use Rattle.refinement.proofs.Terms.{readableFrom, filtersAs}
 use Rattle.refinement.proofs.Bytes.{reports}
 use Rattle.refinement.proofs.Sign.{RowAs}
 use Rattle.sign_parts.proofs.PartLaws.{Makes, part-made}
+use Rattle.interaction_writer.specs.Envelope.{panelEdition, exchangeLimit}
 use Rattle.sign_steps.proofs.Standing.{Standing, right-of}
 use Rattle.sign_steps.proofs.ServeLaws.{Serving, part-as}
 
@@ -62,8 +63,8 @@ module _ {w defaults : List ℕ} {g : Grants} {sent : List (List ℕ)} (here : S
     same-blocks : blocks ≡ blocksFrom (viewOf w (s .values) defaults edits g (filterWords w fs)) (askedFor everything ∷ []) at
     same-blocks = λ j. blocksFrom (viewOf w (s .values) defaults edits g (judged j)) (all j) at
 
-    kept-bytes : keptReply row ≡ reportMessage x turn blocks
-    kept-bytes = kept-back (s .row) (stands .row .whole) _ _ _ _ (report-length x turn blocks)
+    kept-bytes : keptReply row ≡ reportMessage panelEdition x turn blocks
+    kept-bytes = kept-back (s .row) (stands .row .whole) _ _ _ _ (report-length panelEdition x turn blocks)
 
     kept-whole : length (row .kept) ≡ maxMessage
     kept-whole = keeping-whole (s .row) _ _ _ _ ∙ stands .row .whole
@@ -77,12 +78,12 @@ module _ {w defaults : List ℕ} {g : Grants} {sent : List (List ℕ)} (here : S
           more = rw same-blocks (m .more ∙ next-promised _);
           closed = refl;
           going = λ h. record { paths = all; asked = fs; judged = judged; filters = refl; path = rw same-blocks (m .path h); ahead = rw same-blocks (m .ahead h) };
-          kept = reports (part since size) (kept-bytes ∙ ap (reportMessage x turn) same-blocks ∙ m .bytes) refl (m .right);
+          kept = reports (part since size) (kept-bytes ∙ ap (reportMessage panelEdition x turn) same-blocks ∙ m .bytes) refl (m .right);
           whole = kept-whole;
         }
 
     -- A PART is made, and the sign replies with it
-    pub part-served : x < 2 ^ 40 → turn < 2 ^ 16 → (since : ℕ → ℕ) → ValidSign w defaults edits (withRow s row) → (size : ℕ) × Serving here (send sys (part since size)) (replied s edits row)
+    pub part-served : x < exchangeLimit → turn < 2 ^ 16 → (since : ℕ → ℕ) → ValidSign w defaults edits (withRow s row) → (size : ℕ) × Serving here (send sys (part since size)) (replied s edits row)
     part-served fx ft since valid =
         let (size, m) = part-made w defaults edits (s .values) g fs (sys .clusters) (right-of here .schema) (right-of here .values) (stands .versions-fit) words-fit (stands .held) x turn index since fx ft in
         (size, part-as here row (part since size) valid (row-as since size m))

@@ -28,6 +28,7 @@ use Rattle.server.specs.Receive.{Reaction, replied}
 use Rattle.protocol.specs.Model.{Part, changesOf, partOf, send}
 use Rattle.refinement.proofs.Terms.{readableFrom, nodeOf, filtersAs}
 use Rattle.refinement.proofs.Sign.{Going}
+use Rattle.interaction_writer.specs.Envelope.{exchangeLimit}
 use Rattle.sign_steps.proofs.Standing.{Standing, right-of}
 use Rattle.sign_steps.proofs.ServeLaws.{Serving, Valid}
 use Rattle.sign_steps.proofs.PartLaws.{part-served}
@@ -49,7 +50,7 @@ module _ {w defaults : List ℕ} {g : Grants} {sent : List (List ℕ)} (here : S
   open Standing here using (edits, state as s, system as sys, stands)
 
   -- THE FIRST PART
-  module _ (start : List ℕ) (x : ℕ) (fx : x < 2 ^ 40) (fs : List Wanted) (few : length fs ≤ maxFilters) (payload : List ℕ) (read : readRead (readIn payload) ≡ readAnswer fs) where
+  module _ (start : List ℕ) (x : ℕ) (fx : x < exchangeLimit) (fs : List Wanted) (few : length fs ≤ maxFilters) (payload : List ℕ) (read : readRead (readIn payload) ≡ readAnswer fs) where
     abbrev begun : Reaction
     begun = replied s edits (readBegun w (s .values) defaults edits g (s .row) x payload)
 

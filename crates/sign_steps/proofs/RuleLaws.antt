@@ -16,19 +16,20 @@ use Rattle.schema.proofs.BoolLaws.{left}
 use Rattle.acl.specs.declared.Grants.{Grants}
 use Rattle.exchange.specs.declared.Progress.{Progress}
 use Rattle.exchange.specs.declared.Step.the-variants.{Silence, Begin, Repeat, Next}
-use Rattle.exchange.specs.Rules.{statusOpcode, maxTurn, beginning, onRequest, onStatus}
+use Rattle.exchange.specs.Rules.{statusOpcode, maxTurn, beginning, onRequest, onStatus, firstReply}
 use Rattle.replies.specs.declared.Row as replies
 use Rattle.server.specs.Receive.{stepOf}
 use Rattle.protocol.specs.Model.{Row}
 use Rattle.refinement.proofs.Sign.{promised, RowAs}
+use Rattle.interaction_writer.specs.Envelope.{panelEdition}
 
 abbrev pub fields : ℕ → ℕ → ℕ → Fields
-fields opcode x turn = record { edition = 0; opcode = opcode; exchange = x; turn = turn }
+fields opcode x turn = record { edition = panelEdition; opcode = opcode; exchange = x; turn = turn }
 
 module _ (p : Progress) (x : ℕ) where
   -- the request of the exchange whose first reply is the newest
   abbrev pub repeats : Bool
-  repeats = eqb x (p .last) && (eqb (p .turn) 1 && eqb (p .closed) 0)
+  repeats = eqb x (p .last) && (eqb (p .turn) firstReply && eqb (p .closed) 0)
 
   pub request-step : (opcode : ℕ) → beginning opcode ≡ true → (payload : List ℕ) → stepOf p (fields opcode x 0) payload ≡ pick (ltb (p .last) x) Begin (pick repeats Repeat Silence)
   unfolding stepOf onRequest
@@ -44,7 +45,7 @@ module _ (p : Progress) (turn : ℕ) where
   newest = eqb turn (p .turn) && promised p
 
   abbrev pub earlier : Bool
-  earlier = leb 1 turn && eqb (turn + 1) (p .turn)
+  earlier = leb firstReply turn && eqb (turn + 1) (p .turn)
 
   pub success-step : (x : ℕ) (payload : List ℕ) → responseIn payload ≡ just 0 → stepOf p (fields statusOpcode x turn) payload ≡ pick (own p x) (pick newest (pick (ltb (p .turn) maxTurn) Next Silence) (pick earlier Repeat Silence)) Silence
   unfolding stepOf beginning onStatus
@@ -54,7 +55,7 @@ module _ (p : Progress) (turn : ℕ) where
   pub newest-only : newest ≡ true → earlier ≡ false
   newest-only h =
       let q : turn ≡ p .turn = eqb-true _ _ (left (eqb turn (p .turn)) _ h) in
-      rw (ne-eqb (turn + 1) (p .turn) (λ z. omega arith)) (and-false (leb 1 turn))
+      rw (ne-eqb (turn + 1) (p .turn) (λ z. omega arith)) (and-false (leb firstReply turn))
 
 module _ {w : List ℕ} {g : Grants} {sent : List (List ℕ)} (y : replies.Row) (r : Row Datum) (h : RowAs w g sent y r) where
   pub newer-same : (x : ℕ) → ltb (r .exchange) x ≡ ltb (y .progress .last) x
@@ -62,7 +63,7 @@ module _ {w : List ℕ} {g : Grants} {sent : List (List ℕ)} (y : replies.Row) 
 
   pub repeats-same : (x : ℕ) → (eqb x (r .exchange) && eqb (r .turn) 1 && not (r .closed)) ≡ repeats (y .progress) x
   repeats-same x =
-      rw (h .exchange, h .turn, h .closed, Bool·not-not (eqb (y .progress .closed) 0)) (and-assoc (eqb x (y .progress .last)) (eqb (y .progress .turn) 1) (eqb (y .progress .closed) 0))
+      rw (h .exchange, h .turn, h .closed, Bool·not-not (eqb (y .progress .closed) 0)) (and-assoc (eqb x (y .progress .last)) (eqb (y .progress .turn) firstReply) (eqb (y .progress .closed) 0))
 
   pub own-same : (x : ℕ) → (eqb x (r .exchange) && not (r .closed)) ≡ own (y .progress) x
   own-same x = rw (h .exchange, h .closed, Bool·not-not (eqb (y .progress .closed) 0))

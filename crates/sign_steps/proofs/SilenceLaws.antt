@@ -12,11 +12,10 @@ use Rattle.envelope.specs.declared.Envelope.the-variants.{Whole, Short}
 use Rattle.envelope.specs.Envelope.{envelopeIn}
 use Rattle.schema.specs.Layout.{subjectWord}
 use Rattle.acl.specs.declared.Grants.{Grants}
-use Rattle.exchange.specs.Rules.{forServer}
 use Rattle.replies.specs.Messages.{maxMessage}
 use Rattle.server.specs.declared.State.{State}
 use Rattle.server.specs.State.{signRight}
-use Rattle.server.specs.Receive.{Reaction, refusal, silence, inEnvelope, received}
+use Rattle.server.specs.Receive.{Reaction, refusal, silence, inEnvelope, received, forServer}
 use Rattle.server.proofs.ReceivedLaws.{Untouched}
 
 module _ (w defaults edits : List ℕ) (s : State) (table : Bool) (g : Grants) (subject : ℕ) (m : List ℕ) (room : ℕ) where
@@ -38,7 +37,7 @@ module _ (w defaults edits : List ℕ) (s : State) (table : Bool) (g : Grants) (
   enveloped-still n Short = refusal-still 4
   enveloped-still n (Whole e) =
       rw (ne-eqb subject (getD w subjectWord 0) n)
-      (pick-elim Still (leb (length m) maxMessage && (eqb (e .edition) 0 && forServer (e .opcode))) (silence s edits) (refusal 4 s edits)
+      (pick-elim Still (leb (length m) maxMessage && forServer (e .edition) (e .opcode)) (silence s edits) (refusal 4 s edits)
       (λ _. record { state = refl; page = refl; reply = refl }) (λ _. refusal-still 4))
 
   pub other-still : (subject ≡ getD w subjectWord 0 → ⊥) → Still (received w defaults edits s table g subject m room)

@@ -21,8 +21,8 @@ each-narrow [] h = tt
 each-narrow (f ∷ fs) (a, b) =
     (record { endpoint = a .endpoint-fits; cluster = a .cluster-fits; version = a .version-fits }, each-narrow fs b)
 
-pub read-short : (exchange : ℕ) (fs : List Wanted) → Each WantedFits fs → length fs ≤ maxClusters → length (readMessage exchange fs) ≤ maxMessage
-read-short exchange fs h few = read-sized exchange fs (each-narrow fs h) few .fits
+pub read-short : (edition exchange : ℕ) (fs : List Wanted) → Each WantedFits fs → length fs ≤ maxClusters → length (readMessage edition exchange fs) ≤ maxMessage
+read-short edition exchange fs h few = read-sized edition exchange fs (each-narrow fs h) few .fits
 
 short-text : (d : Datum) → Takable d → ShortText d
 unfolding Takable ShortText
@@ -34,7 +34,7 @@ short-text (float n) h = tt
 short-text (text b) h = h .1
 short-text other h = tt
 
-pub write-short : (exchange : ℕ) (given : Bool) (version e c a : ℕ) (d : Datum) → WriteFits version e c a d → length (writeMessage exchange given version e c a d) ≤ maxMessage
-write-short exchange given version e c a d f =
+pub write-short : (edition exchange : ℕ) (given : Bool) (version e c a : ℕ) (d : Datum) → WriteFits version e c a d → length (writeMessage edition exchange given version e c a d) ≤ maxMessage
+write-short edition exchange given version e c a d f =
     let p = f .path in
-    write-sized exchange given version e c a d (f .version-fits) (p .endpoint-fits) (p .cluster-fits) (p .attribute-fits) (short-text d (f .takable)) .fits
+    write-sized edition exchange given version e c a d (f .version-fits) (p .endpoint-fits) (p .cluster-fits) (p .attribute-fits) (short-text d (f .takable)) .fits

@@ -24,29 +24,30 @@ use Rattle.writes.proofs.EntryLaws.{may-index}
 use Rattle.writes.proofs.StatusLaws.{codes-octets}
 use Rattle.cache_request.specs.Messages.{writeMessage}
 use Rattle.exchange.specs.declared.Progress.{Progress}
-use Rattle.replies.specs.Messages.{maxMessage, statusMessage, responseMessage}
+use Rattle.replies.specs.Messages.{envelopeLength, maxMessage, responseMessage}
 use Rattle.replies.specs.Row.{keeping, keptReply}
-use Rattle.replies.specs.Begin.{Left, answered, responseTo, writeBy, writeBegun}
+use Rattle.replies.specs.Begin.{Left, answered, responseTo, writeBy, writeBegun, refusalOf}
 use Rattle.replies.proofs.KeptLaws.{keeping-whole, write-reply}
 use Rattle.server.specs.Receive.{wrote}
 use Rattle.protocol.specs.Model.{System, Store, storeAll, written}
 use Rattle.refinement.proofs.Bytes.{WriteFits, answerBytes, answers}
 use Rattle.refinement.proofs.Sign.{promised, RowAs}
+use Rattle.interaction_writer.specs.Envelope.{panelEdition, exchangeLimit}
 use Rattle.sign_steps.proofs.Standing.{Standing}
 use Rattle.sign_steps.proofs.ChangeLaws.{heldBy, Reached, placed-as, stored-beside}
 use Rattle.sign_steps.proofs.ServeLaws.{Serving, Valid}
 
-module _ {w defaults : List ℕ} {g : Grants} {sent : List (List ℕ)} (here : Standing w defaults g sent) (x : ℕ) (fx : x < 2 ^ 40) (given : Bool) (version e c a : ℕ) (d : Datum) (fits : WriteFits version e c a d) where
+module _ {w defaults : List ℕ} {g : Grants} {sent : List (List ℕ)} (here : Standing w defaults g sent) (x : ℕ) (fx : x < exchangeLimit) (given : Bool) (version e c a : ℕ) (d : Datum) (fits : WriteFits version e c a d) where
   open Standing here using (edits, state as s, system as sys, stands)
 
   abbrev now : Held
   now = heldBy here
 
   abbrev payload : List ℕ
-  payload = drop 8 (writeMessage x given version e c a d)
+  payload = drop envelopeLength (writeMessage panelEdition x given version e c a d)
 
   -- what the sign has read, and what it makes of it
-  module _ (n : ℕ) (read : writeRead (writeIn payload) ≡ writeAnswer given version e c a n) (there : List·Memᴰ (writeMessage x given version e c a d) sent) where
+  module _ (n : ℕ) (read : writeRead (writeIn payload) ≡ writeAnswer given version e c a n) (there : List·Memᴰ (writeMessage panelEdition x given version e c a d) sent) where
     abbrev entry : Entry
     entry = record { version = pick given version ABSENT; endpoint = e; cluster = c; attribute = a; place = n }
 
@@ -73,7 +74,7 @@ module _ {w defaults : List ℕ} {g : Grants} {sent : List (List ℕ)} (here : S
     unfolding codesOf firstOf responseMessage responsePayload answerTrees answerBytes
     begun-reply =
         write-reply (s .row) (stands .row .whole) x payload w g defaults now
-        ∙ ap (λ (q : WriteRequest). pick (eqb (q .verdict) 0) (responseTo w g defaults payload now x q) (statusMessage x (q .verdict))) read
+        ∙ ap (λ (q : WriteRequest). pick (eqb (q .verdict) 0) (responseTo w g defaults payload now x q) (refusalOf x (q .verdict))) read
 
     outcome-fits : OutcomeFits outcome
     unfolding codesOf

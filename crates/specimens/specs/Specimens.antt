@@ -10,11 +10,12 @@ use Rattle.tlv.specs.declared.Value.the-variants.{Signed, Float, Text}
 use Rattle.tlv.specs.Tree.{maxDepth}
 use Rattle.interaction.specs.Read.{maxPaths, maxFilters}
 use Rattle.interaction_write.specs.Write.{maxWrites}
+use Rattle.interaction_writer.specs.Envelope.{panelEdition, exchangeLimit}
 use Rattle.envelope.specs.Envelope.{envelopeLength, maxMessage}
 use Rattle.kinds.specs.Limits.{textMax}
 use Rattle.schema.specs.Layout.{endpointLimit, clusterLimit, attributeLimit, textSize}
 use Rattle.acl.specs.Access.{entryLimit, grantsOf, tableOk}
-use Rattle.exchange.specs.Rules.{maxTurn}
+use Rattle.exchange.specs.Rules.{firstReply, maxTurn}
 use Rattle.report.specs.Chunk.{maxPayload}
 use Rattle.cached.specs.Limits as Panel
 use Rattle.server.specs.declared.State.{State}
@@ -158,10 +159,14 @@ pub record All : Type 0 where
   -- "text of up to 200 bytes", and room for as many in the page of edits
   pub text : textMax ≡ 200
   pub text-room : textSize ≡ 200
-  -- "Eight bytes, [...] turn 16. Then a payload of at most 1,024 bytes."
+  -- "Eight bytes, [...]: edition 4 bits (0), [...] exchange 40, turn 16. Then a payload of at most 1,024 bytes."
   pub header : envelopeLength ≡ 8
+  pub edition : panelEdition ≡ 0
+  pub exchanges : exchangeLimit ≡ 1099511627776
   pub turns : maxTurn ≡ 65535
   pub payload : maxPayload ≡ 1024
+  -- "the sign's reply number k has turn k"
+  pub first : firstReply ≡ 1
   -- 3 and 4: "under 1,032 bytes", "over 1,032 bytes"
   pub message : maxMessage ≡ 1032
   -- 80: "depth above 10"; "then C8 over 16 paths; then 89 over 32 filters or 16 writes"

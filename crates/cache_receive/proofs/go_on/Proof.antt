@@ -1,5 +1,6 @@
 use Rattle.cache.proofs.ReactLaws.{ends-within, message-there, sent-as}
 use Rattle.envelope.specs.Envelope.{maxMessage}
+use Rattle.interaction_writer.specs.Envelope.{panelEdition}
 use Rattle.cache_receive.specs.Receive.{nextAwaited, goesOn}
 use Rattle.cache_request.specs.Messages.{successMessage}
 use Rattle.cache.specs.Begin.{keeping}
@@ -40,7 +41,7 @@ keep-requires : tie.Need-keep-requires
 keep-requires c κs = search needs
 
 -- and can be kept whole
-keepable-here : (c : tie.After-put-success) → take maxMessage (successMessage (c .before .before .before .args .x .exchange) (c .before .before .before .args .x .turn)) ≡ successMessage (c .before .before .before .args .x .exchange) (c .before .before .before .args .x .turn)
+keepable-here : (c : tie.After-put-success) → take maxMessage (successMessage panelEdition (c .before .before .before .args .x .exchange) (c .before .before .before .args .x .turn)) ≡ successMessage panelEdition (c .before .before .before .args .x .exchange) (c .before .before .before .args .x .turn)
 keepable-here c = take-all maxMessage _ (omega (arith, c .put-success .ensures .0 .place, c .put-success .ensures .1))
 
 same-length : tie.Need-same-length

@@ -1,4 +1,4 @@
-use Rattle.cache_receive.proofs.ReceiveLaws.{broken, small, short, too-long, other-edition, other-opcode, not-awaited, taken-as, payload-of, long-enough}
+use Rattle.cache_receive.proofs.ReceiveLaws.{broken, small, short, too-long, not-for-cache, not-awaited, taken-as, payload-of, long-enough}
 use Rattle.cache.proofs.ReactLaws.{refused-as}
 use Rattle.cache.specs.State.{panelRight}
 use Rattle.envelope.specs.declared.Envelope.the-variants.{Whole}
@@ -76,6 +76,9 @@ same-length-4 c = search needs
 returns-4 : tie.Need-returns-4
 returns-4 c = let a = c .before .before .before .before .before .before .before .before .before .before .before .before .before .args in rw (too-long (a .page .now) (a .state) (a .message .now) (length (a .out .now)) (right-here (c .before .before .before .before .before .before .before)) (c .before .before .before .before .before .before .if2 .left) (found-here (c .before .before .before)) (c .before .if3 .taken)) (refused-as (a .page .now) (c .refuse4 .ensures))
 
+is-for-cache-requires : tie.Need-is-for-cache-requires
+is-for-cache-requires c κs = search needs
+
 refuse-requires-5 : tie.Need-refuse-requires-5
 refuse-requires-5 c κs = search needs
 
@@ -83,10 +86,10 @@ same-length-5 : tie.Need-same-length-5
 same-length-5 c = search needs
 
 returns-5 : tie.Need-returns-5
-returns-5 c = let a = c .before .before .before .before .before .before .before .before .before .before .before .before .before .before .before .args in rw (other-edition (a .page .now) (a .state) (a .message .now) (length (a .out .now)) (right-here (c .before .before .before .before .before .before .before .before .before)) (c .before .before .before .before .before .before .before .before .if2 .left) (found-here (c .before .before .before .before .before)) (c .before .before .before .if3 .left) (c .before .if4 .taken)) (refused-as (a .page .now) (c .refuse5 .ensures))
+returns-5 c = let a = c .before .before .before .before .before .before .before .before .before .before .before .before .before .before .before .args in rw (not-for-cache (a .page .now) (a .state) (a .message .now) (length (a .out .now)) (right-here (c .before .before .before .before .before .before .before .before .before)) (c .before .before .before .before .before .before .before .before .if2 .left) (found-here (c .before .before .before .before .before)) (c .before .before .before .if3 .left) (sym (c .before .before .is-for-cache .ensures) ∙ not-true _ (c .before .if4 .taken))) (refused-as (a .page .now) (c .refuse5 .ensures))
 
-is-for-cache-requires : tie.Need-is-for-cache-requires
-is-for-cache-requires c κs = search needs
+is-awaited-requires : tie.Need-is-awaited-requires
+is-awaited-requires c κs = search needs
 
 refuse-requires-6 : tie.Need-refuse-requires-6
 refuse-requires-6 c κs = search needs
@@ -95,40 +98,28 @@ same-length-6 : tie.Need-same-length-6
 same-length-6 c = search needs
 
 returns-6 : tie.Need-returns-6
-returns-6 c = let a = c .before .before .before .before .before .before .before .before .before .before .before .before .before .before .before .before .before .args in rw (other-opcode (a .page .now) (a .state) (a .message .now) (length (a .out .now)) (right-here (c .before .before .before .before .before .before .before .before .before .before .before)) (c .before .before .before .before .before .before .before .before .before .before .if2 .left) (found-here (c .before .before .before .before .before .before .before)) (c .before .before .before .before .before .if3 .left) (c .before .before .before .if4 .left) (sym (c .before .before .is-for-cache .ensures) ∙ not-true _ (c .before .if5 .taken))) (refused-as (a .page .now) (c .refuse6 .ensures))
-
-is-awaited-requires : tie.Need-is-awaited-requires
-is-awaited-requires c κs = search needs
-
-refuse-requires-7 : tie.Need-refuse-requires-7
-refuse-requires-7 c κs = search needs
-
-same-length-7 : tie.Need-same-length-7
-same-length-7 c = search needs
-
-returns-7 : tie.Need-returns-7
-returns-7 c = let a = c .before .before .before .before .before .before .before .before .before .before .before .before .before .before .before .before .before .before .before .args in rw (not-awaited (a .page .now) (a .state) (a .message .now) (length (a .out .now)) (right-here (c .before .before .before .before .before .before .before .before .before .before .before .before .before)) (c .before .before .before .before .before .before .before .before .before .before .before .before .if2 .left) (found-here (c .before .before .before .before .before .before .before .before .before)) (c .before .before .before .before .before .before .before .if3 .left) (c .before .before .before .before .before .if4 .left) (sym (c .before .before .before .before .is-for-cache .ensures) ∙ not-false _ (c .before .before .before .if5 .left)) (sym (c .before .before .is-awaited .ensures) ∙ not-true _ (c .before .if6 .taken))) (refused-as (a .page .now) (c .refuse7 .ensures))
+returns-6 c = let a = c .before .before .before .before .before .before .before .before .before .before .before .before .before .before .before .before .before .args in rw (not-awaited (a .page .now) (a .state) (a .message .now) (length (a .out .now)) (right-here (c .before .before .before .before .before .before .before .before .before .before .before)) (c .before .before .before .before .before .before .before .before .before .before .if2 .left) (found-here (c .before .before .before .before .before .before .before)) (c .before .before .before .before .before .if3 .left) (sym (c .before .before .before .before .is-for-cache .ensures) ∙ not-false _ (c .before .before .before .if4 .left)) (sym (c .before .before .is-awaited .ensures) ∙ not-true _ (c .before .if5 .taken))) (refused-as (a .page .now) (c .refuse6 .ensures))
 
 sub-payload : tie.Need-sub-payload
-sub-payload c = omega (arith, long-enough (c .before .before .before .before .before .before .before .before .before .before .before .before .before .before .before .before .before .before .args .message .now) (found-here (c .before .before .before .before .before .before .before .before)))
+sub-payload c = omega (arith, long-enough (c .before .before .before .before .before .before .before .before .before .before .before .before .before .before .before .before .args .message .now) (found-here (c .before .before .before .before .before .before)))
 
 part-payload-start : tie.Need-part-payload-start
-part-payload-start c = omega (arith, long-enough (c .before .before .before .before .before .before .before .before .before .before .before .before .before .before .before .before .before .before .args .message .now) (found-here (c .before .before .before .before .before .before .before .before)))
+part-payload-start c = omega (arith, long-enough (c .before .before .before .before .before .before .before .before .before .before .before .before .before .before .before .before .args .message .now) (found-here (c .before .before .before .before .before .before)))
 
 part-payload-end : tie.Need-part-payload-end
 part-payload-end c = search needs
 
 take-requires : tie.Need-take-requires
-take-requires c κs = (right-here (c .before .before .before .before .before .before .before .before .before .before .before .before .before .before .before), c .before .before .before .before .before .before .before .before .before .before .before .before .before .before .if2 .left)
+take-requires c κs = (right-here (c .before .before .before .before .before .before .before .before .before .before .before .before .before), c .before .before .before .before .before .before .before .before .before .before .before .before .if2 .left)
+
+same-length-7 : tie.Need-same-length-7
+same-length-7 c = search needs
 
 same-length-8 : tie.Need-same-length-8
 same-length-8 c = search needs
 
-same-length-9 : tie.Need-same-length-9
-same-length-9 c = search needs
-
-returns-8 : tie.Need-returns-8
-returns-8 c = let a = c .before .before .before .before .before .before .before .before .before .before .before .before .before .before .before .before .before .before .before .before .before .before .before .before .before .before .args in rw (taken-as (a .page .now) (a .state) (a .message .now) (length (a .out .now)) (right-here (c .before .before .before .before .before .before .before .before .before .before .before .before .before .before .before .before .before .before .before .before)) (c .before .before .before .before .before .before .before .before .before .before .before .before .before .before .before .before .before .before .before .if2 .left) (found-here (c .before .before .before .before .before .before .before .before .before .before .before .before .before .before .before .before)) (c .before .before .before .before .before .before .before .before .before .before .before .before .before .before .if3 .left) (c .before .before .before .before .before .before .before .before .before .before .before .before .if4 .left) (sym (c .before .before .before .before .before .before .before .before .before .before .before .is-for-cache .ensures) ∙ not-false _ (c .before .before .before .before .before .before .before .before .before .before .if5 .left)) (sym (c .before .before .before .before .before .before .before .before .before .is-awaited .ensures) ∙ not-false _ (c .before .before .before .before .before .before .before .before .if6 .left)) (payload-of (a .message .now))) (c .before .before .before .before .take .ensures)
+returns-7 : tie.Need-returns-7
+returns-7 c = let a = c .before .before .before .before .before .before .before .before .before .before .before .before .before .before .before .before .before .before .before .before .before .before .before .before .args in rw (taken-as (a .page .now) (a .state) (a .message .now) (length (a .out .now)) (right-here (c .before .before .before .before .before .before .before .before .before .before .before .before .before .before .before .before .before .before)) (c .before .before .before .before .before .before .before .before .before .before .before .before .before .before .before .before .before .if2 .left) (found-here (c .before .before .before .before .before .before .before .before .before .before .before .before .before .before)) (c .before .before .before .before .before .before .before .before .before .before .before .before .if3 .left) (sym (c .before .before .before .before .before .before .before .before .before .before .before .is-for-cache .ensures) ∙ not-false _ (c .before .before .before .before .before .before .before .before .before .before .if4 .left)) (sym (c .before .before .before .before .before .before .before .before .before .is-awaited .ensures) ∙ not-false _ (c .before .before .before .before .before .before .before .before .if5 .left)) (payload-of (a .message .now))) (c .before .before .before .before .take .ensures)
 
 pub receive-spec : {M : Type 1} → statement M
 receive-spec =
@@ -150,21 +141,18 @@ receive-spec =
     refuse-requires-4
     same-length-4
     returns-4
+    is-for-cache-requires
     refuse-requires-5
     same-length-5
     returns-5
-    is-for-cache-requires
+    is-awaited-requires
     refuse-requires-6
     same-length-6
     returns-6
-    is-awaited-requires
-    refuse-requires-7
-    same-length-7
-    returns-7
     sub-payload
     part-payload-start
     part-payload-end
     take-requires
+    same-length-7
     same-length-8
-    same-length-9
-    returns-8)
+    returns-7)

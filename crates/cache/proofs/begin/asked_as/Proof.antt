@@ -16,6 +16,9 @@ add-t9 c = search needs
 add-t10 : tie.Need-add-t10
 add-t10 c = search needs
 
+cast-t11 : tie.Need-cast-t11
+cast-t11 c = search needs
+
 unknown-after-requires : tie.Need-unknown-after-requires
 unknown-after-requires c κs = search needs
 
@@ -31,4 +34,4 @@ returns c =
     ∙ rw (c .before .unknown-after .ensures) refl
 
 pub asked-as-spec : {M : Type 1} → statement M
-asked-as-spec = tie.close (tie.spec add-t9 add-t10 unknown-after-requires keep-requires returns)
+asked-as-spec = tie.close (tie.spec add-t9 add-t10 cast-t11 unknown-after-requires keep-requires returns)

@@ -55,7 +55,7 @@ add-put-read : tie.Need-add-put-read
 add-put-read c = search needs
 
 put-read-requires : tie.Need-put-read-requires
-put-read-requires c κs = (right-bounded (c .before .before .before .before .before .before .before .before .before .args .page .now) (c .before .before .before .before .before .before .before .before .before .args .state) (right-here (c .before .before .before .before .before)), (omega (arith, c .before .if3 .left), c .before .before .before .before .if2 .left))
+put-read-requires c κs = (right-bounded (c .before .before .before .before .before .before .before .before .before .args .page .now) (c .before .before .before .before .before .before .before .before .before .args .state) (right-here (c .before .before .before .before .before)), (omega arith, (omega (arith, c .before .if3 .left), c .before .before .before .before .if2 .left)))
 
 sub-asked-as : tie.Need-sub-asked-as
 sub-asked-as c = search needs

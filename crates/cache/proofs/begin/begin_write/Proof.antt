@@ -70,7 +70,7 @@ add-put-write : tie.Need-add-put-write
 add-put-write c = search needs
 
 put-write-requires : tie.Need-put-write-requires
-put-write-requires c κs = let f = sendable-fits (c .before .before .before .before .before .before .before .before .before .before .before .before .args .src .now) (c .before .before .before .before .before .before .before .before .before .before .before .before .args .new) (value-here (c .before)) in (f .inside, (f .short, (omega (arith, c .before .before .before .if3 .left), c .before .before .before .before .before .before .if2 .left)))
+put-write-requires c κs = let f = sendable-fits (c .before .before .before .before .before .before .before .before .before .before .before .before .args .src .now) (c .before .before .before .before .before .before .before .before .before .before .before .before .args .new) (value-here (c .before)) in (f .inside, (f .short, (omega arith, (omega (arith, c .before .before .before .if3 .left), c .before .before .before .before .before .before .if2 .left))))
 
 sub-asked-as : tie.Need-sub-asked-as
 sub-asked-as c = search needs

@@ -18,14 +18,14 @@ put-envelope-requires : tie.Need-put-envelope-requires
 put-envelope-requires c κs = search needs
 
 put-status-response-requires : tie.Need-put-status-response-requires
-put-status-response-requires c κs = let o = after-envelope _ _ _ (c .before .before .before .put-envelope .ensures) in omega (arith, c .before .before .before .before .before .before .pre .1, o .0, o .1, length-status-response 0 (omega arith))
+put-status-response-requires c κs = let o = after-envelope _ _ _ _ (c .before .before .before .put-envelope .ensures) in omega (arith, c .before .before .before .before .before .before .pre .1 .1, o .0, o .1, length-status-response 0 (omega arith))
 
 same-length : tie.Need-same-length
 same-length c = search needs
 
 returns : tie.Need-returns
 unfolding successMessage
-returns c = let o = after-envelope _ _ _ (c .before .before .before .before .before .before .put-envelope .ensures) in (then (c .before .before .before .before .before .before .put-envelope .ensures) (c .before .before .put-status-response .ensures), omega (arith, o .0, c .before .before .put-status-response .ensures .place, length-status-response 0 (omega arith)))
+returns c = let o = after-envelope _ _ _ _ (c .before .before .before .before .before .before .put-envelope .ensures) in (then (c .before .before .before .before .before .before .put-envelope .ensures) (c .before .before .put-status-response .ensures), omega (arith, o .0, c .before .before .put-status-response .ensures .place, length-status-response 0 (omega arith)))
 
 pub put-success-spec : {M : Type 1} → statement M
 put-success-spec =

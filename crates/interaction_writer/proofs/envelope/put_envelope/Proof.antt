@@ -12,7 +12,13 @@ returns c =
     let q = r .before .before .before .before in
     let p = q .before .before .before .before in
     let a = p .before .before .before .args in
-    envelope-stored (a .opcode) (a .exchange) (a .turn) ((a .opcode * 1099511627776 + a .exchange) * 65536 + a .turn) refl (p .put2 .ensures) (q .put22 .ensures) (r .put23 .ensures) (s .put24 .ensures)
+    envelope-stored (a .edition) (a .opcode) (a .exchange) (a .turn) (((a .edition * 16 + a .opcode) * 1099511627776 + a .exchange) * 65536 + a .turn) refl (p .put2 .ensures) (q .put22 .ensures) (r .put23 .ensures) (s .put24 .ensures)
+
+mul-kind : tie.Need-mul-kind
+mul-kind c = search needs
+
+add-kind : tie.Need-add-kind
+add-kind c = search needs
 
 mul-word : tie.Need-mul-word
 mul-word c = search needs
@@ -69,6 +75,8 @@ pub put-envelope-spec : {M : Type 1} → statement M
 put-envelope-spec =
     tie.close
     (tie.spec
+    mul-kind
+    add-kind
     mul-word
     add-word
     mul-word-2

@@ -4,6 +4,7 @@ use native.Mathlib.Omega.{arith}
 use Prim.Native.Nat.{_≤_}
 use lib.ListN.{length, take}
 use Rattle.octets.specs.Store.{store}
+use Rattle.exchange.specs.Rules.{firstReply}
 use Rattle.selection.specs.Request.{filtersAt, standingAt}
 use Rattle.selection.specs.Filters.{filterWords}
 use Rattle.selection.proofs.RequestLaws.{filters-length}
@@ -65,8 +66,11 @@ put-paths-requires c κs = search needs
 put-filters-requires : tie.Need-put-filters-requires
 put-filters-requires c κs = (c .before .before .before .before .before .before .before .before .before .before .before .before .before .before .pre .0, (request-few (c .before .before .before .before .before .before .before .before .before .before .before .before .before .before .args .payload .now) (c .before .before .before .before .before .before .before .before .before .read-request .ensures) (c .before .before .before .before .before .before .before .if1 .left) .1, search needs))
 
+cast-put-part : tie.Need-cast-put-part
+cast-put-part c = search needs
+
 put-part-requires : tie.Need-put-part-requires
-put-part-requires c κs = let p = c .before .before .before .before .before .before .before .before .before .before .before .before .before .before .before .before .before .pre in (p .0, (request-few (c .before .before .before .before .before .before .before .before .before .before .before .before .before .before .before .before .before .args .payload .now) (c .before .before .before .before .before .before .before .before .before .before .before .before .read-request .ensures) (c .before .before .before .before .before .before .before .before .before .before .if1 .left) .0, (p .1 .0, p .1 .1)))
+put-part-requires c κs = let p = c .before .before .before .before .before .before .before .before .before .before .before .before .before .before .before .before .before .pre in (p .0, (request-few (c .before .before .before .before .before .before .before .before .before .before .before .before .before .before .before .before .before .args .payload .now) (c .before .before .before .before .before .before .before .before .before .before .before .before .read-request .ensures) (c .before .before .before .before .before .before .before .before .before .before .if1 .left) .0, (omega arith, (p .1 .0, p .1 .1))))
 
 sub-keep : tie.Need-sub-keep
 sub-keep c = search needs
@@ -99,7 +103,7 @@ returns-2 c =
     let s = sent-of (ap (λ (p : Request). blocksOf (a .w .now) v (a .defaults .now) (a .edits .now) (a .g) p beginningPlace) (kept-request (c .before .before .before .before .before .before .before .before .before .before .before))) (c .before .before .before .before .before .before .before .before .put-part .ensures) in
     let f = c .before .before .before .before .before .before .before .before .put-part .result in
     let g = part-given x (c .before .keep .ensures .1) s room q
-    (λ j. record { progress = record { last = a .exchange; turn = 1; next = c .next-of .ensures j; closed = 0 }; request = kept-request (c .before .before .before .before .before .before .before .before .before .before .before) j; place = f .place; kept = c .before .keep .ensures .0 j; len = report-end s room j }) in
+    (λ j. record { progress = record { last = a .exchange; turn = firstReply; next = c .next-of .ensures j; closed = 0 }; request = kept-request (c .before .before .before .before .before .before .before .before .before .before .before) j; place = f .place; kept = c .before .keep .ensures .0 j; len = report-end s room j }) in
     begins-anew (g .0 ∙ sym y) (stored-request (c .before .before .before .before .before .before .before .before .before .before .before) ∙ ap (λ (z : Row). putRequest (a .row .now) (z .request)) (sym y)) (g .1)
 
 pub begin-read-spec : {M : Type 1} → statement M
@@ -113,6 +117,7 @@ begin-read-spec =
     returns
     put-paths-requires
     put-filters-requires
+    cast-put-part
     put-part-requires
     sub-keep
     part-keep-start

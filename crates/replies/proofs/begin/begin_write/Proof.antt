@@ -5,6 +5,8 @@ use native.Mathlib.Omega.{arith}
 use borrow.Author.Needs.{needs}
 use lib.ListN.{length}
 use Rattle.octets.specs.Store.{Stored}
+use Rattle.interaction_writer.specs.Envelope.{panelEdition}
+use Rattle.exchange.specs.Rules.{firstReply}
 use Rattle.writes.specs.Offer.{Held, heldOf}
 use Rattle.writes.specs.Entry.{codesOf}
 use Rattle.replies.specs.Row.{rowIn}
@@ -19,7 +21,7 @@ use Rattle.replies.proofs.begin.begin_write.Tie as tie
 sent : (c : tie.After-put-statuses) →
     let a = c .before .before .before .before .before .before .before .before .before .before .before .before .before .before .before .before .before .before .before .before .before .args in
     let r = c .before .before .before .before .before .before .before .before .before .before .before .before .before .before .before .before .write-request .result in
-    Stored (a .out .now) 0 (responseMessage (a .exchange) (entriesOf r) (codesOf (a .w .now) (a .g) (a .defaults .now) (a .payload .now) (heldOf (a .words .now) (a .nulls .now) (a .edited .now) (a .versions .now) (a .edits .now)) (entriesOf r))) (c .put-statuses .last .1 .1 .1 .0) (c .put-statuses .result)
+    Stored (a .out .now) 0 (responseMessage panelEdition (a .exchange) firstReply (entriesOf r) (codesOf (a .w .now) (a .g) (a .defaults .now) (a .payload .now) (heldOf (a .words .now) (a .nulls .now) (a .edited .now) (a .versions .now) (a .edits .now)) (entriesOf r))) (c .put-statuses .last .1 .1 .1 .0) (c .put-statuses .result)
 sent c =
     let a = c .before .before .before .before .before .before .before .before .before .before .before .before .before .before .before .before .before .before .before .before .before .args in
     response-sent (a .payload .now) (c .before .before .before .before .before .before .before .before .before .before .before .before .before .before .before .before .write-request .ensures) (a .w .now) (a .g) (a .defaults .now) (heldOf (a .words .now) (a .nulls .now) (a .edited .now) (a .versions .now) (a .edits .now)) (rowIn [] (a .t) (a .kept .now)) (a .exchange) (c .before .before .before .before .before .before .before .before .before .before .before .before .before .before .if1 .left) (c .before .before .before .before .before .before .write-all .ensures .1) (c .put-statuses .ensures)
@@ -27,7 +29,7 @@ sent c =
 short : (c : tie.After-put-statuses) →
     let a = c .before .before .before .before .before .before .before .before .before .before .before .before .before .before .before .before .before .before .before .before .before .args in
     let r = c .before .before .before .before .before .before .before .before .before .before .before .before .before .before .before .before .write-request .result in
-    length (responseMessage (a .exchange) (entriesOf r) (codesOf (a .w .now) (a .g) (a .defaults .now) (a .payload .now) (heldOf (a .words .now) (a .nulls .now) (a .edited .now) (a .versions .now) (a .edits .now)) (entriesOf r))) ≤ maxMessage
+    length (responseMessage panelEdition (a .exchange) firstReply (entriesOf r) (codesOf (a .w .now) (a .g) (a .defaults .now) (a .payload .now) (heldOf (a .words .now) (a .nulls .now) (a .edited .now) (a .versions .now) (a .edits .now)) (entriesOf r))) ≤ maxMessage
 short c =
     let a = c .before .before .before .before .before .before .before .before .before .before .before .before .before .before .before .before .before .before .before .before .before .args in
     response-short (a .payload .now) (c .before .before .before .before .before .before .before .before .before .before .before .before .before .before .before .before .write-request .ensures) (a .w .now) (a .g) (a .defaults .now) (heldOf (a .words .now) (a .nulls .now) (a .edited .now) (a .versions .now) (a .edits .now)) (rowIn [] (a .t) (a .kept .now)) (a .exchange) (c .before .before .before .before .before .before .before .before .before .before .before .before .before .before .if1 .left)
@@ -73,8 +75,11 @@ returns-2 c = let a = c .before .before .before .before .before .before .before 
     wrote-done (a .payload .now) e (a .w .now) (a .g) (a .defaults .now) h x (a .exchange) (c .before .before .before .before .before .before .before .before .before .before .before .before .before .before .before .before .if1 .left) (c .before .before .before .before .before .before .before .before .write-all .ensures .0) (silent (a .payload .now) e (a .w .now) (a .g) (a .defaults .now) h x (a .exchange) (c .before .before .before .before .if2 .taken))
     (k .0 row, (nothing-given x (k .1) (answered (a .exchange)) (x .request) (x .place) (a .out .now) (k .0 row), kept-full x (k .1) (answered (a .exchange)) (x .request) (x .place) [] (omega arith) (k .0 row)))
 
+cast-put-statuses : tie.Need-cast-put-statuses
+cast-put-statuses c = search needs
+
 put-statuses-requires : tie.Need-put-statuses-requires
-put-statuses-requires c κs = let p = c .before .before .before .before .before .before .before .before .before .before .before .before .before .before .before .before .before .before .before .before .pre in let e = c .before .before .before .before .before .before .before .before .before .before .before .before .before .before .before .write-request .ensures in (writes-few (c .before .before .before .before .before .before .before .before .before .before .before .before .before .before .before .before .before .before .before .before .args .payload .now) e (c .before .before .before .before .before .before .before .before .before .before .before .before .before .if1 .left), ((λ i l. writes-wide (c .before .before .before .before .before .before .before .before .before .before .before .before .before .before .before .before .before .before .before .before .args .payload .now) e i), (p .1 .1 .0, p .1 .1 .1)))
+put-statuses-requires c κs = let p = c .before .before .before .before .before .before .before .before .before .before .before .before .before .before .before .before .before .before .before .before .pre in let e = c .before .before .before .before .before .before .before .before .before .before .before .before .before .before .before .write-request .ensures in (writes-few (c .before .before .before .before .before .before .before .before .before .before .before .before .before .before .before .before .before .before .before .before .args .payload .now) e (c .before .before .before .before .before .before .before .before .before .before .before .before .before .if1 .left), ((λ i l. writes-wide (c .before .before .before .before .before .before .before .before .before .before .before .before .before .before .before .before .before .before .before .before .args .payload .now) e i), (omega arith, (p .1 .1 .0, p .1 .1 .1))))
 
 sub-once-kept-2 : tie.Need-sub-once-kept-2
 sub-once-kept-2 c = search needs
@@ -116,6 +121,7 @@ begin-write-spec =
     same-length-2
     same-length-3
     returns-2
+    cast-put-statuses
     put-statuses-requires
     sub-once-kept-2
     part-once-kept-start-2

@@ -2,16 +2,18 @@ use mathlib.Core.Path.{_≡_}
 use native.Mathlib.Omega.{arith}
 use borrow.Author.Needs.{needs}
 use lib.ListN.{length}
-use Rattle.replies.specs.Messages.{statusMessage}
 use Rattle.replies.specs.Row.{requestIn, rowIn}
-use Rattle.replies.specs.Begin.{answered}
+use Rattle.replies.specs.Begin.{answered, refusalOf}
 use Rattle.replies.proofs.MessageLaws.{status-length}
 use Rattle.replies.proofs.RowLaws.{ends-within, part-short, both-given}
 use Rattle.replies.proofs.begin.refuse.Statement.{statement}
 use Rattle.replies.proofs.begin.refuse.Tie as tie
 
-size : (c : tie.Start) → length (statusMessage (c .args .exchange) (c .args .code)) ≡ 16
-size c = status-length (c .args .exchange) (c .args .code) (c .fits .code .fits)
+size : (c : tie.Start) → length (refusalOf (c .args .exchange) (c .args .code)) ≡ 16
+size c = status-length _ (c .args .exchange) _ (c .args .code) (c .fits .code .fits)
+
+cast-put-status : tie.Need-cast-put-status
+cast-put-status c = search needs
 
 put-status-requires : tie.Need-put-status-requires
 put-status-requires c κs = search needs
@@ -38,6 +40,7 @@ pub refuse-spec : {M : Type 1} → statement M
 refuse-spec =
     tie.close
     (tie.spec
+    cast-put-status
     put-status-requires
     sub-once-kept
     part-once-kept-start

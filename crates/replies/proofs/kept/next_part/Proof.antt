@@ -1,5 +1,6 @@
 use Prim.Native.Nat.{_+_}
 use mathlib.Core.Path.{_≡_}
+use native.Mathlib.Omega.{arith}
 use borrow.Author.Needs.{needs}
 use Rattle.replies.specs.Row.{rowIn, requestIn, nextPart, keeping}
 use Rattle.replies.proofs.RowLaws.{report-within, report-short, report-end, part-given, row-right}
@@ -19,7 +20,7 @@ cast-put-part : tie.Need-cast-put-part
 cast-put-part c = search needs
 
 put-part-requires : tie.Need-put-part-requires
-put-part-requires c κs = let s = c .before .before .before .before .before .before .before in let r = row-right (rowIn (s .args .row .now) (s .args .t) (s .args .kept .now)) (s .pre .1 .0) in (s .pre .0, (r .asked, (r .exchange, s .pre .1 .1 .1)))
+put-part-requires c κs = let s = c .before .before .before .before .before .before .before in let r = row-right (rowIn (s .args .row .now) (s .args .t) (s .args .kept .now)) (s .pre .1 .0) in (s .pre .0, (r .asked, (omega arith, (r .exchange, s .pre .1 .1 .1))))
 
 sub-keep : tie.Need-sub-keep
 sub-keep c = search needs

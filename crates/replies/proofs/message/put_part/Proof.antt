@@ -21,7 +21,7 @@ put-envelope-requires : tie.Need-put-envelope-requires
 put-envelope-requires c κs = search needs
 
 make-part-requires : tie.Need-make-part-requires
-make-part-requires c κs = let o = after-envelope _ _ _ (c .before .before .before .put-envelope .ensures) in let p = c .before .before .before .before .before .before .before .before .pre in (p .0, (p .1 .0, omega (arith, p .1 .1 .1, o .0, o .1)))
+make-part-requires c κs = let o = after-envelope _ _ _ _ (c .before .before .before .put-envelope .ensures) in let p = c .before .before .before .before .before .before .before .before .pre in (p .0, (p .1 .0, omega (arith, p .1 .1 .1 .1, o .0, o .1)))
 
 same-length : tie.Need-same-length
 same-length c = search needs

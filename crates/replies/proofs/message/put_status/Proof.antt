@@ -14,7 +14,7 @@ put-envelope-requires : tie.Need-put-envelope-requires
 put-envelope-requires c κs = search needs
 
 put-status-response-requires : tie.Need-put-status-response-requires
-put-status-response-requires c κs = let o = after-envelope _ _ _ (c .before .before .before .put-envelope .ensures) in omega (arith, c .before .before .before .before .before .before .pre .1, o .0, o .1, length-status-response (c .before .before .before .before .before .before .args .code) (c .before .before .before .before .before .before .fits .code .fits))
+put-status-response-requires c κs = let o = after-envelope _ _ _ _ (c .before .before .before .put-envelope .ensures) in omega (arith, c .before .before .before .before .before .before .pre .1 .1, o .0, o .1, length-status-response (c .before .before .before .before .before .before .args .code) (c .before .before .before .before .before .before .fits .code .fits))
 
 same-length : tie.Need-same-length
 same-length c = search needs

@@ -5,7 +5,7 @@ use native.Mathlib.Omega.{arith}
 use borrow.Author.Tests.{not-true, not-false}
 use Prim.Native.Nat.{_-_}
 use lib.ListN.{length, take, drop}
-use Rattle.envelope.specs.Envelope.{envelopeIn}
+use Rattle.envelope.specs.Envelope.{envelopeIn, envelopeLength}
 use Rattle.envelope.specs.declared.Envelope.the-variants.{Whole}
 use Rattle.values.specs.Values.{valuesOf}
 use Rattle.replies.specs.declared.Standing.{Standing}
@@ -14,7 +14,7 @@ use Rattle.server.specs.State.{signRight, stateIn}
 use Rattle.server.specs.Receive.{stepOf}
 use Rattle.server.proofs.StepLaws.{next-turn}
 use Rattle.server.proofs.ReactLaws.{silence-as, refused-as}
-use Rattle.server.proofs.ReceiveLaws.{exchange-below, broken, bad-table, small, short, too-long, other-edition, other-opcode, other-subject, served-as, payload-of}
+use Rattle.server.proofs.ReceiveLaws.{exchange-below, broken, bad-table, small, short, too-long, not-for-server, other-subject, served-as, payload-of}
 use borrow.Author.Needs.{needs}
 use Rattle.server.proofs.receive.serve.Statement.{statement}
 use Rattle.server.proofs.receive.serve.Tie as tie
@@ -94,6 +94,9 @@ same-length-5 c = search needs
 returns-5 : tie.Need-returns-5
 returns-5 c = let a = c .before .before .before .before .before .before .before .before .before .before .before .before .before .before .before .before .before .before .before .before .args in rw (too-long (a .w .now) (a .defaults .now) (a .edits .now) (stateIn (valuesOf (a .words .now) (a .nulls .now) (a .edited .now) (a .versions .now)) (a .row .now) (a .kept .now)) (a .table) (a .g) (a .subject) (a .message .now) (length (a .out .now)) (right-here (c .before .before .before .before .before .before .before .before)) (not-false _ (c .before .before .before .before .before .before .before .if2 .left)) (c .before .before .before .before .before .before .if3 .left) (found-here (c .before .before .before)) (c .before .if4 .taken)) (refused-as (valuesOf (a .words .now) (a .nulls .now) (a .edited .now) (a .versions .now)) (a .edits .now) (a .row .now) (a .kept .now) 4 (c .refuse5 .ensures) refl)
 
+is-for-server-requires : tie.Need-is-for-server-requires
+is-for-server-requires c κs = search needs
+
 refuse-requires-6 : tie.Need-refuse-requires-6
 refuse-requires-6 c κs = search needs
 
@@ -101,19 +104,7 @@ same-length-6 : tie.Need-same-length-6
 same-length-6 c = search needs
 
 returns-6 : tie.Need-returns-6
-returns-6 c = let a = c .before .before .before .before .before .before .before .before .before .before .before .before .before .before .before .before .before .before .before .before .before .before .args in rw (other-edition (a .w .now) (a .defaults .now) (a .edits .now) (stateIn (valuesOf (a .words .now) (a .nulls .now) (a .edited .now) (a .versions .now)) (a .row .now) (a .kept .now)) (a .table) (a .g) (a .subject) (a .message .now) (length (a .out .now)) (right-here (c .before .before .before .before .before .before .before .before .before .before)) (not-false _ (c .before .before .before .before .before .before .before .before .before .if2 .left)) (c .before .before .before .before .before .before .before .before .if3 .left) (found-here (c .before .before .before .before .before)) (c .before .before .before .if4 .left) (c .before .if5 .taken)) (refused-as (valuesOf (a .words .now) (a .nulls .now) (a .edited .now) (a .versions .now)) (a .edits .now) (a .row .now) (a .kept .now) 4 (c .refuse6 .ensures) refl)
-
-is-for-server-requires : tie.Need-is-for-server-requires
-is-for-server-requires c κs = search needs
-
-refuse-requires-7 : tie.Need-refuse-requires-7
-refuse-requires-7 c κs = search needs
-
-same-length-7 : tie.Need-same-length-7
-same-length-7 c = search needs
-
-returns-7 : tie.Need-returns-7
-returns-7 c = let a = c .before .before .before .before .before .before .before .before .before .before .before .before .before .before .before .before .before .before .before .before .before .before .before .before .args in rw (other-opcode (a .w .now) (a .defaults .now) (a .edits .now) (stateIn (valuesOf (a .words .now) (a .nulls .now) (a .edited .now) (a .versions .now)) (a .row .now) (a .kept .now)) (a .table) (a .g) (a .subject) (a .message .now) (length (a .out .now)) (right-here (c .before .before .before .before .before .before .before .before .before .before .before .before)) (not-false _ (c .before .before .before .before .before .before .before .before .before .before .before .if2 .left)) (c .before .before .before .before .before .before .before .before .before .before .if3 .left) (found-here (c .before .before .before .before .before .before .before)) (c .before .before .before .before .before .if4 .left) (c .before .before .before .if5 .left) (sym (c .before .before .is-for-server .ensures) ∙ not-true _ (c .before .if6 .taken))) (refused-as (valuesOf (a .words .now) (a .nulls .now) (a .edited .now) (a .versions .now)) (a .edits .now) (a .row .now) (a .kept .now) 4 (c .refuse7 .ensures) refl)
+returns-6 c = let a = c .before .before .before .before .before .before .before .before .before .before .before .before .before .before .before .before .before .before .before .before .before .before .args in rw (not-for-server (a .w .now) (a .defaults .now) (a .edits .now) (stateIn (valuesOf (a .words .now) (a .nulls .now) (a .edited .now) (a .versions .now)) (a .row .now) (a .kept .now)) (a .table) (a .g) (a .subject) (a .message .now) (length (a .out .now)) (right-here (c .before .before .before .before .before .before .before .before .before .before)) (not-false _ (c .before .before .before .before .before .before .before .before .before .if2 .left)) (c .before .before .before .before .before .before .before .before .if3 .left) (found-here (c .before .before .before .before .before)) (c .before .before .before .if4 .left) (sym (c .before .before .is-for-server .ensures) ∙ not-true _ (c .before .if5 .taken))) (refused-as (valuesOf (a .words .now) (a .nulls .now) (a .edited .now) (a .versions .now)) (a .edits .now) (a .row .now) (a .kept .now) 4 (c .refuse6 .ensures) refl)
 
 subject-served-requires : tie.Need-subject-served-requires
 subject-served-requires c κs = search needs
@@ -121,17 +112,17 @@ subject-served-requires c κs = search needs
 answer-requires : tie.Need-answer-requires
 answer-requires c κs = search needs
 
-same-length-8 : tie.Need-same-length-8
-same-length-8 c = search needs
+same-length-7 : tie.Need-same-length-7
+same-length-7 c = search needs
 
-returns-8 : tie.Need-returns-8
-returns-8 c = let a = c .before .before .before .before .before .before .before .before .before .before .before .before .before .before .before .before .before .before .before .before .before .before .before .before .before .before .args in rw (other-subject (a .w .now) (a .defaults .now) (a .edits .now) (stateIn (valuesOf (a .words .now) (a .nulls .now) (a .edited .now) (a .versions .now)) (a .row .now) (a .kept .now)) (a .table) (a .g) (a .subject) (a .message .now) (length (a .out .now)) (right-here (c .before .before .before .before .before .before .before .before .before .before .before .before .before .before)) (not-false _ (c .before .before .before .before .before .before .before .before .before .before .before .before .before .if2 .left)) (c .before .before .before .before .before .before .before .before .before .before .before .before .if3 .left) (found-here (c .before .before .before .before .before .before .before .before .before)) (c .before .before .before .before .before .before .before .if4 .left) (c .before .before .before .before .before .if5 .left) (sym (c .before .before .before .before .is-for-server .ensures) ∙ not-false _ (c .before .before .before .if6 .left)) (λ z. c .before .if7 .taken (z ∙ sym (c .before .before .subject-served .ensures)))) (silence-as (valuesOf (a .words .now) (a .nulls .now) (a .edited .now) (a .versions .now)) (a .edits .now) (a .row .now) (a .kept .now) (c .answer .ensures) refl)
+returns-7 : tie.Need-returns-7
+returns-7 c = let a = c .before .before .before .before .before .before .before .before .before .before .before .before .before .before .before .before .before .before .before .before .before .before .before .before .args in rw (other-subject (a .w .now) (a .defaults .now) (a .edits .now) (stateIn (valuesOf (a .words .now) (a .nulls .now) (a .edited .now) (a .versions .now)) (a .row .now) (a .kept .now)) (a .table) (a .g) (a .subject) (a .message .now) (length (a .out .now)) (right-here (c .before .before .before .before .before .before .before .before .before .before .before .before)) (not-false _ (c .before .before .before .before .before .before .before .before .before .before .before .if2 .left)) (c .before .before .before .before .before .before .before .before .before .before .if3 .left) (found-here (c .before .before .before .before .before .before .before)) (c .before .before .before .before .before .if4 .left) (sym (c .before .before .before .before .is-for-server .ensures) ∙ not-false _ (c .before .before .before .if5 .left)) (λ z. c .before .if6 .taken (z ∙ sym (c .before .before .subject-served .ensures)))) (silence-as (valuesOf (a .words .now) (a .nulls .now) (a .edited .now) (a .versions .now)) (a .edits .now) (a .row .now) (a .kept .now) (c .answer .ensures) refl)
 
 sub-payload : tie.Need-sub-payload
-sub-payload c = omega (arith, long-enough (c .before .before .before .before .before .before .before .before .before .before .before .before .before .before .before .before .before .before .before .before .before .before .before .before .before .args .message .now) (found-here (c .before .before .before .before .before .before .before .before)))
+sub-payload c = omega (arith, long-enough (c .before .before .before .before .before .before .before .before .before .before .before .before .before .before .before .before .before .before .before .before .before .before .before .args .message .now) (found-here (c .before .before .before .before .before .before)))
 
 part-payload-start : tie.Need-part-payload-start
-part-payload-start c = omega (arith, long-enough (c .before .before .before .before .before .before .before .before .before .before .before .before .before .before .before .before .before .before .before .before .before .before .before .before .before .args .message .now) (found-here (c .before .before .before .before .before .before .before .before)))
+part-payload-start c = omega (arith, long-enough (c .before .before .before .before .before .before .before .before .before .before .before .before .before .before .before .before .before .before .before .before .before .before .before .args .message .now) (found-here (c .before .before .before .before .before .before)))
 
 part-payload-end : tie.Need-part-payload-end
 part-payload-end c = search needs
@@ -140,16 +131,16 @@ step-of-requires : tie.Need-step-of-requires
 step-of-requires c κs = search needs
 
 react-requires : tie.Need-react-requires
-react-requires c κs = let a = c .before .before .before .before .before .before .before .before .before .before .before .before .before .before .before .before .before .before .before .before .before .before .before .before .before .before .before .before .before .before .before .before .before .before .before .args in (c .before .before .before .before .before .before .before .before .before .before .before .before .before .before .before .before .before .before .before .before .before .before .before .before .before .before .before .before .before .read-standing .ensures, (right-here (c .before .before .before .before .before .before .before .before .before .before .before .before .before .before .before .before .before .before .before .before .before .before .before), (exchange-below (a .message .now) (found-here (c .before .before .before .before .before .before .before .before .before .before .before .before .before .before .before .before .before .before)), ((λ z. next-turn (c .before .before .before .before .before .before .before .before .before .before .before .before .before .before .before .before .before .before .before .before .before .before .before .before .before .before .before .before .before .read-standing .result .progress) _ _ (sym (c .before .before .before .before .before .before .before .before .step-of .ensures) ∙ z)), c .before .before .before .before .before .before .before .before .before .before .before .before .before .before .before .before .before .before .before .before .before .if3 .left))))
+react-requires c κs = let a = c .before .before .before .before .before .before .before .before .before .before .before .before .before .before .before .before .before .before .before .before .before .before .before .before .before .before .before .before .before .before .before .before .before .args in (c .before .before .before .before .before .before .before .before .before .before .before .before .before .before .before .before .before .before .before .before .before .before .before .before .before .before .before .read-standing .ensures, (right-here (c .before .before .before .before .before .before .before .before .before .before .before .before .before .before .before .before .before .before .before .before .before), (exchange-below (a .message .now) (found-here (c .before .before .before .before .before .before .before .before .before .before .before .before .before .before .before .before)), ((λ z. next-turn (c .before .before .before .before .before .before .before .before .before .before .before .before .before .before .before .before .before .before .before .before .before .before .before .before .before .before .before .read-standing .result .progress) _ _ (sym (c .before .before .before .before .before .before .before .before .step-of .ensures) ∙ z)), c .before .before .before .before .before .before .before .before .before .before .before .before .before .before .before .before .before .before .before .if3 .left))))
+
+same-length-8 : tie.Need-same-length-8
+same-length-8 c = search needs
 
 same-length-9 : tie.Need-same-length-9
 same-length-9 c = search needs
 
-same-length-10 : tie.Need-same-length-10
-same-length-10 c = search needs
-
-returns-9 : tie.Need-returns-9
-returns-9 c = let a = c .before .before .before .before .before .before .before .before .before .before .before .before .before .before .before .before .before .before .before .before .before .before .before .before .before .before .before .before .before .before .before .before .before .before .before .before .before .before .before .before .args in rw (served-as (a .w .now) (a .defaults .now) (a .edits .now) (stateIn (valuesOf (a .words .now) (a .nulls .now) (a .edited .now) (a .versions .now)) (a .row .now) (a .kept .now)) (a .table) (a .g) (a .subject) (a .message .now) (length (a .out .now)) (right-here (c .before .before .before .before .before .before .before .before .before .before .before .before .before .before .before .before .before .before .before .before .before .before .before .before .before .before .before .before)) (not-false _ (c .before .before .before .before .before .before .before .before .before .before .before .before .before .before .before .before .before .before .before .before .before .before .before .before .before .before .before .if2 .left)) (c .before .before .before .before .before .before .before .before .before .before .before .before .before .before .before .before .before .before .before .before .before .before .before .before .before .before .if3 .left) (found-here (c .before .before .before .before .before .before .before .before .before .before .before .before .before .before .before .before .before .before .before .before .before .before .before)) (c .before .before .before .before .before .before .before .before .before .before .before .before .before .before .before .before .before .before .before .before .before .if4 .left) (c .before .before .before .before .before .before .before .before .before .before .before .before .before .before .before .before .before .before .before .if5 .left) (sym (c .before .before .before .before .before .before .before .before .before .before .before .before .before .before .before .before .before .before .is-for-server .ensures) ∙ not-false _ (c .before .before .before .before .before .before .before .before .before .before .before .before .before .before .before .before .before .if6 .left)) (c .before .before .before .before .before .before .before .before .before .before .before .before .before .before .before .if7 .left ∙ c .before .before .before .before .before .before .before .before .before .before .before .before .before .before .before .before .subject-served .ensures) (payload-of (a .message .now)) (c .before .before .before .before .before .before .before .before .before .before .before .before .before .step-of .ensures ∙ ap (λ (u : Standing). stepOf (u .progress) (c .before .before .before .before .before .before .before .before .before .before .before .before .before .before .before .before .before .before .before .before .before .before .before .e .given .0 .0) (take (length (a .message .now) - 8) (drop 8 (a .message .now)))) (c .before .before .before .before .before .before .before .before .before .before .before .before .before .before .before .before .before .before .before .before .before .before .before .before .before .before .before .before .before .before .before .before .before .before .read-standing .ensures))) (c .before .before .before .before .react .ensures)
+returns-8 : tie.Need-returns-8
+returns-8 c = let a = c .before .before .before .before .before .before .before .before .before .before .before .before .before .before .before .before .before .before .before .before .before .before .before .before .before .before .before .before .before .before .before .before .before .before .before .before .before .before .args in rw (served-as (a .w .now) (a .defaults .now) (a .edits .now) (stateIn (valuesOf (a .words .now) (a .nulls .now) (a .edited .now) (a .versions .now)) (a .row .now) (a .kept .now)) (a .table) (a .g) (a .subject) (a .message .now) (length (a .out .now)) (right-here (c .before .before .before .before .before .before .before .before .before .before .before .before .before .before .before .before .before .before .before .before .before .before .before .before .before .before)) (not-false _ (c .before .before .before .before .before .before .before .before .before .before .before .before .before .before .before .before .before .before .before .before .before .before .before .before .before .if2 .left)) (c .before .before .before .before .before .before .before .before .before .before .before .before .before .before .before .before .before .before .before .before .before .before .before .before .if3 .left) (found-here (c .before .before .before .before .before .before .before .before .before .before .before .before .before .before .before .before .before .before .before .before .before)) (c .before .before .before .before .before .before .before .before .before .before .before .before .before .before .before .before .before .before .before .if4 .left) (sym (c .before .before .before .before .before .before .before .before .before .before .before .before .before .before .before .before .before .before .is-for-server .ensures) ∙ not-false _ (c .before .before .before .before .before .before .before .before .before .before .before .before .before .before .before .before .before .if5 .left)) (c .before .before .before .before .before .before .before .before .before .before .before .before .before .before .before .if6 .left ∙ c .before .before .before .before .before .before .before .before .before .before .before .before .before .before .before .before .subject-served .ensures) (payload-of (a .message .now)) (c .before .before .before .before .before .before .before .before .before .before .before .before .before .step-of .ensures ∙ ap (λ (u : Standing). stepOf (u .progress) (c .before .before .before .before .before .before .before .before .before .before .before .before .before .before .before .before .before .before .before .before .before .e .given .0 .0) (take (length (a .message .now) - envelopeLength) (drop envelopeLength (a .message .now)))) (c .before .before .before .before .before .before .before .before .before .before .before .before .before .before .before .before .before .before .before .before .before .before .before .before .before .before .before .before .before .before .before .before .read-standing .ensures))) (c .before .before .before .before .react .ensures)
 
 pub serve-spec : {M : Type 1} → statement M
 serve-spec =
@@ -175,22 +166,19 @@ serve-spec =
     refuse-requires-5
     same-length-5
     returns-5
+    is-for-server-requires
     refuse-requires-6
     same-length-6
     returns-6
-    is-for-server-requires
-    refuse-requires-7
-    same-length-7
-    returns-7
     subject-served-requires
     answer-requires
-    same-length-8
-    returns-8
+    same-length-7
+    returns-7
     sub-payload
     part-payload-start
     part-payload-end
     step-of-requires
     react-requires
+    same-length-8
     same-length-9
-    same-length-10
-    returns-9)
+    returns-8)
