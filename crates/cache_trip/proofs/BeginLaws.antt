@@ -110,7 +110,7 @@ module _ (c : Cached) where
 
     -- with no ground to refuse it
     pub read-taken : readRead (readIn (drop envelopeLength (readMessage edition exchange (filtersOf c)))) ≡ readAnswer (filtersOf c)
-    read-taken = ap (λ (q : List ℕ). readRead (readIn q)) read-payload ∙ read-answered (filtersOf c) (filters-fit (s .versions)) (omega (arith, filters-few, s .clusters))
+    read-taken = ap (λ (q : List ℕ). readRead (readIn q)) read-payload ∙ read-answered (filtersOf c) (filters-fit (s .versions))
 
 pub read-envelope : (edition exchange : ℕ) (fs : List Wanted) → edition < 16 → exchange < exchangeLimit → envelopeIn (readMessage edition exchange fs) ≡ envelopeAs edition readOpcode exchange 0
 unfolding readMessage

@@ -163,14 +163,11 @@ readSlots xs =
 unfoldable pub readT : Trees → Opt Read
 readT ts = wholeT readTags readSlots ts
 
--- document 01, "On the wire": 80, then C8 over 16 paths, then 89 over 32 filters; 0 if none applies
-unfoldable pub readVerdict : ℕ → ℕ → ℕ
-readVerdict paths filters = pick (ltb maxPaths paths) 0xC8 (pick (ltb maxFilters filters) 0x89 0)
-
+-- as the code has it
 abbrev pub readRead : Opt Read → ReadRequest
-readRead nothing = record { verdict = 0x80; paths = pathsOpt nothing; filters = wantsOpt nothing }
+readRead nothing = record { good = false; paths = pathsOpt nothing; filters = wantsOpt nothing }
 readRead (just r) = record {
-  verdict = readVerdict (length (r .paths)) (length (r .filters));
+  good = true;
   paths = pathsStruct (r .paths);
   filters = wantsStruct (r .filters);
 }
@@ -198,7 +195,7 @@ readBy len m ps fs =
     pick (wholePass len m)
     (pick (given (flagBy (getD (m .codes) 3 0)))
     (pick (given (numberBy 255 false (getD (m .codes) 9 0)))
-    (record { verdict = readVerdict (ps .count) (fs .count); paths = ps; filters = fs })
+    (record { good = true; paths = ps; filters = fs })
     (readRead nothing))
     (readRead nothing))
     (readRead nothing)

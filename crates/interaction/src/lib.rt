@@ -4,7 +4,7 @@ ghost use Rattle.tlv.specs.Walk.Got.{bad};
 ghost use Rattle.tlv.specs.Decode.Opt.{nothing};
 ghost use Rattle.interaction.specs.Message.{openPass, wholePass, listOn};
 ghost use Rattle.interaction.specs.Status.{responseIn, responseRead};
-ghost use Rattle.interaction.specs.Read.{targetOf, askedAt, askedOn, askedRead, wantedOn, wantedRead, pathsAt, pathsRead, pathsEnd, localF, wantedOf, wantedAt, wantsAt, wantsRead, wantsEnd, readVerdict, readIn, readRead, passPaths, passWants, readBy};
+ghost use Rattle.interaction.specs.Read.{targetOf, askedAt, askedOn, askedRead, wantedOn, wantedRead, pathsAt, pathsRead, pathsEnd, localF, wantedOf, wantedAt, wantsAt, wantsRead, wantsEnd, readIn, readRead, passPaths, passWants, readBy};
 use blocks::Filter;
 use blocks::FilterRead;
 use blocks::Path;
@@ -342,9 +342,9 @@ fn wants_of(s: &[u8], e: Element, left: usize) -> WantList
     wants_from(s, c, left - 1)
 }
 
-// A read request: 0, or the status that refuses it whole; its paths and filters.
+// A read request: whether it is well-formed, its paths and filters.
 pub struct ReadRequest {
-    pub verdict: u64,
+    pub good: bool,
     pub paths: Paths,
     pub filters: Wants,
 }
@@ -366,23 +366,10 @@ fn refused_read() -> ReadRequest
     ensures { λ r. ⌜ r ≡ readRead nothing ⌝ }
 {
     ReadRequest {
-        verdict: 0x80,
+        good: false,
         paths: no_paths(),
         filters: no_wants(),
     }
-}
-
-// C8 over 16 paths, then 89 over 32 filters.
-fn read_verdict(paths: usize, filters: usize) -> u64
-    ensures { λ r. ⌜ r ≡ readVerdict paths filters ⌝ }
-{
-    if MAX_PATHS < paths {
-        return 0xC8;
-    }
-    if MAX_FILTERS < filters {
-        return 0x89;
-    }
-    0
 }
 
 const EITHER_LIST: [bool; 10] = [
@@ -523,7 +510,7 @@ fn read_of(len: usize, m: Pass, paths: Paths, filters: Wants) -> ReadRequest
         return refused_read();
     }
     ReadRequest {
-        verdict: read_verdict(paths.count, filters.count),
+        good: true,
         paths,
         filters,
     }

@@ -25,7 +25,7 @@ use Rattle.blocks.specs.Data.{DataOf, tripleTags, versioned, anyIn, dataFrom, d
 use Rattle.interaction.specs.Message.{snoc, listAt, firstOf, messageAt, given}
 use Rattle.interaction.proofs.KeepLaws.{first-none}
 use Rattle.interaction_write.specs.declared.Entry.{Entry}
-use Rattle.interaction_write.specs.Write.{maxWrites, EntryOf, entryFor, entryIf, entryAt, entryStruct, noEntry, WriteOf, writeTags, unchunked, isEmpty, writeFrom, writeIn, writeVerdict, writeRead}
+use Rattle.interaction_write.specs.Write.{maxWrites, EntryOf, entryFor, entryIf, entryAt, entryStruct, noEntry, WriteOf, writeTags, unchunked, isEmpty, writeFrom, writeIn, writeRead}
 
 -- ---- what holds of whatever is read
 
@@ -267,17 +267,3 @@ module _ (s : List ℕ) where
       go : (o : Opt (WriteOf ℕ)) → OfOpt (Wide s) o → WideKept (getD (writeRead o .entries .kept) i noEntry)
       go nothing h = subst (λ (l : List Entry). WideKept (getD l i noEntry)) (first-none maxWrites noEntry) (each-first WideKept [] noEntry tt none-wide maxWrites i)
       go (just x) h = each-first WideKept (map entryStruct (x .entries)) noEntry (each-kept (x .entries) h) none-wide maxWrites i
-
-  -- a write that is not refused has at most 16
-  pub kept-few : writeRead (writeIn s) .verdict ≡ 0 → writeRead (writeIn s) .entries .count ≤ maxWrites
-  unfolding writeVerdict
-  kept-few = go (writeIn s)
-    where
-      few : (b c : Bool) (n : ℕ) → ltb maxWrites n ≡ c → _≡_ {A = ℕ} (pick b 0xC9 (pick c 0x89 0)) 0 → n ≤ maxWrites
-      few true c n e h = absurd (omega arith)
-      few false true n e h = absurd (omega arith)
-      few false false n e h = ltb-false maxWrites n e
-
-      go : (o : Opt (WriteOf ℕ)) → writeRead o .verdict ≡ 0 → writeRead o .entries .count ≤ maxWrites
-      go nothing h = omega arith
-      go (just x) h = few (eqb (x .timed) 1) (ltb maxWrites (length (x .entries))) (length (x .entries)) refl h

@@ -140,13 +140,10 @@ writeSlots xs =
 unfoldable pub writeT : Trees → Opt (WriteOf Tree)
 writeT ts = wholeT writeTags writeSlots ts
 
--- document 01, "On the wire": 80, then C9 TimedRequest true, then 89 over 16 writes; 0 if none applies
-unfoldable pub writeVerdict : ℕ → ℕ → ℕ
-writeVerdict timed entries = pick (eqb timed 1) 0xC9 (pick (ltb maxWrites entries) 0x89 0)
-
+-- as the code has it
 abbrev pub writeRead : Opt (WriteOf ℕ) → WriteRequest
-writeRead nothing = record { verdict = 0x80; suppress = 0; entries = entriesOpt nothing }
-writeRead (just w) = record { verdict = writeVerdict (w .timed) (length (w .entries)); suppress = w .suppress; entries = entriesStruct (w .entries) }
+writeRead nothing = record { good = false; suppress = 0; timed = 0; entries = entriesOpt nothing }
+writeRead (just w) = record { good = true; suppress = w .suppress; timed = w .timed; entries = entriesStruct (w .entries) }
 
 -- by a pass over the request's members that has ended, with its entries
 abbrev pub writeMade : ℕ → ℕ → ℕ → ℕ → Entries → WriteRequest
@@ -155,7 +152,7 @@ writeMade suppress timed more revision es =
     (pick (given timed)
     (pick (unchunked more)
     (pick (given revision)
-    (pick (eqb (es .count) 0) (writeRead nothing) (record { verdict = writeVerdict timed (es .count); suppress = suppress; entries = es }))
+    (pick (eqb (es .count) 0) (writeRead nothing) (record { good = true; suppress = suppress; timed = timed; entries = es }))
     (writeRead nothing))
     (writeRead nothing))
     (writeRead nothing))

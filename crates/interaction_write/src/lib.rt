@@ -3,7 +3,7 @@ ghost use mathlib.Core.Path.{_≡_};
 ghost use Rattle.tlv.specs.Walk.Got.{bad};
 ghost use Rattle.tlv.specs.Decode.Opt.{nothing};
 ghost use Rattle.interaction.specs.Message.{listOn};
-ghost use Rattle.interaction_write.specs.Write.{entryOf, entryAt, entryOn, entryRead, entriesAt, entriesRead, entriesEnd, unchunked, writeVerdict, writeIn, writeRead, writeBy};
+ghost use Rattle.interaction_write.specs.Write.{entryOf, entryAt, entryOn, entryRead, entriesAt, entriesRead, entriesEnd, unchunked, writeIn, writeRead, writeBy};
 use blocks::Data;
 use blocks::DataRead;
 use members::ABSENT;
@@ -156,10 +156,11 @@ fn is_unchunked(more: u64) -> bool
     more == ABSENT
 }
 
-// A write request: 0, or the status that refuses it whole; whether its answer is suppressed, and its entries.
+// A write request: whether it is well-formed, whether its answer is suppressed, whether a timed one is meant, and its entries.
 pub struct WriteRequest {
-    pub verdict: u64,
+    pub good: bool,
     pub suppress: u64,
+    pub timed: u64,
     pub entries: Entries,
 }
 
@@ -180,23 +181,11 @@ fn refused_write() -> WriteRequest
     ensures { λ r. ⌜ r ≡ writeRead nothing ⌝ }
 {
     WriteRequest {
-        verdict: 0x80,
+        good: false,
         suppress: 0,
+        timed: 0,
         entries: no_entries(),
     }
-}
-
-// C9 where a timed write is meant, then 89 over 16 entries.
-fn write_verdict(timed: u64, entries: usize) -> u64
-    ensures { λ r. ⌜ r ≡ writeVerdict timed entries ⌝ }
-{
-    if timed == 1 {
-        return 0xC9;
-    }
-    if MAX_WRITES < entries {
-        return 0x89;
-    }
-    0
 }
 
 // The request whose members were passed, with its entries.
@@ -227,8 +216,9 @@ fn write_of(len: usize, m: Pass, entries: Entries) -> WriteRequest
         return refused_write();
     }
     WriteRequest {
-        verdict: write_verdict(timed, entries.count),
+        good: true,
         suppress,
+        timed,
         entries,
     }
 }

@@ -13,7 +13,7 @@ use Rattle.interaction.specs.Read.{maxPaths, maxFilters, nowhere, Read, readIn,
 use Rattle.interaction.proofs.KeepLaws.{length-first, first-none}
 use Rattle.interaction_write.specs.declared.WriteRequest.{WriteRequest}
 use Rattle.interaction_write.specs.Write.{maxWrites, noEntry, entryStruct, WriteOf, writeIn, writeRead}
-use Rattle.interaction_write.proofs.WidthLaws.{kept-wide, kept-few}
+use Rattle.interaction_write.proofs.WidthLaws.{kept-wide}
 use Rattle.acl.specs.declared.Grants.{Grants}
 use Rattle.values.specs.declared.Values.{Values}
 use Rattle.selection.specs.Request.{pathSize, filtersAt, pathsWords}
@@ -28,9 +28,10 @@ use Rattle.replies.specs.declared.Row.{Row}
 use Rattle.replies.specs.declared.Standing.{Standing}
 use Rattle.replies.specs.Messages.{maxMessage, responseMessage}
 use Rattle.replies.specs.Row.{keptReply, rowIn, reported, blocksOf}
+use Rattle.replies.specs.Refusal.{readRefusal, writeAsks, writeRefusal}
 use Rattle.replies.specs.Begin.{once, beginningPlace, requestOf, readBy, readBegun, Left, entriesOf, responseTo, writeBy, writeBegun, Wrote, refusalOf}
 use Rattle.replies.proofs.MessageLaws.{answer-length}
-use Rattle.replies.proofs.RequestLaws.{read-octet, read-few, write-octet}
+use Rattle.replies.proofs.RequestLaws.{refusal-none}
 use Rattle.replies.proofs.LentLaws.{begins-same}
 
 -- ---- a read
@@ -40,12 +41,6 @@ paths-whole nothing = ap length (sym (first-none maxPaths nowhere)) ∙ length-f
 paths-whole (just x) = length-first maxPaths nowhere (x .paths)
 
 module _ (s : List ℕ) {r : ReadRequest} (e : r ≡ readRead (readIn s)) where
-  pub read-fits : r .verdict < 2 ^ 8
-  read-fits = rw e (read-octet (readIn s))
-
-  pub request-few : r .verdict ≡ 0 → (r .paths .count ≤ maxPaths) × (r .filters .count ≤ maxFilters)
-  request-few z = rw e (read-few (readIn s) (sym (ap (λ (y : ReadRequest). y .verdict) e) ∙ z))
-
   -- the words of its paths are as many as there is room for
   pub request-length : length (pathsWords (r .paths .kept)) ≡ filtersAt
   request-length = rw e (paths-length (readRead (readIn s) .paths .kept) ∙ ap (λ (n : ℕ). n * pathSize) (paths-whole (readIn s)))
@@ -55,11 +50,11 @@ module _ (s : List ℕ) {r : ReadRequest} (e : r ≡ readRead (readIn s)) where
     unfolding readBegun
     by-read = ap (readBy w v defaults edits g x exchange) (sym e)
 
-    pub read-refused : (r .verdict ≡ 0 → ⊥) → readBegun w v defaults edits g x exchange s ≡ once x exchange (refusalOf exchange (r .verdict))
-    read-refused n = by-read ∙ rw (ne-eqb (r .verdict) 0 n)
+    pub read-refused : (readRefusal r ≡ 0 → ⊥) → readBegun w v defaults edits g x exchange s ≡ once x exchange (refusalOf exchange (readRefusal r))
+    read-refused n = by-read ∙ rw (ne-eqb (readRefusal r) 0 n)
 
-    pub read-answered : r .verdict ≡ 0 → readBegun w v defaults edits g x exchange s ≡ reported x exchange firstReply (requestOf w r) beginningPlace (blocksOf w v defaults edits g (requestOf w r) beginningPlace)
-    read-answered z = by-read ∙ rw (eq-eqb (r .verdict) 0 z)
+    pub read-answered : readRefusal r ≡ 0 → readBegun w v defaults edits g x exchange s ≡ reported x exchange firstReply (requestOf w r) beginningPlace (blocksOf w v defaults edits g (requestOf w r) beginningPlace)
+    read-answered z = by-read ∙ rw (eq-eqb (readRefusal r) 0 z)
 
 -- ---- a write
 
@@ -72,12 +67,6 @@ wrote-as : {l : Left} {k : Held} {t : Standing} {row kept old new : List ℕ} �
 wrote-as p q = record { held = ap (λ (m : Left). m .held) p; begins = begins-same (ap (λ (m : Left). m .row) p) q }
 
 module _ (s : List ℕ) {r : WriteRequest} (e : r ≡ writeRead (writeIn s)) where
-  pub write-fits : r .verdict < 2 ^ 8
-  write-fits = rw e (write-octet (writeIn s))
-
-  pub writes-few : r .verdict ≡ 0 → r .entries .count ≤ maxWrites
-  writes-few z = rw e (kept-few s (sym (ap (λ (y : WriteRequest). y .verdict) e) ∙ z))
-
   pub writes-wide : (i : ℕ) → InWidth (getD (r .entries .kept) i noEntry)
   writes-wide i = rw e (let h = kept-wide s i in record { endpoint = h .endpoint; cluster = h .cluster; attribute = h .attribute })
 
@@ -90,16 +79,16 @@ module _ (s : List ℕ) {r : WriteRequest} (e : r ≡ writeRead (writeIn s)) whe
     by-write = ap (writeBy w g defaults h x exchange s) (sym e)
 
     -- refused whole
-    pub wrote-refused : (r .verdict ≡ 0 → ⊥) → {t : Standing} {row kept old new : List ℕ} → (rowIn row t kept ≡ once x exchange (refusalOf exchange (r .verdict))) × ((new ≡ store old 0 (keptReply (rowIn row t kept))) × (length (keptReply (rowIn row t kept)) ≡ t .len)) → Wrote (writeBegun w g defaults h x exchange s) t h row row kept old new
+    pub wrote-refused : (writeRefusal r ≡ 0 → ⊥) → {t : Standing} {row kept old new : List ℕ} → (rowIn row t kept ≡ once x exchange (refusalOf exchange (writeRefusal r))) × ((new ≡ store old 0 (keptReply (rowIn row t kept))) × (length (keptReply (rowIn row t kept)) ≡ t .len)) → Wrote (writeBegun w g defaults h x exchange s) t h row row kept old new
     wrote-refused n (p, q) =
-        let l : writeBegun w g defaults h x exchange s ≡ record { held = h; row = once x exchange (refusalOf exchange (r .verdict)) } = by-write ∙ rw (ne-eqb (r .verdict) 0 n) in
+        let l : writeBegun w g defaults h x exchange s ≡ record { held = h; row = once x exchange (refusalOf exchange (writeRefusal r)) } = by-write ∙ rw (ne-eqb (writeRefusal r) 0 n) in
         wrote-as ((λ j. record { held = h; row = p j }) ∙ sym l) q
 
-    module _ (z : r .verdict ≡ 0) where
+    module _ (z : writeRefusal r ≡ 0) where
       -- stored
       pub wrote-done : {k : Held} → k ≡ heldAfter w g defaults s h (entriesOf r) → {reply : List ℕ} → responseTo w g defaults s h exchange r ≡ reply → {t : Standing} {row kept old new : List ℕ} → (rowIn row t kept ≡ once x exchange reply) × ((new ≡ store old 0 (keptReply (rowIn row t kept))) × (length (keptReply (rowIn row t kept)) ≡ t .len)) → Wrote (writeBegun w g defaults h x exchange s) t k row row kept old new
       wrote-done a c (p, q) =
-          let l : writeBegun w g defaults h x exchange s ≡ record { held = heldAfter w g defaults s h (entriesOf r); row = once x exchange (responseTo w g defaults s h exchange r) } = by-write ∙ rw (eq-eqb (r .verdict) 0 z) in
+          let l : writeBegun w g defaults h x exchange s ≡ record { held = heldAfter w g defaults s h (entriesOf r); row = once x exchange (responseTo w g defaults s h exchange r) } = by-write ∙ rw (eq-eqb (writeRefusal r) 0 z) in
           wrote-as ((λ j. record { held = a j; row = (p ∙ ap (once x exchange) (sym c)) j }) ∙ sym l) q
 
       -- its statuses
@@ -107,12 +96,12 @@ module _ (s : List ℕ) {r : WriteRequest} (e : r ≡ writeRead (writeIn s)) whe
       response-sent {codes} {old} {new} {end} c u =
           let n = r .entries .count in
           let q : take n codes ≡ codesOf w g defaults s h (entriesOf r) =
-          ap (take n) c ∙ codes-kept w g defaults s h (r .entries .kept) n (omega (arith, writes-few z, writes-whole)) (writes-few z) in
+          ap (take n) c ∙ codes-kept w g defaults s h (r .entries .kept) n (omega (arith, refusal-none (writeAsks r) z .writes, writes-whole)) (refusal-none (writeAsks r) z .writes) in
           subst (λ (l : List ℕ). Stored old 0 (responseMessage panelEdition exchange firstReply (entriesOf r) l) new end) q u
 
       pub response-short : length (responseMessage panelEdition exchange firstReply (entriesOf r) (codesOf w g defaults s h (entriesOf r))) ≤ maxMessage
       response-short =
-          answer-length panelEdition exchange firstReply (entriesOf r) (codesOf w g defaults s h (entriesOf r)) (omega (arith, writes-few z, length-take (r .entries .count) (r .entries .kept)))
+          answer-length panelEdition exchange firstReply (entriesOf r) (codesOf w g defaults s h (entriesOf r)) (omega (arith, refusal-none (writeAsks r) z .writes, length-take (r .entries .count) (r .entries .kept)))
           (of-taken InWidth (r .entries .kept) (r .entries .count) noEntry (λ i l. writes-wide i)) (codes-octets w g defaults s h (entriesOf r))
 
     pub silent : r .suppress ≡ 1 → responseTo w g defaults s h exchange r ≡ []

@@ -27,11 +27,13 @@ use Rattle.interaction_writer.specs.Envelope.{panelEdition, exchangeLimit}
 use Rattle.replies.specs.declared.Row.{Row}
 use Rattle.replies.specs.Messages.{envelopeLength, maxMessage, reportMessage, responseMessage}
 use Rattle.replies.specs.Row.{keptAt, keeping, keptReply, pathsOf, blocksOf, nextOf, reported, nextPart, rowRight}
+use Rattle.replies.specs.Refusal.{readAsks, readRefusal, writeAsks, writeRefusal}
 use Rattle.replies.specs.Begin.{once, beginningPlace, requestOf, readBegun, Left, entriesOf, responseTo, writeBegun, refusalOf}
 use Rattle.replies.proofs.MessageLaws.{status-length, report-length, status-some, report-some, response-some}
 use Rattle.replies.proofs.RowLaws.{RightRow, row-right, right-row, kept-back}
 use Rattle.replies.proofs.PlaceLaws.{Reached, part-reached}
-use Rattle.replies.proofs.BeginLaws.{read-fits, request-few, write-fits, response-short}
+use Rattle.replies.proofs.RequestLaws.{refusal-octet, refusal-none}
+use Rattle.replies.proofs.BeginLaws.{response-short}
 
 -- ---- a right row stays right
 
@@ -70,7 +72,7 @@ next-right w v defaults edits g x h t =
     (reported-right x (x .progress .last) (r .exchange) w v defaults edits g (x .progress .turn + 1) (omega arith) (x .request) (x .place) (r .asked) (record { phase = r .phase; path = r .path; index = r .index; sent = r .sent }))
 
 -- the reply to a write that is not refused
-answered-short : (w : List ℕ) (g : Grants) (defaults : List ℕ) (h : Held) (x : Row) (exchange : ℕ) (s : List ℕ) → writeRead (writeIn s) .verdict ≡ 0 → length (responseTo w g defaults s h exchange (writeRead (writeIn s))) ≤ maxMessage
+answered-short : (w : List ℕ) (g : Grants) (defaults : List ℕ) (h : Held) (x : Row) (exchange : ℕ) (s : List ℕ) → writeRefusal (writeRead (writeIn s)) ≡ 0 → length (responseTo w g defaults s h exchange (writeRead (writeIn s))) ≤ maxMessage
 answered-short w g defaults h x exchange s z =
     let q = writeRead (writeIn s) in
     pick-elim (λ (l : List ℕ). length l ≤ maxMessage) (eqb (q .suppress) 1) [] (responseMessage panelEdition exchange firstReply (entriesOf q) (codesOf w g defaults s h (entriesOf q)))
@@ -86,9 +88,9 @@ module _ (x : Row) (exchange : ℕ) (below : exchange < exchangeLimit) (right : 
   read-right w v defaults edits g s =
       let q = readRead (readIn s) in
       right-row (readBegun w v defaults edits g x exchange s)
-      (pick-elim RightRow (eqb (q .verdict) 0) _ _
-      (λ t. let f = request-few s refl (eqb-true (q .verdict) 0 t) in reported-right x exchange below w v defaults edits g firstReply (omega arith) (requestOf w q) beginningPlace (f .0) (record { phase = refl; path = omega arith; index = omega arith; sent = refl }))
-      (λ t. once-right x exchange below (row-right x right) (refusalOf exchange (q .verdict)) (refused-short exchange (q .verdict) (read-fits s refl))))
+      (pick-elim RightRow (eqb (readRefusal q) 0) _ _
+      (λ t. let f = refusal-none (readAsks q) (eqb-true (readRefusal q) 0 t) in reported-right x exchange below w v defaults edits g firstReply (omega arith) (requestOf w q) beginningPlace (f .paths) (record { phase = refl; path = omega arith; index = omega arith; sent = refl }))
+      (λ t. once-right x exchange below (row-right x right) (refusalOf exchange (readRefusal q)) (refused-short exchange (readRefusal q) (refusal-octet (readAsks q)))))
 
   -- A WRITE that begins
   pub write-right : (w : List ℕ) (g : Grants) (defaults : List ℕ) (h : Held) (s : List ℕ) → rowRight (writeBegun w g defaults h x exchange s .row) ≡ true
@@ -96,9 +98,9 @@ module _ (x : Row) (exchange : ℕ) (below : exchange < exchangeLimit) (right : 
   write-right w g defaults h s =
       let q = writeRead (writeIn s) in
       right-row (writeBegun w g defaults h x exchange s .row)
-      (pick-elim (λ (l : Left). RightRow (l .row)) (eqb (q .verdict) 0) _ _
-      (λ t. once-right x exchange below (row-right x right) (responseTo w g defaults s h exchange q) (answered-short w g defaults h x exchange s (eqb-true (q .verdict) 0 t)))
-      (λ t. once-right x exchange below (row-right x right) (refusalOf exchange (q .verdict)) (refused-short exchange (q .verdict) (write-fits s refl))))
+      (pick-elim (λ (l : Left). RightRow (l .row)) (eqb (writeRefusal q) 0) _ _
+      (λ t. once-right x exchange below (row-right x right) (responseTo w g defaults s h exchange q) (answered-short w g defaults h x exchange s (eqb-true (writeRefusal q) 0 t)))
+      (λ t. once-right x exchange below (row-right x right) (refusalOf exchange (writeRefusal q)) (refused-short exchange (writeRefusal q) (refusal-octet (writeAsks q)))))
 
 -- ---- THE KEPT REPLY of a right row is a message
 pub reply-bound : (x : Row) → rowRight x ≡ true → length (keptReply x) ≤ maxMessage
@@ -124,23 +126,23 @@ module _ (x : Row) (whole : length (x .kept) ≡ maxMessage) where
   module _ (exchange : ℕ) (s : List ℕ) where
     pub read-reply : (w : List ℕ) (v : Values) (defaults edits : List ℕ) (g : Grants) →
         let q = readRead (readIn s) in
-        keptReply (readBegun w v defaults edits g x exchange s) ≡ pick (eqb (q .verdict) 0) (reportMessage panelEdition exchange firstReply (blocksOf w v defaults edits g (requestOf w q) beginningPlace)) (refusalOf exchange (q .verdict))
+        keptReply (readBegun w v defaults edits g x exchange s) ≡ pick (eqb (readRefusal q) 0) (reportMessage panelEdition exchange firstReply (blocksOf w v defaults edits g (requestOf w q) beginningPlace)) (refusalOf exchange (readRefusal q))
     unfolding readBegun
     read-reply w v defaults edits g =
         let q = readRead (readIn s) in
-        of-pick (λ (y : Row). keptReply y) (eqb (q .verdict) 0) _ _
+        of-pick (λ (y : Row). keptReply y) (eqb (readRefusal q) 0) _ _
         (λ t. kept-back x whole _ _ _ _ (report-length panelEdition exchange firstReply (blocksOf w v defaults edits g (requestOf w q) beginningPlace)))
-        (λ t. kept-back x whole _ _ _ _ (refused-short exchange (q .verdict) (read-fits s refl)))
+        (λ t. kept-back x whole _ _ _ _ (refused-short exchange (readRefusal q) (refusal-octet (readAsks q))))
 
     pub write-reply : (w : List ℕ) (g : Grants) (defaults : List ℕ) (h : Held) →
         let q = writeRead (writeIn s) in
-        keptReply (writeBegun w g defaults h x exchange s .row) ≡ pick (eqb (q .verdict) 0) (responseTo w g defaults s h exchange q) (refusalOf exchange (q .verdict))
+        keptReply (writeBegun w g defaults h x exchange s .row) ≡ pick (eqb (writeRefusal q) 0) (responseTo w g defaults s h exchange q) (refusalOf exchange (writeRefusal q))
     unfolding writeBegun
     write-reply w g defaults h =
         let q = writeRead (writeIn s) in
-        of-pick (λ (l : Left). keptReply (l .row)) (eqb (q .verdict) 0) _ _
-        (λ t. kept-back x whole _ _ _ _ (answered-short w g defaults h x exchange s (eqb-true (q .verdict) 0 t)))
-        (λ t. kept-back x whole _ _ _ _ (refused-short exchange (q .verdict) (write-fits s refl)))
+        of-pick (λ (l : Left). keptReply (l .row)) (eqb (writeRefusal q) 0) _ _
+        (λ t. kept-back x whole _ _ _ _ (answered-short w g defaults h x exchange s (eqb-true (writeRefusal q) 0 t)))
+        (λ t. kept-back x whole _ _ _ _ (refused-short exchange (writeRefusal q) (refusal-octet (writeAsks q))))
 
 -- ---- NO REPLY BUT SILENCE is empty
 
@@ -153,21 +155,21 @@ module _ (x : Row) (exchange : ℕ) (s : List ℕ) where
   unfolding readBegun keeping
   read-some w v defaults edits g =
       let q = readRead (readIn s) in
-      pick-elim (λ (y : Row). envelopeLength ≤ y .len) (eqb (q .verdict) 0) _ _
-      (λ t. report-some panelEdition exchange firstReply (blocksOf w v defaults edits g (requestOf w q) beginningPlace)) (λ t. status-some panelEdition exchange firstReply (q .verdict))
+      pick-elim (λ (y : Row). envelopeLength ≤ y .len) (eqb (readRefusal q) 0) _ _
+      (λ t. report-some panelEdition exchange firstReply (blocksOf w v defaults edits g (requestOf w q) beginningPlace)) (λ t. status-some panelEdition exchange firstReply (readRefusal q))
 
   module _ (w : List ℕ) (g : Grants) (defaults : List ℕ) (h : Held) where
     -- a write that is not refused and asked for silence gets it
-    pub write-none : writeRead (writeIn s) .verdict ≡ 0 → writeRead (writeIn s) .suppress ≡ 1 → writeBegun w g defaults h x exchange s .row .len ≡ 0
+    pub write-none : writeRefusal (writeRead (writeIn s)) ≡ 0 → writeRead (writeIn s) .suppress ≡ 1 → writeBegun w g defaults h x exchange s .row .len ≡ 0
     unfolding writeBegun keeping
-    write-none z q = rw (eq-eqb (writeRead (writeIn s) .verdict) 0 z, eq-eqb (writeRead (writeIn s) .suppress) 1 q) refl
+    write-none z q = rw (eq-eqb (writeRefusal (writeRead (writeIn s))) 0 z, eq-eqb (writeRead (writeIn s) .suppress) 1 q) refl
 
     -- every other is answered
-    pub write-some : (writeRead (writeIn s) .verdict ≡ 0 → writeRead (writeIn s) .suppress ≡ 1 → ⊥) → envelopeLength ≤ writeBegun w g defaults h x exchange s .row .len
+    pub write-some : (writeRefusal (writeRead (writeIn s)) ≡ 0 → writeRead (writeIn s) .suppress ≡ 1 → ⊥) → envelopeLength ≤ writeBegun w g defaults h x exchange s .row .len
     unfolding writeBegun keeping
     write-some n =
         let q = writeRead (writeIn s) in
-        pick-elim (λ (l : Left). envelopeLength ≤ l .row .len) (eqb (q .verdict) 0) _ _
+        pick-elim (λ (l : Left). envelopeLength ≤ l .row .len) (eqb (writeRefusal q) 0) _ _
         (λ t. pick-elim (λ (l : List ℕ). envelopeLength ≤ length l) (eqb (q .suppress) 1) [] (responseMessage panelEdition exchange firstReply (entriesOf q) (codesOf w g defaults s h (entriesOf q)))
-        (λ u. absurd (n (eqb-true (q .verdict) 0 t) (eqb-true (q .suppress) 1 u))) (λ u. response-some panelEdition exchange firstReply (entriesOf q) (codesOf w g defaults s h (entriesOf q))))
-        (λ t. status-some panelEdition exchange firstReply (q .verdict))
+        (λ u. absurd (n (eqb-true (writeRefusal q) 0 t) (eqb-true (q .suppress) 1 u))) (λ u. response-some panelEdition exchange firstReply (entriesOf q) (codesOf w g defaults s h (entriesOf q))))
+        (λ t. status-some panelEdition exchange firstReply (writeRefusal q))

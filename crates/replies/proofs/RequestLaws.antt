@@ -1,48 +1,45 @@
--- A request as it was read: its counts within the arrays, and its verdict an octet.
+-- A refusal of a whole request: an octet; and what is not refused has its counts within the arrays.
 use mathlib.Core.Path.{_≡_, refl}
-use mathlib.Core.Bool.{Bool, true, false}
+use mathlib.Core.Bool.{Bool, true, false, _||_}
 use Prim.Native.Nat.{ℕ, _^_, _≤_, _<_}
 use native.Mathlib.Omega.{arith}
 use borrow.Author.Tests.{ltb-false}
 use lib.Dec.{eqb, ltb}
-use lib.ListN.{length}
 use Rattle.tlv.specs.Octet.{pick}
-use Rattle.tlv.specs.Decode.{Opt}
-use Rattle.tlv.specs.Decode.Opt.{just, nothing}
-use Rattle.interaction.specs.Read.{maxPaths, maxFilters, Read, readVerdict, readRead}
-use Rattle.interaction_write.specs.Write.{maxWrites, WriteOf, writeVerdict, writeRead}
+use Rattle.interaction.specs.Read.{maxPaths, maxFilters}
+use Rattle.interaction_write.specs.Write.{maxWrites}
+use Rattle.replies.specs.declared.refusal.Asks.{Asks}
+use Rattle.replies.specs.Refusal.{refusalCode}
 
--- ---- the verdict on a read
+abbrev code : Bool → Bool → Bool → Bool → Bool → ℕ
+code good timed paths filters writes = pick good (pick timed 0xC9 (pick paths 0xC8 (pick (filters || writes) 0x89 0))) 0x80
 
-read-pick : (a b : Bool) → pick a 0xC8 (pick b 0x89 0) < 2 ^ 8
-read-pick true b = omega arith
-read-pick false true = omega arith
-read-pick false false = omega arith
+octet : (g t p f w : Bool) → code g t p f w < 2 ^ 8
+octet false t p f w = omega arith
+octet true true p f w = omega arith
+octet true false true f w = omega arith
+octet true false false true w = omega arith
+octet true false false false true = omega arith
+octet true false false false false = omega arith
 
-pub read-octet : (o : Opt Read) → readRead o .verdict < 2 ^ 8
-unfolding readVerdict
-read-octet nothing = omega arith
-read-octet (just r) = read-pick (ltb maxPaths (length (r .paths))) (ltb maxFilters (length (r .filters)))
+pub refusal-octet : (a : Asks) → refusalCode a < 2 ^ 8
+unfolding refusalCode
+refusal-octet a = octet (a .good) (eqb (a .timed) 1) (ltb maxPaths (a .paths)) (ltb maxFilters (a .filters)) (ltb maxWrites (a .writes))
 
--- a read that is not refused has at most 16 paths and 32 filters
-pub read-few : (o : Opt Read) → readRead o .verdict ≡ 0 → (readRead o .paths .count ≤ maxPaths) × (readRead o .filters .count ≤ maxFilters)
-unfolding readVerdict
-read-few nothing h = (omega arith, omega arith)
-read-few (just r) h = go (ltb maxPaths (length (r .paths))) (ltb maxFilters (length (r .filters))) refl refl h
+-- what is not refused is within the limits
+pub record Few (a : Asks) : Type 0 where
+  pub paths : a .paths ≤ maxPaths
+  pub filters : a .filters ≤ maxFilters
+  pub writes : a .writes ≤ maxWrites
+
+pub refusal-none : (a : Asks) → refusalCode a ≡ 0 → Few a
+unfolding refusalCode
+refusal-none a h = go (a .good) (eqb (a .timed) 1) (ltb maxPaths (a .paths)) (ltb maxFilters (a .filters)) (ltb maxWrites (a .writes)) refl refl refl h
   where
-    go : (a b : Bool) → ltb maxPaths (length (r .paths)) ≡ a → ltb maxFilters (length (r .filters)) ≡ b → _≡_ {A = ℕ} (pick a 0xC8 (pick b 0x89 0)) 0 → (length (r .paths) ≤ maxPaths) × (length (r .filters) ≤ maxFilters)
-    go true b e f q = absurd (omega arith)
-    go false true e f q = absurd (omega arith)
-    go false false e f q = (ltb-false _ _ e, ltb-false _ _ f)
-
--- ---- and on a write
-
-write-pick : (a b : Bool) → pick a 0xC9 (pick b 0x89 0) < 2 ^ 8
-write-pick true b = omega arith
-write-pick false true = omega arith
-write-pick false false = omega arith
-
-pub write-octet : (o : Opt (WriteOf ℕ)) → writeRead o .verdict < 2 ^ 8
-unfolding writeVerdict
-write-octet nothing = omega arith
-write-octet (just r) = write-pick (eqb (r .timed) 1) (ltb maxWrites (length (r .entries)))
+    go : (g t p f w : Bool) → ltb maxPaths (a .paths) ≡ p → ltb maxFilters (a .filters) ≡ f → ltb maxWrites (a .writes) ≡ w → code g t p f w ≡ 0 → Few a
+    go false t p f w x y z e = absurd (omega (arith, e))
+    go true true p f w x y z e = absurd (omega (arith, e))
+    go true false true f w x y z e = absurd (omega (arith, e))
+    go true false false true w x y z e = absurd (omega (arith, e))
+    go true false false false true x y z e = absurd (omega (arith, e))
+    go true false false false false x y z e = record { paths = ltb-false _ _ x; filters = ltb-false _ _ y; writes = ltb-false _ _ z }

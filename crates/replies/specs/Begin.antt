@@ -25,6 +25,7 @@ use Rattle.writes.specs.Offer.{Held}
 use Rattle.writes.specs.Entry.{heldAfter, codesOf}
 use Rattle.replies.specs.declared.Row.{Row}
 use Rattle.replies.specs.declared.Standing.{Standing}
+use Rattle.replies.specs.Refusal.{readRefusal, writeRefusal}
 use Rattle.replies.specs.Messages.{statusMessage, responseMessage}
 use Rattle.replies.specs.Row.{keeping, keptReply, reported, blocksOf, standingOf, putRequest}
 
@@ -55,9 +56,9 @@ requestOf w r =
 -- a read: a status if it is refused whole, else reply 1
 abbrev pub readBy : List ℕ → Values → List ℕ → List ℕ → Grants → Row → ℕ → ReadRequest → Row
 readBy w v defaults edits g x exchange r =
-    pick (eqb (r .verdict) 0)
+    pick (eqb (readRefusal r) 0)
     (reported x exchange firstReply (requestOf w r) beginningPlace (blocksOf w v defaults edits g (requestOf w r) beginningPlace))
-    (once x exchange (refusalOf exchange (r .verdict)))
+    (once x exchange (refusalOf exchange (readRefusal r)))
 
 unfoldable pub readBegun : List ℕ → Values → List ℕ → List ℕ → Grants → Row → ℕ → List ℕ → Row
 readBegun w v defaults edits g x exchange payload = readBy w v defaults edits g x exchange (readRead (readIn payload))
@@ -77,9 +78,9 @@ responseTo w g defaults payload h exchange r =
 
 abbrev pub writeBy : List ℕ → Grants → List ℕ → Held → Row → ℕ → List ℕ → WriteRequest → Left
 writeBy w g defaults h x exchange payload r =
-    pick (eqb (r .verdict) 0)
+    pick (eqb (writeRefusal r) 0)
     (record { held = heldAfter w g defaults payload h (entriesOf r); row = once x exchange (responseTo w g defaults payload h exchange r) })
-    (record { held = h; row = once x exchange (refusalOf exchange (r .verdict)) })
+    (record { held = h; row = once x exchange (refusalOf exchange (writeRefusal r)) })
 
 -- a write: nothing stored if it is refused whole
 unfoldable pub writeBegun : List ℕ → Grants → List ℕ → Held → Row → ℕ → List ℕ → Left

@@ -1,4 +1,5 @@
 pub mod Messages
 pub mod Sent
 pub mod Row
+pub mod Refusal
 pub mod Begin

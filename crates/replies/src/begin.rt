@@ -20,6 +20,8 @@ use super::kept::next_of;
 use super::message::put_part;
 use super::message::put_status;
 use super::message::put_statuses;
+use super::refusal::Asks;
+use super::refusal::refusal_code;
 use acl::Grants;
 use exchange::FIRST_REPLY;
 use exchange::NOTHING;
@@ -94,11 +96,18 @@ pub fn begin_read<'a>(
     ensures { λ r. ⌜ Begins (readBegun (now (w .entry)) (valuesOf (now (words .entry)) (now (nulls .entry)) (now (edited .entry)) (now (versions .entry))) (now (defaults .entry)) (now (edits .entry)) g (rowIn (now (row .entry)) t (now (kept .entry))) exchange (now (payload .entry))) r (now (row .entry)) (now (row .exit)) (now (kept .exit)) (now (out .entry)) (now (out .exit)) ⌝ }
 {
     let r = read_request(payload);
-    if r.verdict != 0 {
-        return refuse(kept, t, exchange, r.verdict as u8, out);
-    }
     let paths = r.paths;
     let filters = r.filters;
+    let refusal = refusal_code(Asks {
+        good: r.good,
+        timed: 0,
+        paths: paths.count,
+        filters: filters.count,
+        writes: 0,
+    });
+    if refusal != 0 {
+        return refuse(kept, t, exchange, refusal, out);
+    }
     let targets = paths.kept;
     let wanted = filters.kept;
     let asked = paths.count;
@@ -162,10 +171,17 @@ pub fn begin_write<'a>(
     ensures { λ r. ⌜ ((row : List ℕ) → Wrote (writeBegun (now (w .entry)) g (now (defaults .entry)) (heldOf (now (words .entry)) (now (nulls .entry)) (now (edited .entry)) (now (versions .entry)) (now (edits .entry))) (rowIn row t (now (kept .entry))) exchange (now (payload .entry))) r (heldOf (now (words .exit)) (now (nulls .exit)) (now (edited .exit)) (now (versions .exit)) (now (edits .exit))) row row (now (kept .exit)) (now (out .entry)) (now (out .exit))) ⌝ }
 {
     let r = write_request(payload);
-    if r.verdict != 0 {
-        return refuse(kept, t, exchange, r.verdict as u8, out);
-    }
     let entries = r.entries;
+    let refusal = refusal_code(Asks {
+        good: r.good,
+        timed: r.timed,
+        paths: 0,
+        filters: 0,
+        writes: entries.count,
+    });
+    if refusal != 0 {
+        return refuse(kept, t, exchange, refusal, out);
+    }
     let all = entries.kept;
     let n = entries.count;
     let codes = write_all(

@@ -22,8 +22,8 @@ use Rattle.blocks.specs.Data.{reportTree}
 use Rattle.interaction.specs.declared.StatusResponse.the-variants.{Code}
 use Rattle.interaction.specs.declared.Wanted.{Wanted}
 use Rattle.interaction.specs.Status.{responseIn, responseRead}
-use Rattle.interaction.specs.Read.{readIn, readVerdict, readRead}
-use Rattle.interaction_write.specs.Write.{EntryOf, WriteOf, entryTree, writeIn, writeVerdict, writeRead, writeTree}
+use Rattle.interaction.specs.Read.{readIn, readRead}
+use Rattle.interaction_write.specs.Write.{EntryOf, WriteOf, entryTree, writeIn, writeRead, writeTree}
 use Rattle.interaction_report.specs.Report.{PartOf, blocksAt, partIn, partRead, partTree}
 use Rattle.interaction_report.proofs.FirstLaws.{part-first}
 use Rattle.interaction_answer.specs.declared.Answered.the-variants.{One}
@@ -47,9 +47,8 @@ one-of β (a ∷ c ∷ l) e = never (cc)
 pub status-answered : (code : ℕ) → code < 2 ^ 8 → responseRead (responseIn (statusOctets code)) ≡ Code code
 status-answered code fits = ap responseRead (status-back code fits)
 
-pub read-answered : (fs : List Wanted) → Each WantedFits fs → length fs ≤ 32 → readRead (readIn (readOctets fs)) ≡ readAnswer fs
-unfolding readVerdict
-read-answered fs h few = ap readRead (read-back fs h) ∙ rw (le-ltb 32 (length fs) few) refl
+pub read-answered : (fs : List Wanted) → Each WantedFits fs → readRead (readIn (readOctets fs)) ≡ readAnswer fs
+read-answered fs h = ap readRead (read-back fs h)
 
 -- the value of a write is the tree at the place that is answered
 module _ (given : Bool) (version e c a : ℕ) (d : Datum) (fv : version < 2 ^ 32) (p : PathFits e c a) (w : Writable (primitiveD d)) where
@@ -57,7 +56,6 @@ module _ (given : Bool) (version e c a : ℕ) (d : Datum) (fv : version < 2 ^ 32
   s = writeOctets given version e c a d
 
   pub write-answered : (n : ℕ) × (writeRead (writeIn s) ≡ writeAnswer given version e c a n) × (orNone (treeAt 7 s n) ≡ primitive (context 2) (primitiveD d))
-  unfolding writeVerdict
   write-answered =
       let (r, here, means) = through (writeTree 7 s) (writeIn s) (write-back given version e c a d fv p w) in
       let (x, alone, entry) = one-of (entryTree 7 s) (r .entries) (ap (λ (y : WriteOf Tree). y .entries) means) in

@@ -94,13 +94,14 @@ outcomeMeans o = plainAnswer (o .endpoint) (o .cluster) (o .attribute) (o .code)
 
 -- WHAT THE READERS ANSWER: a read with no ground to refuse it
 abbrev pub readAnswer : List Wanted → ReadRequest
-readAnswer fs = record { verdict = 0; paths = pathsStruct (everything ∷ []); filters = wantsStruct fs }
+readAnswer fs = record { good = true; paths = pathsStruct (everything ∷ []); filters = wantsStruct fs }
 
 -- a write of one entry whose data stands at a place
 abbrev pub writeAnswer : Bool → ℕ → ℕ → ℕ → ℕ → ℕ → WriteRequest
 writeAnswer given version endpoint cluster attribute place = record {
-  verdict = 0;
+  good = true;
   suppress = 0;
+  timed = 0;
   entries = entriesStruct (record { version = pick given version ABSENT; endpoint = endpoint; cluster = cluster; attribute = attribute; element = place } ∷ []);
 }
 

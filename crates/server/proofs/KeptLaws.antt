@@ -22,6 +22,7 @@ use Rattle.writes.specs.Entry.{heldAfter}
 use Rattle.writes.proofs.HeldLaws.{Right, changed-keeps, writes-keep}
 use Rattle.replies.specs.declared.Row.{Row}
 use Rattle.replies.specs.Row.{rowRight, nextPart}
+use Rattle.replies.specs.Refusal.{writeRefusal}
 use Rattle.replies.specs.Begin.{Left, once, entriesOf, responseTo, readBegun, writeBegun, refusalOf}
 use Rattle.replies.proofs.KeptLaws.{next-right, read-right, write-right}
 use Rattle.replies.proofs.RowLaws.{row-right, right-row}
@@ -44,9 +45,9 @@ write-keeps : (w defaults : List ℕ) → Rules w → (h : Held) → Right w def
 unfolding writeBegun
 write-keeps w defaults rules h r g x exchange payload =
     let q = writeRead (writeIn payload) in
-    pick-elim (λ (l : Left). Right w defaults (l .held)) (eqb (q .verdict) 0)
+    pick-elim (λ (l : Left). Right w defaults (l .held)) (eqb (writeRefusal q) 0)
     (record { held = heldAfter w g defaults payload h (entriesOf q); row = once x exchange (responseTo w g defaults payload h exchange q) })
-    (record { held = h; row = once x exchange (refusalOf exchange (q .verdict)) })
+    (record { held = h; row = once x exchange (refusalOf exchange (writeRefusal q)) })
     (λ _. writes-keep w defaults rules h r g payload (entriesOf q)) (λ _. r)
 
 closing-right : (x : Row) → rowRight x ≡ true → rowRight (closing x) ≡ true

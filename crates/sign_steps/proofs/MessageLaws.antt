@@ -41,7 +41,7 @@ begins-write = refl
 -- with no ground to refuse it
 read-taken : (x : ℕ) (fs : List Wanted) → Each WantedFits fs → length fs ≤ 32 → readRead (readIn (drop envelopeLength (readMessage panelEdition x fs))) ≡ readAnswer fs
 unfolding readMessage
-read-taken x fs h few = ap (λ (q : List ℕ). readRead (readIn q)) (after-envelope panelEdition readOpcode x 0 (readOctets fs)) ∙ read-answered fs h few
+read-taken x fs h few = ap (λ (q : List ℕ). readRead (readIn q)) (after-envelope panelEdition readOpcode x 0 (readOctets fs)) ∙ read-answered fs h
 
 module _ {w defaults : List ℕ} {g : Grants} {sent : List (List ℕ)} (here : Standing w defaults g sent) (words-fit : (k : ℕ) → getD w k 0 < 2 ^ 64) (start : List ℕ) (room : ℕ) (enough : maxMessage ≤ room) where
   open Standing here using (edits, state as s, system as sys, stands)

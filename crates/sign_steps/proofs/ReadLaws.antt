@@ -3,6 +3,7 @@ use mathlib.Core.Path.{_≡_, refl, sym, ap}
 use mathlib.Core.List.{List, [], _∷_}
 use Prim.Native.Nat.{ℕ, suc, _+_, _-_, _^_, _≤_, _<_}
 use native.Mathlib.Omega.{arith}
+use borrow.Author.Tests.{le-ltb}
 use native.Mathlib.Numerals.{add-one}
 use lib.ListN.{length, getD}
 use Rattle.tlv.specs.Value.{Datum}
@@ -21,6 +22,7 @@ use Rattle.report.specs.Blocks.{startOf}
 use Rattle.exchange.specs.Rules.{maxTurn}
 use Rattle.writes.proofs.StatusLaws.{take-first}
 use Rattle.replies.specs.Row.{pathsOf, blocksOf, reported, nextPart}
+use Rattle.replies.specs.Refusal.{refusalCode, readRefusal}
 use Rattle.replies.specs.Begin.{beginningPlace, requestOf, readBegun}
 use Rattle.replies.proofs.RowLaws.{row-right}
 use Rattle.replies.proofs.BeginLaws.{read-answered}
@@ -58,8 +60,12 @@ module _ {w defaults : List ℕ} {g : Grants} {sent : List (List ℕ)} (here : S
     abbrev first : ℕ → Part Datum
     first size = partOf (sys .clusters) x 1 (nodeOf w defaults start g .readable) (filtersAs w fs) (changesOf (sys .clusters)) size
 
+    not-refused : readRefusal (readAnswer fs) ≡ 0
+    unfolding refusalCode
+    not-refused = rw (le-ltb maxFilters (length fs) few) refl
+
     begun-as : readBegun w (s .values) defaults edits g (s .row) x payload ≡ reported (s .row) x 1 (request w fs) beginningPlace (blocksOf w (s .values) defaults edits g (request w fs) beginningPlace)
-    begun-as = read-answered payload (sym read) w (s .values) defaults edits g (s .row) x refl
+    begun-as = read-answered payload (sym read) w (s .values) defaults edits g (s .row) x not-refused
 
     same-first : (size : ℕ) → partOf (sys .clusters) x 1 (readableFrom w g (attributeCount w - 0) 0) (filtersAs w fs) (changesOf (sys .clusters)) size ≡ first size
     same-first size =

@@ -26,6 +26,7 @@ use Rattle.cache_request.specs.Messages.{writeMessage}
 use Rattle.exchange.specs.declared.Progress.{Progress}
 use Rattle.replies.specs.Messages.{envelopeLength, maxMessage, responseMessage}
 use Rattle.replies.specs.Row.{keeping, keptReply}
+use Rattle.replies.specs.Refusal.{refusalCode, writeRefusal}
 use Rattle.replies.specs.Begin.{Left, answered, responseTo, writeBy, writeBegun, refusalOf}
 use Rattle.replies.proofs.KeptLaws.{keeping-whole, write-reply}
 use Rattle.server.specs.Receive.{wrote}
@@ -58,23 +59,23 @@ module _ {w defaults : List ℕ} {g : Grants} {sent : List (List ℕ)} (here : S
     outcome = record { endpoint = e; cluster = c; attribute = a; code = entryWritten w g defaults payload now entry .code }
 
     begun-held : begun .held ≡ entryWritten w g defaults payload now entry .held
-    unfolding writeBegun heldAfter firstOf
+    unfolding refusalCode writeBegun heldAfter firstOf
     begun-held = ap (λ (q : WriteRequest). writeBy w g defaults now (s .row) x payload q .held) read
 
     begun-progress : begun .row .progress ≡ answered x
-    unfolding writeBegun keeping firstOf
+    unfolding refusalCode writeBegun keeping firstOf
     begun-progress = ap (λ (q : WriteRequest). writeBy w g defaults now (s .row) x payload q .row .progress) read
 
     begun-whole : length (begun .row .kept) ≡ maxMessage
-    unfolding writeBegun firstOf
+    unfolding refusalCode writeBegun firstOf
     begun-whole =
         ap (λ (q : WriteRequest). length (writeBy w g defaults now (s .row) x payload q .row .kept)) read ∙ keeping-whole (s .row) _ _ _ _ ∙ stands .row .whole
 
     begun-reply : keptReply (begun .row) ≡ answerBytes x outcome
-    unfolding codesOf firstOf responseMessage responsePayload answerTrees answerBytes
+    unfolding refusalCode codesOf firstOf responseMessage responsePayload answerTrees answerBytes
     begun-reply =
         write-reply (s .row) (stands .row .whole) x payload w g defaults now
-        ∙ ap (λ (q : WriteRequest). pick (eqb (q .verdict) 0) (responseTo w g defaults payload now x q) (refusalOf x (q .verdict))) read
+        ∙ ap (λ (q : WriteRequest). pick (eqb (writeRefusal q) 0) (responseTo w g defaults payload now x q) (refusalOf x (writeRefusal q))) read
 
     outcome-fits : OutcomeFits outcome
     unfolding codesOf

@@ -41,12 +41,9 @@ returns-3 : tie.Need-returns-3
 unfolding readBy
 returns-3 c = c .refused-read3 .ensures ∙ sym (simp (sym (c .before .before .before .before .before .before .before .is-whole .ensures) ∙ not-false _ (c .before .before .before .before .before .before .if1 .left), ← (c .before .before .before .before .flag-by .ensures), lt-ltb _ _ (c .before .before .before .if2 .left), ← (c .before .before .number-by .ensures), le-ltb _ _ (c .before .if3 .taken)))
 
-read-verdict-requires : tie.Need-read-verdict-requires
-read-verdict-requires c κs = search needs
-
 returns-4 : tie.Need-returns-4
 unfolding readBy
-returns-4 c = (λ j. record { verdict = c .read-verdict .ensures j; paths = c .before .before .before .before .before .before .before .before .args .paths; filters = c .before .before .before .before .before .before .before .before .args .filters }) ∙ sym (simp (sym (c .before .before .before .before .before .before .before .is-whole .ensures) ∙ not-false _ (c .before .before .before .before .before .before .if1 .left), ← (c .before .before .before .before .flag-by .ensures), lt-ltb _ _ (c .before .before .before .if2 .left), ← (c .before .before .number-by .ensures), lt-ltb _ _ (c .before .if3 .left)))
+returns-4 c = sym (simp (sym (c .before .before .before .before .before .before .is-whole .ensures) ∙ not-false _ (c .before .before .before .before .before .if1 .left), ← (c .before .before .before .flag-by .ensures), lt-ltb _ _ (c .before .before .if2 .left), ← (c .before .number-by .ensures), lt-ltb _ _ (c .if3 .left)))
 
 pub read-of-spec : {M : Type 1} → statement M
 read-of-spec =
@@ -63,5 +60,4 @@ read-of-spec =
     number-by-requires
     refused-read-requires-3
     returns-3
-    read-verdict-requires
     returns-4)

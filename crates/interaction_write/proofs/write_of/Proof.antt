@@ -77,12 +77,9 @@ returns-6 : tie.Need-returns-6
 unfolding writeBy
 returns-6 c = c .refused-write6 .ensures ∙ sym (simp (sym (c .before .before .before .before .before .before .before .before .before .before .before .before .before .before .is-whole .ensures) ∙ not-false _ (c .before .before .before .before .before .before .before .before .before .before .before .before .before .if1 .left), ← (c .before .before .before .before .before .before .before .before .before .before .before .flag-by .ensures), ← (c .before .before .before .before .before .before .before .before .before .before .flag-by2 .ensures), ← (c .before .before .before .before .before .before .before .before .before .flag-by3 .ensures), ← (c .before .before .before .before .before .before .before .before .number-by .ensures), lt-ltb _ _ (c .before .before .before .before .before .before .before .if2 .left), lt-ltb _ _ (c .before .before .before .before .before .before .if3 .left), sym (c .before .before .before .before .before .is-unchunked .ensures) ∙ not-false _ (c .before .before .before .before .if4 .left), lt-ltb _ _ (c .before .before .before .if5 .left), eq-eqb _ _ (c .before .if6 .taken)))
 
-write-verdict-requires : tie.Need-write-verdict-requires
-write-verdict-requires c κs = search needs
-
 returns-7 : tie.Need-returns-7
 unfolding writeBy
-returns-7 c = (λ j. record { verdict = c .write-verdict .ensures j; suppress = c .before .before .before .before .before .before .before .before .before .before .before .flag-by .result; entries = c .before .before .before .before .before .before .before .before .before .before .before .before .before .before .before .args .entries }) ∙ sym (simp (sym (c .before .before .before .before .before .before .before .before .before .before .before .before .before .before .is-whole .ensures) ∙ not-false _ (c .before .before .before .before .before .before .before .before .before .before .before .before .before .if1 .left), ← (c .before .before .before .before .before .before .before .before .before .before .before .flag-by .ensures), ← (c .before .before .before .before .before .before .before .before .before .before .flag-by2 .ensures), ← (c .before .before .before .before .before .before .before .before .before .flag-by3 .ensures), ← (c .before .before .before .before .before .before .before .before .number-by .ensures), lt-ltb _ _ (c .before .before .before .before .before .before .before .if2 .left), lt-ltb _ _ (c .before .before .before .before .before .before .if3 .left), sym (c .before .before .before .before .before .is-unchunked .ensures) ∙ not-false _ (c .before .before .before .before .if4 .left), lt-ltb _ _ (c .before .before .before .if5 .left), ne-eqb _ _ (c .before .if6 .left)))
+returns-7 c = sym (simp (sym (c .before .before .before .before .before .before .before .before .before .before .before .before .before .is-whole .ensures) ∙ not-false _ (c .before .before .before .before .before .before .before .before .before .before .before .before .if1 .left), ← (c .before .before .before .before .before .before .before .before .before .before .flag-by .ensures), ← (c .before .before .before .before .before .before .before .before .before .flag-by2 .ensures), ← (c .before .before .before .before .before .before .before .before .flag-by3 .ensures), ← (c .before .before .before .before .before .before .before .number-by .ensures), lt-ltb _ _ (c .before .before .before .before .before .before .if2 .left), lt-ltb _ _ (c .before .before .before .before .before .if3 .left), sym (c .before .before .before .before .is-unchunked .ensures) ∙ not-false _ (c .before .before .before .if4 .left), lt-ltb _ _ (c .before .before .if5 .left), ne-eqb _ _ (c .if6 .left)))
 
 pub write-of-spec : {M : Type 1} → statement M
 write-of-spec =
@@ -110,5 +107,4 @@ write-of-spec =
     returns-5
     refused-write-requires-6
     returns-6
-    write-verdict-requires
     returns-7)

@@ -12,15 +12,18 @@ use Rattle.values.specs.Values.{valuesOf}
 use Rattle.report.specs.declared.part.Request.{Request}
 use Rattle.replies.specs.declared.Row.{Row}
 use Rattle.replies.specs.Row.{rowIn, requestIn, keeping, blocksOf, putRequest}
-use Rattle.replies.specs.Begin.{beginningPlace, requestOf}
+use Rattle.replies.specs.Refusal.{readAsks}
+use Rattle.replies.specs.Begin.{once, refusalOf, beginningPlace, requestOf}
 use Rattle.replies.proofs.MessageLaws.{sent-of}
 use Rattle.replies.proofs.RowLaws.{report-within, report-short, report-end, part-given}
 use Rattle.replies.proofs.LentLaws.{begins-same, begins-anew, request-back}
-use Rattle.replies.proofs.BeginLaws.{read-fits, request-few, request-length, read-refused, read-answered}
+use Rattle.replies.proofs.RequestLaws.{refusal-none}
+use Rattle.replies.proofs.BeginLaws.{request-length, read-refused, read-answered}
 use Rattle.replies.proofs.begin.begin_read.Statement.{statement}
 use Rattle.replies.proofs.begin.begin_read.Tie as tie
 use Rattle.replies.proofs.begin.begin_read.Reads as reads
 use Rattle.replies.proofs.begin.begin_read.Lts as lts
+use Rattle.replies.proofs.refusal.refusal_code.Reads as refusal-code-reads
 use Rattle.interaction.proofs.read_request.Reads as read-request-reads
 use Rattle.replies.proofs.begin.refuse.Reads as refuse-reads
 use Rattle.replies.proofs.kept.keep.Reads as keep-reads
@@ -48,8 +51,8 @@ kept-request c =
 read-request-requires : tie.Need-read-request-requires
 read-request-requires c κs = search needs
 
-cast-refuse : tie.Need-cast-refuse
-cast-refuse c = record { fits = read-fits (c .before .before .before .before .before .before .before .before .before .args .payload .now) (c .before .before .before .before .read-request .ensures) }
+refusal-code-requires : tie.Need-refusal-code-requires
+refusal-code-requires c κs = search needs
 
 refuse-requires : tie.Need-refuse-requires
 refuse-requires c κs = search needs
@@ -58,19 +61,19 @@ same-length : tie.Need-same-length
 same-length c = search needs
 
 returns : tie.Need-returns
-returns c = let a = c .before .before .before .before .before .before .before .before .before .before .before .before .before .args in let f = c .before .before .refuse .ensures (a .row .now) in begins-same (f .0 ∙ sym (read-refused (a .payload .now) (c .before .before .before .before .before .before .before .before .read-request .ensures) (a .w .now) (valuesOf (a .words .now) (a .nulls .now) (a .edited .now) (a .versions .now)) (a .defaults .now) (a .edits .now) (a .g) (rowIn (a .row .now) (a .t) (a .kept .now)) (a .exchange) (c .before .before .before .before .before .before .if1 .taken))) (f .1)
+returns c = let a = c .before .before .before .before .before .before .before .before .before .before .before .before .before .before .args in let f = c .before .before .refuse .ensures (a .row .now) in begins-same (f .0 ∙ ap (λ n. once (rowIn (a .row .now) (a .t) (a .kept .now)) (a .exchange) (refusalOf (a .exchange) n)) (c .before .before .before .before .before .before .refusal-code .ensures) ∙ sym (read-refused (a .payload .now) (c .before .before .before .before .before .before .before .before .before .read-request .ensures) (a .w .now) (valuesOf (a .words .now) (a .nulls .now) (a .edited .now) (a .versions .now)) (a .defaults .now) (a .edits .now) (a .g) (rowIn (a .row .now) (a .t) (a .kept .now)) (a .exchange) (λ z. c .before .before .before .before .before .if1 .taken (c .before .before .before .before .before .before .refusal-code .ensures ∙ z)))) (f .1)
 
 put-paths-requires : tie.Need-put-paths-requires
 put-paths-requires c κs = search needs
 
 put-filters-requires : tie.Need-put-filters-requires
-put-filters-requires c κs = (c .before .before .before .before .before .before .before .before .before .before .before .before .before .before .pre .0, (request-few (c .before .before .before .before .before .before .before .before .before .before .before .before .before .before .args .payload .now) (c .before .before .before .before .before .before .before .before .before .read-request .ensures) (c .before .before .before .before .before .before .before .if1 .left) .1, search needs))
+put-filters-requires c κs = (c .before .before .before .before .before .before .before .before .before .before .before .before .before .before .pre .0, (refusal-none (readAsks (c .before .before .before .before .before .before .before .before .before .read-request .result)) (sym (c .before .before .before .before .before .before .refusal-code .ensures) ∙ c .before .before .before .before .before .if1 .left) .filters, search needs))
 
 cast-put-part : tie.Need-cast-put-part
 cast-put-part c = search needs
 
 put-part-requires : tie.Need-put-part-requires
-put-part-requires c κs = let p = c .before .before .before .before .before .before .before .before .before .before .before .before .before .before .before .before .before .pre in (p .0, (request-few (c .before .before .before .before .before .before .before .before .before .before .before .before .before .before .before .before .before .args .payload .now) (c .before .before .before .before .before .before .before .before .before .before .before .before .read-request .ensures) (c .before .before .before .before .before .before .before .before .before .before .if1 .left) .0, (omega arith, (p .1 .0, p .1 .1))))
+put-part-requires c κs = let p = c .before .before .before .before .before .before .before .before .before .before .before .before .before .before .before .before .before .pre in (p .0, (refusal-none (readAsks (c .before .before .before .before .before .before .before .before .before .before .before .before .read-request .result)) (sym (c .before .before .before .before .before .before .before .before .before .refusal-code .ensures) ∙ c .before .before .before .before .before .before .before .before .if1 .left) .paths, (omega arith, (p .1 .0, p .1 .1))))
 
 sub-keep : tie.Need-sub-keep
 sub-keep c = search needs
@@ -99,7 +102,7 @@ returns-2 c =
     let x = rowIn (a .row .now) (a .t) (a .kept .now) in
     let e = c .before .before .before .before .before .before .before .before .before .before .before .before .before .before .before .before .before .before .before .before .before .read-request .ensures in
     let q : Request = requestOf (a .w .now) (c .before .before .before .before .before .before .before .before .before .before .before .before .before .before .before .before .before .before .before .before .before .read-request .result) in
-    let y = read-answered (a .payload .now) e (a .w .now) v (a .defaults .now) (a .edits .now) (a .g) x (a .exchange) (c .before .before .before .before .before .before .before .before .before .before .before .before .before .before .before .before .before .before .before .if1 .left) in
+    let y = read-answered (a .payload .now) e (a .w .now) v (a .defaults .now) (a .edits .now) (a .g) x (a .exchange) (sym (c .before .before .before .before .before .before .before .before .before .before .before .before .before .before .before .before .before .before .refusal-code .ensures) ∙ c .before .before .before .before .before .before .before .before .before .before .before .before .before .before .before .before .before .if1 .left) in
     let s = sent-of (ap (λ (p : Request). blocksOf (a .w .now) v (a .defaults .now) (a .edits .now) (a .g) p beginningPlace) (kept-request (c .before .before .before .before .before .before .before .before .before .before .before))) (c .before .before .before .before .before .before .before .before .put-part .ensures) in
     let f = c .before .before .before .before .before .before .before .before .put-part .result in
     let g = part-given x (c .before .keep .ensures .1) s room q
@@ -111,7 +114,7 @@ begin-read-spec =
     tie.close
     (tie.spec
     read-request-requires
-    cast-refuse
+    refusal-code-requires
     refuse-requires
     same-length
     returns

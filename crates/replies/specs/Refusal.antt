@@ -1,0 +1,33 @@
+-- WHY A WHOLE REQUEST IS REFUSED (document 01, On the wire), in its order: "80 malformed ..; then C9 TimedRequest true; then C8 over 16 paths; then 89 over
+-- 32 filters or 16 writes".
+use mathlib.Core.Bool.{_||_}
+use Prim.Native.Nat.{ℕ}
+use lib.Dec.{ltb, eqb}
+use Rattle.tlv.specs.Octet.{pick}
+use Rattle.interaction.specs.Read.{maxPaths, maxFilters}
+use Rattle.interaction.specs.declared.ReadRequest.{ReadRequest}
+use Rattle.interaction_write.specs.Write.{maxWrites}
+use Rattle.interaction_write.specs.declared.WriteRequest.{WriteRequest}
+use Rattle.replies.specs.declared.refusal.Asks.{Asks}
+
+-- the status, or 0 if none applies
+unfoldable pub refusalCode : Asks → ℕ
+refusalCode a =
+    pick (a .good)
+    (pick (eqb (a .timed) 1) 0xC9
+    (pick (ltb maxPaths (a .paths)) 0xC8
+    (pick (ltb maxFilters (a .filters) || ltb maxWrites (a .writes)) 0x89 0)))
+    0x80
+
+-- what a read and a write ask for
+abbrev pub readAsks : ReadRequest → Asks
+readAsks r = record { good = r .good; timed = 0; paths = r .paths .count; filters = r .filters .count; writes = 0 }
+
+abbrev pub writeAsks : WriteRequest → Asks
+writeAsks r = record { good = r .good; timed = r .timed; paths = 0; filters = 0; writes = r .entries .count }
+
+abbrev pub readRefusal : ReadRequest → ℕ
+readRefusal r = refusalCode (readAsks r)
+
+abbrev pub writeRefusal : WriteRequest → ℕ
+writeRefusal r = refusalCode (writeAsks r)
