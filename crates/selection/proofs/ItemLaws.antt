@@ -1,5 +1,5 @@
 -- What stands at a place of a path: its tests one by one, an index that it gives is one of the schema's attributes, a status an octet.
-use mathlib.Core.Path.{_≡_, refl, ap, _∙_}
+use mathlib.Core.Path.{_≡_, refl, sym, ap, _∙_}
 use mathlib.Core.Bool.{Bool, true, false}
 use mathlib.Core.List.{List}
 use Prim.Native.Nat.{ℕ, _<_, _^_}
@@ -60,6 +60,19 @@ module _ (w : List ℕ) (g : Grants) (skips : List Bool) where
       go true b = refl
       go false true = refl
       go false false = refl
+
+  -- a wildcard has nothing of a cluster that the filters skip
+  pub wildcard-skipped : (p : Asked) (i : ℕ) {k : ℕ} → k ≡ attributeRow w i .clusterIndex → getD skips k false ≡ true → wildcardItem w g skips p i ≡ Nothing
+  unfolding wildcardItem
+  wildcard-skipped p i {k} c h =
+      let s : getD skips (attributeRow w i .clusterIndex) false ≡ true = ap (λ (n : ℕ). getD skips n false) (sym c) ∙ h in
+      rw (read-tests i, s) (go (asksFor p (pathAt w i)) (eqb (attributeRow w i .read) 0) (isGranted g (attributeRow w i .clusterIndex) (attributeRow w i .read)))
+    where
+      go : (x a b : Bool) → pick x (silent (pick a (Status unsupportedRead) (pick b Nothing (Status unsupportedAccess)))) Nothing ≡ Nothing
+      go false a b = refl
+      go true true b = refl
+      go true false true = refl
+      go true false false = refl
 
   -- a concrete path: the attribute that it names as a read finds it, or the status of a path that names none
   module _ (p : Asked) where

@@ -90,6 +90,10 @@ pub fn item_at(w: &[u64; WORDS], g: Grants, skips: [bool; CLUSTERS], p: Asked, i
     if is_concrete(p) {
         return concrete_item(w, g, skips, p);
     }
+    // One look, and asked first: a wildcard has nothing of a cluster that the filters skip.
+    if skips[schema::attribute_cluster(w, i)] {
+        return Item::Nothing;
+    }
     if !asks_row(w, p, i) {
         return Item::Nothing;
     }

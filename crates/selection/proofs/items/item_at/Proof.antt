@@ -7,10 +7,13 @@ use Rattle.schema.specs.Rows.{attributeCount}
 use Rattle.selection.specs.Asked.{concrete}
 use Rattle.selection.specs.Items.{silent, span, itemAt, wildcardItem}
 use borrow.Author.Needs.{needs}
+use Rattle.selection.proofs.AskedLaws.{cluster-of}
+use Rattle.selection.proofs.ItemLaws.{wildcard-skipped}
 use Rattle.selection.proofs.items.item_at.Statement.{statement}
 use Rattle.selection.proofs.items.item_at.Tie as tie
 use Rattle.selection.proofs.items.item_at.Reads as reads
 use Rattle.selection.proofs.items.item_at.Lts as lts
+use Rattle.schema.proofs.attribute_cluster.Reads as attribute-cluster-reads
 use Rattle.selection.proofs.asked.asks_row.Reads as asks-row-reads
 use Rattle.selection.proofs.asked.is_concrete.Reads as is-concrete-reads
 use Rattle.selection.proofs.items.concrete_item.Reads as concrete-item-reads
@@ -35,22 +38,32 @@ wild : (c : tie.Else1) → c .before .before .args .i < attributeCount (c .befor
 unfolding span
 wild c = rw (not-wild c) at (c .before .before .pre .1)
 
-asks-row-requires : tie.Need-asks-row-requires
-asks-row-requires c κs = (c .before .before .pre .0, wild c)
+attribute-cluster-requires : tie.Need-attribute-cluster-requires
+attribute-cluster-requires c κs = omega (arith, wild c)
+
+array-read-if2 : tie.Need-array-read-if2
+array-read-if2 c = omega (arith, c .attribute-cluster .ensures, cluster-of (c .before .before .before .args .w .now) (c .before .before .before .pre .0) (c .before .before .before .args .i) (wild (c .before)))
 
 returns-2 : tie.Need-returns-2
+unfolding itemAt
+returns-2 c = let a = c .before .before .before .before .args in rw (not-wild (c .before .before)) (sym (wildcard-skipped (a .w .now) (a .g) _ (a .p) (a .i) (c .before .attribute-cluster .ensures) (c .if2 .taken)))
+
+asks-row-requires : tie.Need-asks-row-requires
+asks-row-requires c κs = (c .before .before .before .before .pre .0, wild (c .before .before))
+
+returns-3 : tie.Need-returns-3
 unfolding itemAt wildcardItem
-returns-2 c = rw (not-wild (c .before .before), sym (c .before .asks-row .ensures) ∙ not-true _ (c .if2 .taken)) refl
+returns-3 c = rw (not-wild (c .before .before .before .before), sym (c .before .asks-row .ensures) ∙ not-true _ (c .if3 .taken)) refl
 
 read-item-requires : tie.Need-read-item-requires
-read-item-requires c κs = omega (arith, wild (c .before .before))
+read-item-requires c κs = omega (arith, wild (c .before .before .before .before))
 
 silenced-requires : tie.Need-silenced-requires
 silenced-requires c κs = search needs
 
-returns-3 : tie.Need-returns-3
+returns-4 : tie.Need-returns-4
 unfolding itemAt wildcardItem
-returns-3 c = rw (not-wild (c .before .before .before .before), sym (c .before .before .before .asks-row .ensures) ∙ not-false _ (c .before .before .if2 .left)) (c .silenced .ensures ∙ ap silent (c .before .read-item .ensures))
+returns-4 c = rw (not-wild (c .before .before .before .before .before .before), sym (c .before .before .before .asks-row .ensures) ∙ not-false _ (c .before .before .if3 .left)) (c .silenced .ensures ∙ ap silent (c .before .read-item .ensures))
 
 pub item-at-spec : {M : Type 1} → statement M
 item-at-spec =
@@ -59,8 +72,11 @@ item-at-spec =
     is-concrete-requires
     concrete-item-requires
     returns
-    asks-row-requires
+    attribute-cluster-requires
+    array-read-if2
     returns-2
+    asks-row-requires
+    returns-3
     read-item-requires
     silenced-requires
-    returns-3)
+    returns-4)
