@@ -52,18 +52,39 @@ span-most w p = by-form (concrete p)
     by-form true = omega arith
     by-form false = omega arith
 
-module _ (s : View) (k : ℕ) (p : Asked) (ps : List Asked) where
+module _ (s : View) (k : ℕ) (p : Asked) where
   -- a path has no block after its places
-  pub path-past : (i : ℕ) → span (s .schema) p ≤ i → pathsBlocks s k i (p ∷ ps) ≡ pathsBlocks s (k + 1) 0 ps
-  unfolding pathsBlocks pathBlocks collect
-  path-past i h = let q : span (s .schema) p - i ≡ 0 = omega arith in rw q
+  pub places-done : (i : ℕ) → span (s .schema) p ≤ i → pathBlocks s k p i ≡ []
+  unfolding pathBlocks collect
+  places-done i h = let q : span (s .schema) p - i ≡ 0 = omega arith in rw q
 
   -- at a place there is what stands there, then what follows
-  pub path-step : (i : ℕ) (l : List Block) → i < span (s .schema) p → blockAt s p i ≡ l → pathsBlocks s k i (p ∷ ps) ≡ map (placedAt k i) l ++ pathsBlocks s k (i + 1) (p ∷ ps)
-  unfolding pathsBlocks pathBlocks collect
-  path-step i l h e =
-      let q : span (s .schema) p - i ≡ suc (span (s .schema) p - (i + 1)) = omega arith in
-      rw (q, e) (append-assoc (map (placedAt k i) l) (collect k (blockAt s p) (span (s .schema) p - (i + 1)) (i + 1)) (pathsBlocks s (k + 1) 0 ps))
+  places-step : (i : ℕ) (l : List Block) → i < span (s .schema) p → blockAt s p i ≡ l → pathBlocks s k p i ≡ map (placedAt k i) l ++ pathBlocks s k p (i + 1)
+  unfolding pathBlocks collect
+  places-step i l h e = let q : span (s .schema) p - i ≡ suc (span (s .schema) p - (i + 1)) = omega arith in rw (q, e)
+
+  -- x stands there
+  module _ (i : ℕ) (h : i < span (s .schema) p) (x : Item) (e : x ≡ itemAt (s .schema) (s .grants) (s .skips) p i) where
+    item-step : (o : Opt Block) → blockOf (s .schema) (s .values) (s .defaults) (s .edits) p x ≡ o → pathBlocks s k p i ≡ map (placedAt k i) (listed o) ++ pathBlocks s k p (i + 1)
+    item-step o q = places-step i (listed o) h (ap listed (ap (blockOf (s .schema) (s .values) (s .defaults) (s .edits) p) (sym e) ∙ q))
+
+    pub places-none : isNothing x ≡ true → pathBlocks s k p i ≡ pathBlocks s k p (i + 1)
+    places-none t = item-step nothing (no-block s p x t)
+
+    pub places-block : (b : Block) → blockOf (s .schema) (s .values) (s .defaults) (s .edits) p x ≡ just b → pathBlocks s k p i ≡ placedAt k i b ∷ pathBlocks s k p (i + 1)
+    places-block b q = item-step (just b) q
+
+  -- and so for the paths of which it is the first
+  module _ (ps : List Asked) where
+    pub path-past : (i : ℕ) → span (s .schema) p ≤ i → pathsBlocks s k i (p ∷ ps) ≡ pathsBlocks s (k + 1) 0 ps
+    unfolding pathsBlocks
+    path-past i h = ap (λ (l : List Placed). l ++ pathsBlocks s (k + 1) 0 ps) (places-done i h)
+
+    pub path-step : (i : ℕ) (l : List Block) → i < span (s .schema) p → blockAt s p i ≡ l → pathsBlocks s k i (p ∷ ps) ≡ map (placedAt k i) l ++ pathsBlocks s k (i + 1) (p ∷ ps)
+    unfolding pathsBlocks
+    path-step i l h e =
+        ap (λ (m : List Placed). m ++ pathsBlocks s (k + 1) 0 ps) (places-step i l h e)
+        ∙ append-assoc (map (placedAt k i) l) (pathBlocks s k p (i + 1)) (pathsBlocks s (k + 1) 0 ps)
 
 -- the blocks from place i of path k on, of the first n paths
 abbrev pub ahead : View → List Asked → ℕ → ℕ → List Placed
@@ -75,19 +96,6 @@ module _ (s : View) (ps : List Asked) (k i : ℕ) where
   ahead-done l = ap (pathsBlocks s k i) (drop-of-length-le ps {i = k} l)
 
   -- path k is p
-  module _ (p : Asked) (here : drop k ps ≡ p ∷ drop (k + 1) ps) where
-    pub ahead-past : span (s .schema) p ≤ i → ahead s ps k i ≡ ahead s ps (k + 1) 0
-    ahead-past h = ap (pathsBlocks s k i) here ∙ path-past s k p (drop (k + 1) ps) i h
-
-    module _ (h : i < span (s .schema) p) (x : Item) (e : x ≡ itemAt (s .schema) (s .grants) (s .skips) p i) where
-      ahead-step : (o : Opt Block) → blockOf (s .schema) (s .values) (s .defaults) (s .edits) p x ≡ o → ahead s ps k i ≡ map (placedAt k i) (listed o) ++ ahead s ps k (i + 1)
-      ahead-step o q =
-          ap (pathsBlocks s k i) here
-          ∙ path-step s k p (drop (k + 1) ps) i (listed o) h (ap listed (ap (blockOf (s .schema) (s .values) (s .defaults) (s .edits) p) (sym e) ∙ q))
-          ∙ ap (λ (qs : List Asked). map (placedAt k i) (listed o) ++ pathsBlocks s k (i + 1) qs) (sym here)
-
-      pub ahead-none : isNothing x ≡ true → ahead s ps k i ≡ ahead s ps k (i + 1)
-      ahead-none t = ahead-step nothing (no-block s p x t)
-
-      pub ahead-block : (b : Block) → blockOf (s .schema) (s .values) (s .defaults) (s .edits) p x ≡ just b → ahead s ps k i ≡ placedAt k i b ∷ ahead s ps k (i + 1)
-      ahead-block b q = ahead-step (just b) q
+  pub ahead-path : (p : Asked) → drop k ps ≡ p ∷ drop (k + 1) ps → ahead s ps k i ≡ pathBlocks s k p i ++ ahead s ps (k + 1) 0
+  unfolding pathsBlocks
+  ahead-path p here = ap (pathsBlocks s k i) here

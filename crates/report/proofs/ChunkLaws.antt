@@ -1,7 +1,7 @@
 -- What the chunking promises: a part stays within its limit, nothing is lost between parts, and every part gets on.
 use mathlib.Core.Path.{_≡_, refl, sym, ap, _∙_}
 use mathlib.Core.Bool.{Bool, true, false, false≢true}
-use mathlib.Core.List.{List, [], _∷_, _++_}
+use mathlib.Core.List.{List, [], _∷_, _++_, append-assoc, append-nil}
 use Prim.Native.Nat.{ℕ, zero, suc, _+_, _-_, _≤_, _<_}
 use native.Mathlib.Omega.{arith}
 use borrow.Author.Tests.{leb-true, leb-false, le-leb, lt-leb}
@@ -23,7 +23,7 @@ use Rattle.report.proofs.NextLaws.{blocks-after}
 use Rattle.report.proofs.PartLaws.{taken-within}
 
 -- THE PAYLOAD HAS EXACTLY payloadLength BYTES
-sizes-joined : (t : List Placed) → length (joined (trees t)) ≡ sizes t
+pub sizes-joined : (t : List Placed) → length (joined (trees t)) ≡ sizes t
 unfolding joined sizes
 sizes-joined [] = refl
 sizes-joined (x ∷ t) = length-append (spelling (blockTree (x .block))) (joined (trees t)) ∙ ap (λ (n : ℕ). size x + n) (sizes-joined t)
@@ -87,6 +87,48 @@ split room (x ∷ l) = go (leb (size x) room) (split (room - size x) l)
     go true h = ap (λ (m : List Placed). x ∷ m) h
     go false h = refl
 
+-- OF TWO LISTS one after the other, l and m
+pub joined-both : (l m : List Placed) → joined (trees (l ++ m)) ≡ joined (trees l) ++ joined (trees m)
+unfolding joined
+joined-both [] m = refl
+joined-both (x ∷ l) m =
+    ap (λ (b : List ℕ). spelling (blockTree (x .block)) ++ b) (joined-both l m)
+    ∙ sym (append-assoc (spelling (blockTree (x .block))) (joined (trees l)) (joined (trees m)))
+
+pub after-both : (at : Place) (l m : List Placed) → after at (l ++ m) ≡ after (after at l) m
+unfolding after
+after-both at [] m = refl
+after-both at (x ∷ l) m = after-both (x .next) l m
+
+none-left : (l : List Placed) → any l ≡ false → l ≡ []
+none-left [] h = refl
+none-left (x ∷ l) h = absurd (false≢true (sym h))
+
+pub taken-all : (room : ℕ) (l : List Placed) → any (left room l) ≡ false → taken room l ≡ l
+taken-all room l h =
+    sym (append-nil (taken room l)) ∙ ap (λ (m : List Placed). taken room l ++ m) (sym (none-left (left room l) h)) ∙ split room l
+
+-- l is taken whole: then m, with the room that is left
+pub taken-both : (room : ℕ) (l m : List Placed) → any (left room l) ≡ false →
+    (taken room (l ++ m) ≡ l ++ taken (room - sizes l) m) × (left room (l ++ m) ≡ left (room - sizes l) m)
+unfolding taken left sizes
+taken-both room [] m h = let q : room - 0 ≡ room = omega arith in (ap (λ (n : ℕ). taken n m) (sym q), ap (λ (n : ℕ). left n m) (sym q))
+taken-both room (x ∷ l) m h =
+    by-test (leb (size x) room)
+    (λ t. let q : room - size x - sizes l ≡ room - (size x + sizes l) = omega arith in
+    let r = taken-both (room - size x) l m (rw t at h) in
+    (rw (t, ← q) (ap (λ (k : List Placed). x ∷ k) (r .0)), rw (t, ← q) (r .1)))
+    (λ t. absurd (false≢true (sym (rw t at h))))
+
+-- it is not: then nothing of m
+pub taken-full : (room : ℕ) (l m : List Placed) → any (left room l) ≡ true → (taken room (l ++ m) ≡ taken room l) × (any (left room (l ++ m)) ≡ true)
+unfolding taken left
+taken-full room [] m h = absurd (false≢true h)
+taken-full room (x ∷ l) m h =
+    by-test (leb (size x) room)
+    (λ t. let r = taken-full (room - size x) l m (rw t at h) in (rw t (ap (λ (k : List Placed). x ∷ k) (r .0)), rw t (r .1)))
+    (λ t. (rw t refl, rw t refl))
+
 -- IN THE SAME VIEW, A READ GOES ON WITH WHAT WAS LEFT
 pub goes-on : (s : View) (ps : List Asked) (at : Place) (room : ℕ) → blocksFrom s ps (after at (taken room (blocksFrom s ps at))) ≡ left room (blocksFrom s ps at)
 goes-on s ps at room = blocks-after s ps at (taken room (blocksFrom s ps at)) (left room (blocksFrom s ps at)) (sym (split room (blocksFrom s ps at)))
@@ -115,10 +157,6 @@ each-left P room (x ∷ l) h = go (leb (size x) room) (each-left P (room - size 
     go : (b : Bool) → Each P (left (room - size x) l) → Each P (pick b (left (room - size x) l) (x ∷ l))
     go true g = g
     go false g = h
-
-none-left : (l : List Placed) → any l ≡ false → l ≡ []
-none-left [] h = refl
-none-left (x ∷ l) h = absurd (false≢true (sym h))
 
 -- so many parts as blocks, and one, are enough
 pub all-parts : (n : ℕ) (l : List Placed) → length l < n → Each (λ (x : Placed). size x ≤ blockRoom) l → together (parts n l) ≡ l

@@ -1,13 +1,12 @@
 -- The turns of the loop that fills a part.
-use mathlib.Core.Path.{_≡_, refl, sym, subst}
+use mathlib.Core.Path.{_≡_, refl, sym, ap, subst, _∙_}
 use mathlib.Core.Bool.{true, false}
-use mathlib.Core.List.{List, [], _∷_}
+use mathlib.Core.List.{List, [], _∷_, _++_}
 use Prim.Native.Nat.{ℕ, _+_, _-_, _≤_, _<_}
 use native.Mathlib.Nat.{add-zero}
 use native.Mathlib.Omega.{arith}
 use borrow.Author.Tests.{le-leb, lt-leb}
 use lib.Dec.{leb}
-use lib.ListN.{length, getD, drop}
 use Rattle.octets.specs.Store.{store, Stored}
 use Rattle.octets.proofs.StoreLaws.{then}
 use Rattle.interaction_writer.specs.Spelling.{spelling, joined}
@@ -17,12 +16,13 @@ use Rattle.selection.specs.declared.items.Item.{Item}
 use Rattle.selection.specs.Items.{span, itemAt}
 use Rattle.report.specs.declared.Place.{Place}
 use Rattle.report.specs.declared.Filled.{Filled}
-use Rattle.report.specs.Blocks.{View, Placed, isNothing, blockOf, startOf, placedAt}
+use Rattle.report.specs.Blocks.{View, Placed, isNothing, blockOf, startOf, placedAt, pathBlocks}
 use Rattle.report.specs.Offer.{Offered, OfferedIf}
-use Rattle.report.specs.Chunk.{size, taken, left, after}
+use Rattle.report.specs.Chunk.{size, any, sizes, taken, left, after, trees}
 use Rattle.report.specs.Part.{Filling}
 use Rattle.report.proofs.OfferLaws.{offered-just, offered-none, offered-some, offered-within}
-use Rattle.report.proofs.BlockLaws.{some-block, ahead, ahead-block}
+use Rattle.report.proofs.BlockLaws.{some-block, places-block}
+use Rattle.report.proofs.ChunkLaws.{sizes-joined, joined-both, after-both, taken-all, taken-both, taken-full}
 
 stored-none : (o : List ℕ) (at : ℕ) → Stored o at [] o at
 unfolding store
@@ -71,10 +71,34 @@ turn-of {old} {new} {start} {room} {r} l x m e y =
     }
 
 -- at place i of path k, which is p
-pub turn : (s : View) (ps : List Asked) (k i : ℕ) (p : Asked) → drop k ps ≡ p ∷ drop (k + 1) ps → i < span (s .schema) p →
+pub turn : (s : View) (k i : ℕ) (p : Asked) → i < span (s .schema) p →
     (x : Item) → x ≡ itemAt (s .schema) (s .grants) (s .skips) p i → isNothing x ≡ false →
     (old : List ℕ) (start room : ℕ) (new : List ℕ) (r : ℕ) → OfferedIf old start room (blockOf (s .schema) (s .values) (s .defaults) (s .edits) p x) new r →
-    Turn old start room (ahead s ps k i) (startOf k (i + 1)) (ahead s ps k (i + 1)) new r
-turn s ps k i p here h x e t old start room new r y =
+    Turn old start room (pathBlocks s k p i) (startOf k (i + 1)) (pathBlocks s k p (i + 1)) new r
+turn s k i p h x e t old start room new r y =
     let b = some-block s p x t in
-    turn-of (ahead s ps k i) (placedAt k i (b .block)) (ahead s ps k (i + 1)) (ahead-block s ps k i p here h x e (b .block) (b .there)) (offered-just old start room _ (b .block) new r (b .there) y)
+    turn-of (pathBlocks s k p i) (placedAt k i (b .block)) (pathBlocks s k p (i + 1)) (places-block s k p i h x e (b .block) (b .there)) (offered-just old start room _ (b .block) new r (b .there) y)
+
+-- ---- blocks of which the first ones, l, were offered by themselves
+
+module _ {o o₁ : List ℕ} {start room : ℕ} {at : Place} {l : List Placed} {f : Filled} (g : Filling o start room at l o₁ f) (m : List Placed) where
+  -- one of them did not fit: nothing of what follows is taken
+  pub fill-full : f .more ≡ true → Filling o start room at (l ++ m) o₁ f
+  fill-full t =
+      let (q, r) = taken-full room l m (sym (g .more) ∙ t) in
+      record { stored = rw q (g .stored); place = rw q (g .place); more = t ∙ sym r }
+
+  -- all did: then those that follow, in the room that is left
+  pub fill-both : f .more ≡ false → {new : List ℕ} {r : Filled} → Filling o₁ (f .end) (room - (f .end - start)) (f .place) m new r → Filling o start room at (l ++ m) new r
+  fill-both t {new} {r} h =
+      let z : any (left room l) ≡ false = sym (g .more) ∙ t in
+      let all = taken-all room l z in
+      let (q, e) = taken-both room l m z in
+      let n : f .end - start ≡ sizes l = omega (arith, g .stored .place, sizes-joined (taken room l), ap sizes all) in
+      let k : Filling o₁ (f .end) (room - sizes l) (f .place) m new r = subst (λ (j : ℕ). Filling o₁ (f .end) (room - j) (f .place) m new r) n h in
+      let w : Stored o start (joined (trees l)) o₁ (f .end) = subst (λ (t : List Placed). Stored o start (joined (trees t)) o₁ (f .end)) all (g .stored) in
+      record {
+        stored = rw (q, joined-both l (taken (room - sizes l) m)) (then w (k .stored));
+        place = k .place ∙ ap (λ (p : Place). after p (taken (room - sizes l) m)) (g .place ∙ ap (after at) all) ∙ sym (ap (after at) q ∙ after-both at l (taken (room - sizes l) m));
+        more = k .more ∙ sym (ap any e);
+      }

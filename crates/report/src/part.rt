@@ -7,7 +7,7 @@ ghost use Rattle.schema.specs.Check.{wellFormed};
 ghost use Rattle.interaction.specs.Read.{maxPaths};
 ghost use Rattle.values.specs.Values.{valuesOf};
 ghost use Rattle.selection.specs.Request.{filtersIn, askedPaths};
-ghost use Rattle.report.specs.Blocks.{isNothing, viewOf, blocksFrom, View};
+ghost use Rattle.report.specs.Blocks.{isNothing, viewOf, pathBlocks, blocksFrom, View};
 ghost use Rattle.report.specs.Chunk.{blockRoom, maxPayload};
 ghost use Rattle.report.specs.Part.{Filling, Made};
 use super::ATTRIBUTE_PHASE;
@@ -22,6 +22,7 @@ use interaction_writer::report::put_report_open;
 use schema::ATTRIBUTES;
 use schema::CLUSTERS;
 use schema::WORDS;
+use selection::asked::Asked;
 use selection::filters::skipped;
 use selection::items::Item;
 use selection::items::item_at;
@@ -47,7 +48,78 @@ fn is_nothing(x: Item) -> bool
     }
 }
 
-// Blocks from a place of the request on, one after the other, as many as there is room for.
+// The blocks of one path from one of its places on, one after the other, as many as there is room for.
+fn fill_path<'a>(
+    w: &'a [u64; WORDS],
+    words: &'a [u64; ATTRIBUTES],
+    nulls: &'a [bool; ATTRIBUTES],
+    edited: &'a [bool; ATTRIBUTES],
+    versions: &'a [u32; CLUSTERS],
+    defaults: &'a [u8],
+    edits: &'a [u8],
+    g: Grants,
+    skips: [bool; CLUSTERS],
+    p: Asked,
+    path: usize,
+    first: usize,
+    from: Place,
+    out: &mut [u8],
+    start: usize,
+    room: usize,
+) -> Filled
+    requires { ⌜ (wellFormed (now w) ≡ true) × (start + room ≤ length (now out)) ⌝ }
+    ensures { λ r. ⌜ Filling (now (out .entry)) start room from (pathBlocks (record { schema = now (w .entry); values = valuesOf (now (words .entry)) (now (nulls .entry)) (now (edited .entry)) (now (versions .entry)); defaults = now (defaults .entry); edits = now (edits .entry); grants = g; skips = skips }) path p first) (now (out .exit)) r ⌝ }
+{
+    let span = span_of(w, p);
+    let mut place = from;
+    let mut i = first;
+    let mut end = start;
+    let mut left = room;
+    while i < span {
+        let x = item_at(w, g, skips, p, i);
+        if is_nothing(x) {
+            i += 1;
+        } else {
+            let next = offer_item(
+                w,
+                words,
+                nulls,
+                edited,
+                versions,
+                defaults,
+                edits,
+                p,
+                x,
+                out,
+                end,
+                left,
+            );
+            if next == end {
+                return Filled {
+                    end,
+                    place,
+                    more: true,
+                };
+            }
+            left -= next - end;
+            end = next;
+            i += 1;
+            place = Place {
+                phase: ATTRIBUTE_PHASE,
+                path,
+                index: i,
+                sent: 0,
+            };
+        }
+    }
+    Filled {
+        end,
+        place,
+        more: false,
+    }
+}
+
+// Blocks from a place of the request on, path by path, as many as there is room for.
 fn fill<'a>(
     w: &'a [u64; WORDS],
     words: &'a [u64; ATTRIBUTES],
@@ -74,46 +146,32 @@ fn fill<'a>(
     let mut room = BLOCK_ROOM;
     while path < asked {
         let p = asked_at(row, path);
-        if span_of(w, p) <= i {
-            path += 1;
-            i = 0;
-        } else {
-            let x = item_at(w, g, skips, p, i);
-            if is_nothing(x) {
-                i += 1;
-            } else {
-                let next = offer_item(
-                    w,
-                    words,
-                    nulls,
-                    edited,
-                    versions,
-                    defaults,
-                    edits,
-                    p,
-                    x,
-                    out,
-                    end,
-                    room,
-                );
-                if next == end {
-                    return Filled {
-                        end,
-                        place,
-                        more: true,
-                    };
-                }
-                room -= next - end;
-                end = next;
-                i += 1;
-                place = Place {
-                    phase: ATTRIBUTE_PHASE,
-                    path,
-                    index: i,
-                    sent: 0,
-                };
-            }
+        let f = fill_path(
+            w,
+            words,
+            nulls,
+            edited,
+            versions,
+            defaults,
+            edits,
+            g,
+            skips,
+            p,
+            path,
+            i,
+            place,
+            out,
+            end,
+            room,
+        );
+        if f.more {
+            return f;
         }
+        room -= f.end - end;
+        end = f.end;
+        place = f.place;
+        path += 1;
+        i = 0;
     }
     Filled {
         end,
