@@ -9,7 +9,7 @@ use borrow.Author.Tests.{lt-ltb, lt-leb}
 use lib.Dec.{ltb}
 use lib.ListN.{length, getD, replicate}
 use lib.Seq.{getD-append-add}
-use Rattle.schema.specs.Layout.{clusterLimit}
+use Rattle.bounds.specs.Bounds.{clusterLimit}
 use Rattle.schema.specs.Rows.{ClusterRow, clusterRow, clusterCount, rowsFrom, filled}
 use Rattle.schema.proofs.RowLaws.{rows-length, rows-map, filled-at}
 use Rattle.acl.specs.declared.Entry.{Entry}

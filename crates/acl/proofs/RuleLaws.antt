@@ -8,10 +8,11 @@ use native.Mathlib.Omega.{arith}
 use borrow.Author.Tests.{leb-true, le-leb}
 use lib.Dec.{leb}
 use lib.ListN.{length}
+use Rattle.bounds.specs.Bounds.{entryLimit}
 use Rattle.schema.proofs.BoolLaws.{both, left, right}
 use Rattle.schema.specs.Layout.{administer}
 use Rattle.acl.specs.declared.Entry.{Entry}
-use Rattle.acl.specs.Access.{entryLimit, view, coversPlace, givenBy, levelOf, privilegeOk, privilegesOk, tableOk}
+use Rattle.acl.specs.Access.{view, coversPlace, givenBy, levelOf, privilegeOk, privilegesOk, tableOk}
 
 -- the entry's privilege is one of the four
 abbrev InRange : Entry → Type 0

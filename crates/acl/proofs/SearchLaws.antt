@@ -9,14 +9,14 @@ use borrow.Author.Tests.{leb-true, le-leb}
 use lib.Dec.{leb}
 use lib.ListN.{length, getD, set, take, drop, replicate, length-take, drop-of-length-le, replicate-append-replicate}
 use lib.Seq.{set-at, getD-at, drop-at, append-snoc, drop-cons, getD-take, take-length}
-use Rattle.schema.specs.Layout.{clusterLimit}
+use Rattle.bounds.specs.Bounds.{clusterLimit, entryLimit}
 use Rattle.schema.specs.Rows.{clusterRow, clusterCount, rowsFrom}
 use Rattle.schema.proofs.BoolLaws.{by-test}
 use Rattle.schema.proofs.RowLaws.{rows-length}
 use Rattle.acl.specs.declared.Entry.{Entry}
 use Rattle.acl.specs.declared.Grants.{Grants}
 use Rattle.acl.specs.declared.table.Access.{Access}
-use Rattle.acl.specs.Access.{entryLimit, givenBy, levelOf, grantsOf, privilegeOk, privilegesOk, tableOk}
+use Rattle.acl.specs.Access.{givenBy, levelOf, grantsOf, privilegeOk, privilegesOk, tableOk}
 use Rattle.acl.specs.Table.{tableRight, searched, beginning, levelWith, grantsWith, withEntry}
 use Rattle.acl.proofs.GrantLaws.{levelAt, grants-filled, level-in}
 

@@ -5,14 +5,11 @@ use mathlib.Core.List.{List, [], _∷_, _++_, map, List·Memᴰ}
 use mathlib.Core.Path.{_≡_}
 use lib.Dec.{eqb, leb, ltb}
 use lib.ListN.{length, getD, replicate}
-use Rattle.schema.specs.Layout.{clusterLimit, administer}
+use Rattle.bounds.specs.Bounds.{clusterLimit, entryLimit}
+use Rattle.schema.specs.Layout.{administer}
 use Rattle.schema.specs.Rows.{ClusterRow, clusterCount, clusters}
 use Rattle.acl.specs.declared.Entry.{Entry}
 use Rattle.acl.specs.declared.Grants.{Grants}
-
--- "At most .. 16 access entries"
-abbrev pub entryLimit : ℕ
-entryLimit = 16
 
 -- "View, Operate, Manage, Administer, each including those before it": 1 to 4
 abbrev pub view : ℕ

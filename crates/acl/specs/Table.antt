@@ -4,9 +4,9 @@ use mathlib.Core.Bool.{Bool, _&&_}
 use mathlib.Core.List.{List, _++_}
 use lib.Dec.{leb}
 use lib.ListN.{getD, take, drop, replicate}
-use Rattle.schema.specs.Layout.{clusterLimit}
+use Rattle.bounds.specs.Bounds.{clusterLimit, entryLimit}
 use Rattle.schema.specs.Rows.{clusterRow, clusterCount, rowsFrom}
-use Rattle.acl.specs.Access.{entryLimit, privilegeOk, givenBy, grantsOf, tableOk}
+use Rattle.acl.specs.Access.{privilegeOk, givenBy, grantsOf, tableOk}
 use Rattle.acl.specs.declared.Entry.{Entry}
 use Rattle.acl.specs.declared.Grants.{Grants}
 use Rattle.acl.specs.declared.table.Access.{Access}

@@ -3,7 +3,7 @@ ghost use mathlib.Core.Path.{_≡_};
 ghost use mathlib.Core.Bool.{_||_};
 ghost use Prim.Native.Nat.{max};
 ghost use Rattle.acl.specs.Access.{coversPlace, coversE, givenBy, privilegeOk, isGranted};
-use schema::CLUSTERS;
+use bounds::CLUSTERS;
 
 pub mod table;
 
@@ -15,9 +15,6 @@ pub const OPERATE: u8 = 2;
 pub const MANAGE: u8 = 3;
 
 pub const ADMINISTER: u8 = 4;
-
-// At most this many access entries.
-pub const ENTRIES: usize = 16;
 
 // An access entry gives a privilege to a subject, on an endpoint and a cluster, each one or any.
 pub struct Entry {

@@ -2,12 +2,12 @@
 ghost use mathlib.Core.Path.{_≡_};
 ghost use Prim.Native.Nat.{min};
 ghost use Rattle.acl.specs.Table.{beginning, grantsWith, withEntry, searched};
-use super::ENTRIES;
 use super::Entry;
 use super::Grants;
 use super::privilege_ok;
 use super::raised;
-use schema::CLUSTERS;
+use bounds::ACCESS_ENTRIES;
+use bounds::CLUSTERS;
 use schema::WORDS;
 
 // What a table says for a subject: whether it keeps the rules, refusal 2 where it does not, and what it grants.
@@ -27,7 +27,7 @@ fn used(count: usize, len: usize) -> usize
 fn begin(count: usize) -> Access
     ensures { λ r. ⌜ r ≡ beginning count ⌝ }
 {
-    let right = count <= ENTRIES;
+    let right = count <= ACCESS_ENTRIES;
     let level = [0u8; CLUSTERS];
     let grants = Grants { level };
     Access { right, grants }
@@ -81,7 +81,12 @@ pub fn search(table: &[Entry], count: usize, subject: u64, w: &[u64; WORDS]) -> 
 }
 
 // For whoever has the table by value: it is lent here, so that nobody above needs to.
-pub fn search_in(entries: [Entry; ENTRIES], count: usize, subject: u64, w: &[u64; WORDS]) -> Access
+pub fn search_in(
+    entries: [Entry; ACCESS_ENTRIES],
+    count: usize,
+    subject: u64,
+    w: &[u64; WORDS],
+) -> Access
     ensures { λ r. ⌜ r ≡ searched count entries subject (now (w .entry)) ⌝ }
 {
     search(&entries, count, subject, w)

@@ -5,6 +5,7 @@ use mathlib.Core.List.{List, [], _∷_, _++_, map}
 use Prim.Native.Nat.{ℕ, zero, suc, _+_, _*_, _/_, _%_, _^_, _≤_, _<_}
 use native.Mathlib.Omega.{arith}
 use lib.ListN.{length, getD, length-append}
+use Rattle.bounds.specs.Bounds.{maxPayload}
 use Rattle.tlv.specs.Tree.{Tree}
 use Rattle.tlv.specs.Value.{Datum}
 use Rattle.tlv.specs.Decode.{Opt}
@@ -17,6 +18,7 @@ use Rattle.interaction_writer.specs.Spelling.{spelling, Each}
 use Rattle.interaction_writer.specs.Block.{ShortText}
 use Rattle.interaction_writer.specs.Message.{messageTree, statusMembers}
 use Rattle.interaction_writer.proofs.EnvelopeLaws.{length-envelope}
+use Rattle.envelope.specs.Envelope.{maxMessage}
 use Rattle.interaction_writer.proofs.LengthLaws.{length-status-response}
 use Rattle.request_writer.specs.Request.{readMembers, writeMembers, entryTree}
 use Rattle.request_writer.proofs.FilterLaws.{filter-bound}
@@ -98,9 +100,9 @@ filters-few c = from-few c (c .«cluster_count») 0
 -- A MESSAGE has at least its envelope, and fits the buffer
 pub record Sized (message : List ℕ) : Type 0 where
   pub some : 0 < length message
-  pub fits : length message ≤ 1032
+  pub fits : length message ≤ maxMessage
 
-after-envelope : (edition opcode exchange turn : ℕ) (payload : List ℕ) → length payload ≤ 1024 → Sized (envelopeOctets edition opcode exchange turn ++ payload)
+after-envelope : (edition opcode exchange turn : ℕ) (payload : List ℕ) → length payload ≤ maxPayload → Sized (envelopeOctets edition opcode exchange turn ++ payload)
 after-envelope edition opcode exchange turn payload l =
     let n = length-append (envelopeOctets edition opcode exchange turn) payload in
     let e = length-envelope edition opcode exchange turn in

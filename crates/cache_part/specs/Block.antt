@@ -5,6 +5,7 @@ use mathlib.Core.List.{List}
 use Prim.Native.Nat.{ℕ, _^_, _-_}
 use lib.Dec.{ltb, leb}
 use lib.ListN.{length, take, drop}
+use Rattle.bounds.specs.Bounds.{versionLimit}
 use Rattle.tlv.specs.declared.Value.{Value}
 use Rattle.tlv.specs.declared.Value.the-variants as value
 use Rattle.tlv.specs.Octet.{pick}
@@ -53,7 +54,7 @@ itemOf p version v =
 
 unfoldable pub fateBy : List ℕ → Path → ℕ → Value → Fate
 fateBy s p version v =
-    pick (concreteP p && (ltb version (2 ^ 32) && usableIn s v)) (pick (longV v) Long (Taken (itemOf p version v))) Unusable
+    pick (concreteP p && (ltb version versionLimit && usableIn s v)) (pick (longV v) Long (Taken (itemOf p version v))) Unusable
 
 -- a version that is absent is above 32 bits, as every part of a path that is absent
 unfoldable pub fateOf : List ℕ → Report → Fate

@@ -83,7 +83,7 @@ fn fate_by(s: &[u8], p: Path, version: u64, v: Value) -> Fate
     if !concrete(p) {
         return Fate::Unusable;
     }
-    if 4294967296 <= version {
+    if bounds::VERSIONS <= version {
         return Fate::Unusable;
     }
     if !usable(s, v) {

@@ -16,7 +16,7 @@ use interaction_report::Part;
 use tlv::Cursor;
 
 // How many levels of containers a block may have: the message and its array are two of them.
-const LEFT: usize = tlv::MAX_DEPTH - 2;
+const LEFT: usize = bounds::MAX_DEPTH - 2;
 
 // The number that a part gets: 0, 6 or 7.
 pub fn judge_part(s: &[u8], p: Part, held: Cached) -> u8

@@ -7,6 +7,7 @@ use native.Mathlib.Omega.{arith}
 use borrow.Author.Tests.{eq-eqb, ne-eqb, leb-true, ltb-true}
 use lib.Dec.{eqb, leb, ltb}
 use lib.ListN.{length, length-append}
+use Rattle.bounds.specs.Bounds.{maxPayload}
 use Rattle.tlv.specs.Octet.{pick}
 use Rattle.tlv.specs.Decode.Opt.{just}
 use Rattle.tlv.proofs.Picks.{pick-elim}
@@ -128,7 +129,7 @@ module _ (l : List Block) (m : Bool) (h : Each Sent l) (page : List ℕ) (s : St
       ap (partTaken page s (reportOctets l m)) here ∙ part-as p m more n z
 
 -- THE REPLY AWAITED, in its envelope
-module _ (page : List ℕ) (s : State) (room : ℕ) (valid : panelRight page s ≡ true) (large : maxMessage ≤ room) (turn-fits : s .asked .turn < 2 ^ 16) (payload : List ℕ) (short : length payload ≤ 1024) where
+module _ (page : List ℕ) (s : State) (room : ℕ) (valid : panelRight page s ≡ true) (large : maxMessage ≤ room) (turn-fits : s .asked .turn < 2 ^ 16) (payload : List ℕ) (short : length payload ≤ maxPayload) where
   abbrev reply : ℕ → List ℕ
   reply opcode = envelopeOctets panelEdition opcode (s .asked .exchange) (s .asked .turn) ++ payload
 
@@ -154,7 +155,7 @@ module _ (page : List ℕ) (s : State) (room : ℕ) (valid : panelRight page s �
       replied writeResponseOpcode (omega arith) refl (rw (e, eq-eqb (s .asked .exchange) (s .asked .exchange) refl, eq-eqb (s .asked .turn) (s .asked .turn) refl) refl)
 
 -- one status is short
-outcome-short : (o : Outcome) → OutcomeFits o → length (outcomesOctets (o ∷ [])) ≤ 1024
+outcome-short : (o : Outcome) → OutcomeFits o → length (outcomesOctets (o ∷ [])) ≤ maxPayload
 unfolding joined
 outcome-short o f =
     let p = f .path-fits in

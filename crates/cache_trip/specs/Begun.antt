@@ -4,6 +4,7 @@ use mathlib.Core.Bool.{Bool}
 use mathlib.Core.List.{List}
 use Prim.Native.Nat.{ℕ, _+_, _^_, _≤_, _<_}
 use lib.ListN.{getD, drop}
+use Rattle.bounds.specs.Bounds.{versionLimit, maxFilters}
 use Rattle.tlv.specs.Value.{Datum, valueIn, datumIn}
 use Rattle.interaction.specs.Read.{readIn, readRead}
 use Rattle.interaction_write.specs.Write.{writeIn, writeRead}
@@ -19,8 +20,8 @@ use Rattle.cache.specs.declared.State.{State}
 
 -- versions of 32 bits, and no more clusters than a read may have filters
 pub record Sendable (c : Cached) : Type 0 where
-  pub versions : (i : ℕ) → getD (c .versions) i 0 < 2 ^ 32
-  pub clusters : c .«cluster_count» ≤ 32
+  pub versions : (i : ℕ) → getD (c .versions) i 0 < versionLimit
+  pub clusters : c .«cluster_count» ≤ maxFilters
 
 abbrev pub envelopeAs : ℕ → ℕ → ℕ → ℕ → Envelope
 envelopeAs edition opcode exchange turn = Whole (record { edition = edition; opcode = opcode; exchange = exchange; turn = turn })

@@ -1,16 +1,17 @@
--- What a panel holds at most (document 01, refusal 7: "a 257th entry, a 33rd cluster, or text over 200").
+-- What a panel holds at most, which is what a sign may have (document 01, refusal 7: "a 257th entry, a 33rd cluster, or text over 200").
 use Prim.Native.Nat.{ℕ, _*_, _^_}
+use Rattle.bounds.specs.Bounds.{clusterLimit, attributeLimit, textMax}
 
 abbrev pub maxEntries : ℕ
-maxEntries = 256
+maxEntries = attributeLimit
 
 abbrev pub maxClusters : ℕ
-maxClusters = 32
+maxClusters = clusterLimit
 
 abbrev pub textSize : ℕ
-textSize = 200
+textSize = textMax
 
--- the page of texts: a place of 200 bytes for each entry
+-- the page of texts: a place for each entry
 abbrev pub pageSize : ℕ
 pageSize = maxEntries * textSize
 

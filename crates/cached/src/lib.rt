@@ -10,12 +10,12 @@ pub mod shared; // shared.rt: whether the entries of a cluster share one version
 pub mod set; // set.rt: an entry set
 pub mod valid; // valid.rt: whether entries and page keep the rules
 
-// What is held at most.
-pub const ENTRIES: usize = 256;
+// What is held at most, which is what a sign may have.
+pub const ENTRIES: usize = bounds::ATTRIBUTES;
 
-pub const CLUSTERS: usize = 32;
+pub const CLUSTERS: usize = bounds::CLUSTERS;
 
-pub const TEXT_SIZE: usize = 200;
+pub const TEXT_SIZE: usize = bounds::TEXT_MAX;
 
 pub const PAGE_SIZE: usize = ENTRIES * TEXT_SIZE;
 

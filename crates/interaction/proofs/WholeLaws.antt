@@ -7,11 +7,12 @@ use native.Mathlib.Omega.{arith}
 use borrow.Author.Tests.{eq-eqb, ne-eqb, eqb-true}
 use lib.ListN.{length, getD}
 use lib.Dec.{eqb}
+use Rattle.bounds.specs.Bounds.{maxDepth}
 use Rattle.tlv.specs.declared.Element.{Element}
 use Rattle.tlv.specs.declared.Head.{Head}
 use Rattle.tlv.specs.declared.Head.the-variants.{Found, Malformed}
 use Rattle.tlv.specs.Octet.{pick, structure, endOfContainer}
-use Rattle.tlv.specs.Tree.{Tree, Trees, maxDepth, SpellsMessage, tagOfTree}
+use Rattle.tlv.specs.Tree.{Tree, Trees, SpellsMessage, tagOfTree}
 use Rattle.tlv.specs.Tree.Tag.{anonymous}
 use Rattle.tlv.specs.Tree.Tree.{container}
 use Rattle.tlv.specs.Tree.Trees.{none, more}

@@ -4,9 +4,10 @@ use mathlib.Core.List.{List, [], _∷_, _++_}
 use mathlib.Core.Bool.{Bool, false}
 use lib.ListN.{length, set}
 use lib.Dec.{ltb, eqb}
+use Rattle.bounds.specs.Bounds.{maxDepth}
 use Rattle.tlv.specs.declared.Element.{Element}
 use Rattle.tlv.specs.Octet.{pick, structure, array}
-use Rattle.tlv.specs.Tree.{Tree, Trees, maxDepth}
+use Rattle.tlv.specs.Tree.{Tree, Trees}
 use Rattle.tlv.specs.Tree.Tree.{primitive, container}
 use Rattle.tlv.specs.Head.{headAt}
 use Rattle.tlv.specs.Walk.{Got, bindG, foldAt, headed}

@@ -4,6 +4,7 @@ use mathlib.Core.List.{List, [], _∷_}
 use mathlib.Core.Bool.{Bool, true, false}
 use lib.ListN.{length, getD, replicate}
 use lib.Dec.{ltb, eqb}
+use Rattle.bounds.specs.Bounds.{maxPaths, maxFilters}
 use Rattle.tlv.specs.Octet.{pick, structure, array}
 use Rattle.tlv.specs.Tree.{Tree, Trees}
 use Rattle.tlv.specs.Walk.{Got, bindG, foldAt}
@@ -35,12 +36,6 @@ use Rattle.interaction.specs.declared.WantsPass.{WantsPass}
 use Rattle.members.specs.declared.Pass.{Pass}
 use Rattle.members.specs.Pass.{noPass, passFrom, numberBy, flagBy}
 use Rattle.interaction.specs.declared.ReadRequest.{ReadRequest}
-
-abbrev pub maxPaths : ℕ
-maxPaths = 16
-
-abbrev pub maxFilters : ℕ
-maxFilters = 32
 
 abbrev pub targetOf : Path → Target
 targetOf p = record { endpoint = p .endpoint; cluster = p .cluster; attribute = p .attribute }

@@ -9,17 +9,14 @@ use blocks::Filter;
 use blocks::FilterRead;
 use blocks::Path;
 use blocks::PathRead;
+use bounds::MAX_FILTERS;
+use bounds::MAX_PATHS;
 use members::ABSENT;
 use members::Item;
 use members::Pass;
 use tlv::Cursor;
 use tlv::Element;
 use tlv::Head;
-
-// How many paths and filters of a read, and entries of a write, are kept.
-pub const MAX_PATHS: usize = 16;
-
-pub const MAX_FILTERS: usize = 32;
 
 // A pass over the members of a message, from the untagged structure on that it starts with.
 pub fn begin_message(s: &[u8], listed: &[bool; 10], stops: &[bool; 10]) -> Pass
@@ -32,7 +29,7 @@ pub fn begin_message(s: &[u8], listed: &[bool; 10], stops: &[bool; 10]) -> Pass
     if e.form != 0 {
         return members::refused();
     }
-    members::begin(s, e, tlv::MAX_DEPTH, tlv::STRUCTURE, listed, stops)
+    members::begin(s, e, bounds::MAX_DEPTH, tlv::STRUCTURE, listed, stops)
 }
 
 // Whether a pass has ended where the payload ends.
@@ -108,7 +105,7 @@ fn target_of(p: Path) -> Target
 pub struct Paths {
     pub good: bool,
     pub count: usize,
-    pub kept: [Target; 16],
+    pub kept: [Target; MAX_PATHS],
 }
 
 const NOWHERE: Target = Target {
@@ -123,7 +120,7 @@ fn no_paths() -> Paths
     Paths {
         good: false,
         count: 0,
-        kept: [NOWHERE; 16],
+        kept: [NOWHERE; MAX_PATHS],
     }
 }
 
@@ -166,7 +163,7 @@ pub fn paths_from(s: &[u8], c: Cursor, left: usize) -> PathList
     ensures { λ r. ⌜ r ≡ pathsEnd (pathsAt left (now (s .entry)) (c .at)) ⌝ }
 {
     let mut count: usize = 0;
-    let mut kept = [NOWHERE; 16];
+    let mut kept = [NOWHERE; MAX_PATHS];
     let mut at = c.at;
     loop {
         let item = members::item_at(s, Cursor { at }, tlv::ARRAY);
@@ -221,7 +218,7 @@ pub struct Wanted {
 pub struct Wants {
     pub good: bool,
     pub count: usize,
-    pub kept: [Wanted; 32],
+    pub kept: [Wanted; MAX_FILTERS],
 }
 
 const UNWANTED: Wanted = Wanted {
@@ -236,7 +233,7 @@ fn no_wants() -> Wants
     Wants {
         good: false,
         count: 0,
-        kept: [UNWANTED; 32],
+        kept: [UNWANTED; MAX_FILTERS],
     }
 }
 
@@ -298,7 +295,7 @@ pub fn wants_from(s: &[u8], c: Cursor, left: usize) -> WantList
     ensures { λ r. ⌜ r ≡ wantsEnd (wantsAt left (now (s .entry)) (c .at)) ⌝ }
 {
     let mut count: usize = 0;
-    let mut kept = [UNWANTED; 32];
+    let mut kept = [UNWANTED; MAX_FILTERS];
     let mut at = c.at;
     loop {
         let item = members::item_at(s, Cursor { at }, tlv::ARRAY);
@@ -428,7 +425,7 @@ fn pass_paths(s: &[u8], m: Pass, before: Paths, stops: &[bool; 10]) -> PathsPass
         };
     }
     let inner = m.head;
-    let f = paths_of(s, inner, tlv::MAX_DEPTH - 1);
+    let f = paths_of(s, inner, bounds::MAX_DEPTH - 1);
     let paths = f.paths;
     if !paths.good {
         return PathsPass {
@@ -441,7 +438,7 @@ fn pass_paths(s: &[u8], m: Pass, before: Paths, stops: &[bool; 10]) -> PathsPass
     let pass = members::resume(
         s,
         after,
-        tlv::MAX_DEPTH - 1,
+        bounds::MAX_DEPTH - 1,
         tlv::STRUCTURE,
         &listed,
         stops,
@@ -466,12 +463,12 @@ fn pass_wants(s: &[u8], m: Pass, stops: &[bool; 10]) -> WantsPass
             wants: Wants {
                 good: true,
                 count: 0,
-                kept: [UNWANTED; 32],
+                kept: [UNWANTED; MAX_FILTERS],
             },
         };
     }
     let inner = m.head;
-    let f = wants_of(s, inner, tlv::MAX_DEPTH - 1);
+    let f = wants_of(s, inner, bounds::MAX_DEPTH - 1);
     let wants = f.wants;
     if !wants.good {
         return WantsPass {
@@ -484,7 +481,7 @@ fn pass_wants(s: &[u8], m: Pass, stops: &[bool; 10]) -> WantsPass
     let pass = members::resume(
         s,
         after,
-        tlv::MAX_DEPTH - 1,
+        bounds::MAX_DEPTH - 1,
         tlv::STRUCTURE,
         &listed,
         stops,
@@ -530,7 +527,7 @@ pub fn read_request(s: &[u8]) -> ReadRequest
     let none = Paths {
         good: true,
         count: 0,
-        kept: [NOWHERE; 16],
+        kept: [NOWHERE; MAX_PATHS],
     };
     let first = pass_paths(s, m, none, &filters);
     let second = pass_wants(s, first.pass, &paths);

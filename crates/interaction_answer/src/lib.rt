@@ -99,14 +99,14 @@ pub fn write_response(s: &[u8]) -> Answered
         return Answered::NotOne;
     }
     let inner = m.head;
-    let OneRead::Only(x, after) = one_of(s, inner, tlv::MAX_DEPTH - 1) else {
+    let OneRead::Only(x, after) = one_of(s, inner, bounds::MAX_DEPTH - 1) else {
         return Answered::NotOne;
     };
     let never = members::NO_STOP;
     let z = members::resume(
         s,
         after,
-        tlv::MAX_DEPTH - 1,
+        bounds::MAX_DEPTH - 1,
         tlv::STRUCTURE,
         &listed,
         &never,

@@ -162,7 +162,7 @@ pub fn report_data(s: &[u8]) -> Part
         return part_of(s.len(), m, 0, 0);
     }
     let inner = m.head;
-    let n = blocks_of(s, inner, tlv::MAX_DEPTH - 1);
+    let n = blocks_of(s, inner, bounds::MAX_DEPTH - 1);
     if !n.good {
         return no_part();
     }
@@ -171,7 +171,7 @@ pub fn report_data(s: &[u8]) -> Part
     let z = members::resume(
         s,
         after,
-        tlv::MAX_DEPTH - 1,
+        bounds::MAX_DEPTH - 1,
         tlv::STRUCTURE,
         &listed,
         &never,

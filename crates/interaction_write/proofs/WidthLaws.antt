@@ -7,6 +7,7 @@ use native.Mathlib.Omega.{arith}
 use borrow.Author.Tests.{eqb-false, ltb-false, not-true}
 use lib.ListN.{length, getD}
 use lib.Dec.{eqb, ltb}
+use Rattle.bounds.specs.Bounds.{maxWrites}
 use Rattle.tlv.specs.declared.Head.{Head}
 use Rattle.tlv.specs.declared.Head.the-variants.{Found, Malformed}
 use Rattle.tlv.specs.Octet.{pick, array, endOfContainer, list, structure}
@@ -25,7 +26,7 @@ use Rattle.blocks.specs.Data.{DataOf, tripleTags, versioned, anyIn, dataFrom, d
 use Rattle.interaction.specs.Message.{snoc, listAt, firstOf, messageAt, given}
 use Rattle.interaction.proofs.KeepLaws.{first-none}
 use Rattle.interaction_write.specs.declared.Entry.{Entry}
-use Rattle.interaction_write.specs.Write.{maxWrites, EntryOf, entryFor, entryIf, entryAt, entryStruct, noEntry, WriteOf, writeTags, unchunked, isEmpty, writeFrom, writeIn, writeRead}
+use Rattle.interaction_write.specs.Write.{EntryOf, entryFor, entryIf, entryAt, entryStruct, noEntry, WriteOf, writeTags, unchunked, isEmpty, writeFrom, writeIn, writeRead}
 
 -- ---- what holds of whatever is read
 

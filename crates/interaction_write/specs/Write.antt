@@ -5,6 +5,7 @@ use mathlib.Core.List.{List, [], _∷_, map}
 use mathlib.Core.Bool.{Bool, true, false}
 use lib.ListN.{length, getD, replicate}
 use lib.Dec.{ltb, eqb}
+use Rattle.bounds.specs.Bounds.{maxWrites}
 use Rattle.tlv.specs.Octet.{pick, array}
 use Rattle.tlv.specs.Tree.{Tree, Trees}
 use Rattle.tlv.specs.Walk.{Got, bindG, foldAt}
@@ -28,9 +29,6 @@ use Rattle.interaction_write.specs.declared.Entry.{Entry}
 use Rattle.interaction_write.specs.declared.Entries.{Entries}
 use Rattle.interaction_write.specs.declared.EntryList.{EntryList}
 use Rattle.interaction_write.specs.declared.WriteRequest.{WriteRequest}
-
-abbrev pub maxWrites : ℕ
-maxWrites = 16
 
 -- an entry, over what data is
 pub record EntryOf (D : Type 0) : Type 0 where

@@ -6,14 +6,12 @@ ghost use Rattle.interaction.specs.Message.{listOn};
 ghost use Rattle.interaction_write.specs.Write.{entryOf, entryAt, entryOn, entryRead, entriesAt, entriesRead, entriesEnd, unchunked, writeIn, writeRead, writeBy};
 use blocks::Data;
 use blocks::DataRead;
+use bounds::MAX_WRITES;
 use members::ABSENT;
 use members::Item;
 use members::Pass;
 use tlv::Cursor;
 use tlv::Element;
-
-// How many entries of a write are kept.
-pub const MAX_WRITES: usize = 16;
 
 // An entry of a write: the version it was given for or ABSENT, the attribute it names, and where its data stands.
 pub struct Entry {
@@ -28,7 +26,7 @@ pub struct Entry {
 pub struct Entries {
     pub good: bool,
     pub count: usize,
-    pub kept: [Entry; 16],
+    pub kept: [Entry; MAX_WRITES],
 }
 
 const NO_ENTRY: Entry = Entry {
@@ -45,7 +43,7 @@ fn no_entries() -> Entries
     Entries {
         good: false,
         count: 0,
-        kept: [NO_ENTRY; 16],
+        kept: [NO_ENTRY; MAX_WRITES],
     }
 }
 
@@ -102,7 +100,7 @@ pub fn entries_from(s: &[u8], c: Cursor, left: usize) -> EntryList
     ensures { λ r. ⌜ r ≡ entriesEnd (entriesAt left (now (s .entry)) (c .at)) ⌝ }
 {
     let mut count: usize = 0;
-    let mut kept = [NO_ENTRY; 16];
+    let mut kept = [NO_ENTRY; MAX_WRITES];
     let mut at = c.at;
     loop {
         let item = members::item_at(s, Cursor { at }, tlv::ARRAY);
@@ -247,7 +245,7 @@ pub fn write_request(s: &[u8]) -> WriteRequest
         return refused_write();
     }
     let inner = m.head;
-    let f = entries_of(s, inner, tlv::MAX_DEPTH - 1);
+    let f = entries_of(s, inner, bounds::MAX_DEPTH - 1);
     let entries = f.entries;
     if !entries.good {
         return refused_write();
@@ -257,7 +255,7 @@ pub fn write_request(s: &[u8]) -> WriteRequest
     let z = members::resume(
         s,
         after,
-        tlv::MAX_DEPTH - 1,
+        bounds::MAX_DEPTH - 1,
         tlv::STRUCTURE,
         &listed,
         &never,

@@ -6,10 +6,11 @@ use Prim.Native.Nat.{ℕ, _+_, _^_, _<_, _≤_}
 use native.Mathlib.Nat.{max-le}
 use native.Mathlib.Omega.{arith}
 use lib.ListN.{length, length-append}
+use Rattle.bounds.specs.Bounds.{maxDepth}
 use Rattle.octets.specs.Store.{store, Stored}
 use Rattle.octets.proofs.StoreLaws.{then, store-over}
 use Rattle.tlv.specs.Octet.{structure, array}
-use Rattle.tlv.specs.Tree.{Tree, Trees, Spells, SpellsMessage, depth, depths, maxDepth, stands}
+use Rattle.tlv.specs.Tree.{Tree, Trees, Spells, SpellsMessage, depth, depths, stands}
 use Rattle.tlv.specs.Tree.Tag.{context}
 use Rattle.tlv.specs.Tree.Tree.{container}
 use Rattle.tlv.specs.Walk.Got.{got}

@@ -2,6 +2,7 @@
 use Prim.Native.Nat.{ℕ, _≤_}
 use mathlib.Core.Bool.{Bool}
 use lib.ListN.{length}
+use Rattle.bounds.specs.Bounds.{textMax}
 use Rattle.tlv.specs.Octet.{structure, list}
 use Rattle.tlv.specs.Tree.{Tree, Trees, Primitive}
 use Rattle.tlv.specs.Tree.Tag.{anonymous, context}
@@ -62,12 +63,12 @@ unfoldable pub answerTree : ℕ → ℕ → ℕ → ℕ → Tree
 answerTree endpoint cluster attribute code =
     container anonymous structure (answerMembers endpoint cluster attribute code)
 
--- document 01, A sign's plan: a text has at most 200 bytes
+-- a text has at most what a sign's plan allows it
 unfoldable pub ShortText : Datum → Type 0
 ShortText Datum.null = Unit {0}
 ShortText (Datum.boolean b) = Unit {0}
 ShortText (Datum.unsigned n) = Unit {0}
 ShortText (Datum.signed z) = Unit {0}
 ShortText (Datum.float n) = Unit {0}
-ShortText (Datum.text bs) = length bs ≤ 200
+ShortText (Datum.text bs) = length bs ≤ textMax
 ShortText Datum.other = Unit {0}

@@ -1,5 +1,6 @@
 -- What the blocks that we write are meant to say, in terms of the readers of blocks.
 use Prim.Native.Nat.{ℕ, _^_, _<_}
+use Rattle.bounds.specs.Bounds.{versionLimit}
 use Rattle.tlv.specs.Tree.{Tree}
 use Rattle.tlv.specs.Tree.Tag.{context}
 use Rattle.tlv.specs.Tree.Tree.{primitive}
@@ -39,7 +40,7 @@ pub record PathFits (endpoint cluster attribute : ℕ) : Type 0 where
 
 -- a block that can be written: its numbers have their widths, and its value is one that we write
 unfoldable pub Fits : Block → Type 0
-Fits (value version endpoint cluster attribute d) = (version < 2 ^ 32) × (PathFits endpoint cluster attribute × Writable (primitiveD d))
+Fits (value version endpoint cluster attribute d) = (version < versionLimit) × (PathFits endpoint cluster attribute × Writable (primitiveD d))
 Fits (status endpoint cluster attribute code) = PathFits endpoint cluster attribute × (code < 2 ^ 8)
 
 unfoldable pub blockMeans : Block → ReportOf Tree

@@ -10,6 +10,7 @@ use lib.Dec.{leb, eqb}
 use lib.ListN.{length, take, drop, length-take, length-drop}
 use types.Run.{OneOf, miss}
 use denote.Enum.Declared.{tagOf}
+use Rattle.bounds.specs.Bounds.{textMax}
 use Rattle.tlv.proofs.Value.{the-type}
 use Rattle.tlv.specs.declared.Value.{Value}
 use Rattle.tlv.specs.declared.Value.the-variants as Parsed
@@ -19,7 +20,7 @@ use Rattle.kinds.specs.declared.Range.{Range}
 use Rattle.kinds.specs.declared.Kind.{Kind}
 use Rattle.kinds.specs.declared.Kind.the-variants as Kinds
 use Rattle.kinds.specs.declared.Verdict.the-variants.{InvalidDataType}
-use Rattle.kinds.specs.Limits.{byKind, textMax, limited, wrong, against, nullOf, judged, inside, also, againstIn, judgedIn}
+use Rattle.kinds.specs.Limits.{byKind, limited, wrong, against, nullOf, judged, inside, also, againstIn, judgedIn}
 
 -- ---- a value's type and a kind: the kind's own type, or the wrong one
 

@@ -7,13 +7,14 @@ use lib.IntN.{pos, negsuc}
 use lib.Dec.{leb}
 use lib.ListN.{length}
 use lib.Ieee.{ofBits, nanBits, le}
+use Rattle.bounds.specs.Bounds.{textMax}
 use Rattle.tlv.specs.declared.Value.the-variants.{Signed}
 use Rattle.tlv.specs.Value.{text, float, signed}
 use Rattle.utf8.specs.WellFormed.{wellFormed}
 use Rattle.kinds.specs.declared.Kind.{Kind}
 use Rattle.kinds.specs.declared.Kind.the-variants as Kinds
 use Rattle.kinds.specs.Float.{rangeOf, inRange, rangeOk}
-use Rattle.kinds.specs.Limits.{statusCode, textMax, limited, against, judged}
+use Rattle.kinds.specs.Limits.{statusCode, limited, against, judged}
 use Rattle.kinds.specs.Stored.{wordOf, valueFrom, nextVersion}
 
 -- S6: 0.0 to 100.0

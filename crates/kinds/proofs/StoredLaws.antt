@@ -11,6 +11,7 @@ use mir.Syntax.{w64}
 use mir.Val.{Fits, SFits}
 use mir.ValLaws.{toZ-ofZ, ofZ-toZ}
 use denote.Enum.Declared.{tagOf}
+use Rattle.bounds.specs.Bounds.{textMax}
 use Rattle.tlv.proofs.Value.{the-type}
 use Rattle.tlv.specs.declared.Value.{Value}
 use Rattle.tlv.specs.declared.Value.the-variants.{Null, Boolean, Unsigned, Signed, Float, Text, Other}
@@ -19,7 +20,7 @@ use Rattle.kinds.specs.declared.Kind.{Kind}
 use Rattle.kinds.specs.declared.Kind.the-variants as Kinds
 use Rattle.kinds.specs.declared.Verdict.the-variants.{Success}
 use Rattle.kinds.specs.Float.{inRange}
-use Rattle.kinds.specs.Limits.{textMax, limited, against, againstIn, nullOf, inside, judgedIn}
+use Rattle.kinds.specs.Limits.{limited, against, againstIn, nullOf, inside, judgedIn}
 use Rattle.kinds.specs.Stored.{wordOf, valueFrom, held, differing, equal, nextVersion}
 use Rattle.kinds.proofs.LimitLaws.{Fit, fit, also-wrong, ownTag, text-verdict}
 use Rattle.kinds.proofs.LimitLaws.Fit.{boolean, unsigned, signed, float, text, apart}

@@ -6,6 +6,7 @@ use lib.IntN.{ℤ}
 use lib.Signed.{leZ}
 use lib.Dec.{leb}
 use lib.ListN.{length}
+use Rattle.bounds.specs.Bounds.{textMax}
 use Rattle.tlv.specs.declared.Value.{Value}
 use Rattle.tlv.specs.declared.Value.the-variants as Parsed
 use Rattle.tlv.specs.Octet.{pick}
@@ -23,10 +24,6 @@ unfoldable pub statusCode : Verdict → ℕ
 statusCode Success = 0x00
 statusCode ConstraintError = 0x87
 statusCode InvalidDataType = 0x8D
-
--- "text of up to 200 bytes"
-abbrev pub textMax : ℕ
-textMax = 200
 
 -- one answer for each of the five kinds, in the order boolean, unsigned, signed, float, text
 abbrev pub byKind : {A : Type 0} → A → (ℕ → ℕ → A) → (ℤ → ℤ → A) → (Range → A) → A → Kind → A

@@ -5,12 +5,13 @@ use Prim.Native.Nat.{ℕ, _+_, _%_}
 use lib.Dec.{leb, ltb, eqb}
 use mir.Syntax.{w64}
 use mir.Val.{toZ, ofZ}
+use Rattle.bounds.specs.Bounds.{textMax, versionLimit}
 use Rattle.tlv.specs.declared.Value.{Value}
 use Rattle.tlv.specs.declared.Value.the-variants.{Null, Boolean, Unsigned, Signed, Float, Text, Other}
 use Rattle.tlv.specs.Octet.{pick}
 use Rattle.kinds.specs.declared.Kind.{Kind}
 use Rattle.kinds.specs.Float.{inRange}
-use Rattle.kinds.specs.Limits.{byKind, between, betweenZ, textMax}
+use Rattle.kinds.specs.Limits.{byKind, between, betweenZ}
 
 -- the 64 bits that a value is stored as; a text's are its length, its bytes lie in a page
 unfoldable pub wordOf : Value → ℕ
@@ -48,4 +49,4 @@ equal (x ∷ a) (y ∷ b) = eqb x y && equal a b
 
 -- "each change adds one to the cluster's version, 2^32 - 1 going to 0"
 unfoldable pub nextVersion : ℕ → ℕ
-nextVersion v = (v + 1) % 4294967296
+nextVersion v = (v + 1) % versionLimit

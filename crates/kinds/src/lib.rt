@@ -19,9 +19,6 @@ pub enum Kind {
     Text,
 }
 
-// The most bytes that a text has (`textMax` of the definitions).
-pub const TEXT_MAX: usize = 200;
-
 // What a new value gets.
 pub enum Verdict {
     Success,

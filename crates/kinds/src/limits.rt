@@ -1,9 +1,9 @@
 // A new value against a kind and its limits, and a stored float. (Stored values of every kind are judged by their words: `node::held`.)
 use super::Kind;
 use super::Range;
-use super::TEXT_MAX;
 use super::Verdict;
 use super::float::in_range;
+use bounds::TEXT_MAX;
 use tlv::Value;
 ghost use mathlib.Core.Path.{_≡_};
 ghost use mathlib.Core.List.{List};

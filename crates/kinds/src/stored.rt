@@ -1,5 +1,6 @@
 // Stored values: 64 bits and a null flag; whether a new one differs; the version after a change.
 use super::Kind;
+use bounds::VERSIONS;
 use tlv::Value;
 ghost use mathlib.Core.Path.{_≡_};
 ghost use mir.Syntax.{w64};
@@ -94,5 +95,5 @@ pub fn same_bytes(a: &[u8], b: &[u8]) -> bool
 pub fn next_version(v: u32) -> u32
     ensures { λ r. ⌜ r ≡ nextVersion v ⌝ }
 {
-    if v == 4294967295 { 0 } else { v + 1 }
+    if v as u64 + 1 == VERSIONS { 0 } else { v + 1 }
 }

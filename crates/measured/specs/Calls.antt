@@ -6,11 +6,11 @@ use lib.Dec.{eqb}
 use lib.ListN.{replicate}
 use mir.Syntax.{w64}
 use mir.Val.{toZ}
+use Rattle.bounds.specs.Bounds.{entryLimit}
 use Rattle.tlv.specs.Octet.{pick}
 use Rattle.tlv.specs.declared.Value.{Value}
 use Rattle.tlv.specs.declared.Value.the-variants.{Null, Boolean, Unsigned, Signed, Float, Text}
 use Rattle.acl.specs.declared.Entry.{Entry}
-use Rattle.acl.specs.Access.{entryLimit}
 use Rattle.server.specs.declared.Outcome.{Outcome}
 use Rattle.measured.specs.declared.calls.Last.{Last}
 

@@ -3,7 +3,7 @@ use mathlib.Core.Bool.{Bool, _&&_}
 use mathlib.Core.List.{List}
 use Prim.Native.Nat.{ℕ}
 use lib.ListN.{replicate}
-use Rattle.schema.specs.Layout.{clusterLimit}
+use Rattle.bounds.specs.Bounds.{clusterLimit}
 use Rattle.schema.specs.Check.{wellFormed}
 use Rattle.node.specs.Check.{numbersRight}
 use Rattle.acl.specs.declared.Grants.{Grants}

@@ -12,12 +12,12 @@ ghost use Rattle.server.specs.Receive.{received, Reacted};
 ghost use Rattle.server.specs.Start.{started, Starts, alteredBy, Alters};
 ghost use Rattle.measured.specs.Calls.{openEntries, outcomeOf, givenValue};
 use acl::ADMINISTER;
-use acl::ENTRIES;
 use acl::Entry;
+use bounds::ACCESS_ENTRIES;
+use bounds::ATTRIBUTES;
+use bounds::CLUSTERS;
 use kinds::stored::signed_of;
 use replies::MAX_MESSAGE;
-use schema::ATTRIBUTES;
-use schema::CLUSTERS;
 use schema::WORDS;
 use selection::request::ROW_WORDS;
 use server::receive::receive_in;
@@ -33,7 +33,7 @@ pub struct Last {
 }
 
 // One access entry: every privilege, for anyone, everywhere.
-fn open_entries() -> [Entry; ENTRIES]
+fn open_entries() -> [Entry; ACCESS_ENTRIES]
     ensures { λ r. ⌜ r ≡ openEntries ⌝ }
 {
     let all = Entry {
@@ -45,7 +45,7 @@ fn open_entries() -> [Entry; ENTRIES]
         any_cluster: true,
         cluster: 0,
     };
-    [all; ENTRIES]
+    [all; ACCESS_ENTRIES]
 }
 
 #[no_mangle]

@@ -3,9 +3,10 @@ use mathlib.Core.Path.{_≡_, refl}
 use mathlib.Core.List.{List, [], _∷_, _++_}
 use Prim.Native.Nat.{ℕ, _+_, _*_, _-_, _^_}
 use lib.Ieee.{ofBits, le}
+use Rattle.bounds.specs.Bounds.{clusterLimit, attributeLimit}
 use Rattle.utf8.specs.WellFormed.{wellFormed, completes, trailing, after, table, within}
 use Rattle.kinds.specs.Float.{rangeOk}
-use Rattle.schema.specs.Layout.{headerSize, clusterLimit, attributeLimit}
+use Rattle.schema.specs.Layout.{headerSize}
 use Rattle.schema.specs.Rows.{column, rowsFrom}
 use Rattle.schema.specs.Check as Schema
 use Rattle.schema.specs.Check.{every, count, rises, changes}

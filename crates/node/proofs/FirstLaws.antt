@@ -7,9 +7,9 @@ use native.Mathlib.Omega.{arith}
 use borrow.Author.Tests.{eqb-true, eqb-false, ne-eqb, leb-true, le-leb, ltb-true, lt-ltb}
 use lib.Dec.{eqb, leb, ltb}
 use lib.ListN.{length}
+use Rattle.bounds.specs.Bounds.{textMax}
 use Rattle.kinds.specs.declared.Kind.the-variants.{Float, Text}
 use Rattle.kinds.specs.Float.{float32, finite, rangeOf, rangeOk, inRange}
-use Rattle.kinds.specs.Limits.{textMax}
 use Rattle.kinds.specs.Stored.{held}
 use Rattle.kinds.proofs.FloatLaws.{floatOf-finite, first-in-range}
 use Rattle.schema.specs.Layout.{half}

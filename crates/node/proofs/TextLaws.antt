@@ -7,12 +7,13 @@ use native.Mathlib.Omega.{arith}
 use borrow.Author.Tests.{eqb-true, leb-true, le-leb, ltb-true, ltb-false}
 use lib.Dec.{leb, ltb}
 use lib.ListN.{length, take, drop}
+use Rattle.bounds.specs.Bounds.{textMax}
 use Rattle.utf8.specs.WellFormed.{wellFormed}
 use Rattle.tlv.specs.declared.Value.the-variants as Parsed
 use Rattle.octets.specs.Store.{store}
 use Rattle.kinds.specs.declared.Kind.the-variants as Kinds
 use Rattle.kinds.specs.declared.Verdict.the-variants.{Success}
-use Rattle.kinds.specs.Limits.{textMax, limited, inside, judgedIn}
+use Rattle.kinds.specs.Limits.{limited, inside, judgedIn}
 use Rattle.kinds.specs.Stored.{valueFrom}
 use Rattle.kinds.proofs.LimitLaws.{text-verdict, present-verdict}
 use Rattle.kinds.proofs.StoredLaws.{held-allowed}

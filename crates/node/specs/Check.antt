@@ -6,10 +6,11 @@ use lib.Dec.{ltb, leb}
 use lib.ListN.{length, take, drop}
 use mir.Syntax.{w64}
 use mir.Val.{toZ}
+use Rattle.bounds.specs.Bounds.{textMax}
 use Rattle.tlv.specs.Octet.{pick}
 use Rattle.utf8.specs.WellFormed.{wellFormed}
 use Rattle.kinds.specs.Float.{rangeOk}
-use Rattle.kinds.specs.Limits.{textMax, between, betweenZ}
+use Rattle.kinds.specs.Limits.{between, betweenZ}
 use Rattle.schema.specs.Layout.{half}
 use Rattle.schema.specs.Rows.{AttributeRow, attributeRow, attributeCount, factoryStart, factoryLength}
 use Rattle.schema.specs.Check.{every, textCount}

@@ -5,8 +5,9 @@ use Prim.Native.Nat.{ℕ, _%_}
 use lib.Dec.{leb, ltb}
 use mir.Syntax.{w64}
 use mir.Val.{toZ}
+use Rattle.bounds.specs.Bounds.{textMax}
 use Rattle.kinds.specs.Float.{rangeOf, inRange}
-use Rattle.kinds.specs.Limits.{textMax, between, betweenZ}
+use Rattle.kinds.specs.Limits.{between, betweenZ}
 use Rattle.schema.specs.Layout.{half}
 use Rattle.node.specs.Attributes.{byCode}
 use Rattle.node.specs.Check.{floatRight}

@@ -4,9 +4,9 @@ use mathlib.Core.Bool.{true, false}
 use mathlib.Core.List.{List}
 use Prim.Native.Nat.{ℕ, _+_, _^_, _≤_, _<_}
 use lib.ListN.{length, take, drop}
+use Rattle.bounds.specs.Bounds.{textMax}
 use Rattle.utf8.specs.WellFormed.{wellFormed}
 use Rattle.kinds.specs.Float.{rangeOk}
-use Rattle.kinds.specs.Limits.{textMax}
 use Rattle.kinds.specs.Stored.{held}
 use Rattle.schema.specs.Rows.{AttributeRow, attributes, factoryStart, factoryLength}
 use Rattle.schema.specs.Check.{textCount}

@@ -3,7 +3,7 @@
 use super::FLOAT;
 use super::SIGNED;
 use super::UNSIGNED;
-use kinds::TEXT_MAX;
+use bounds::TEXT_MAX;
 use kinds::float::range_ok;
 use kinds::stored::signed_of;
 use schema::HALF;
@@ -13,8 +13,8 @@ ghost use mathlib.Core.Path.{_≡_};
 ghost use Prim.Native.Nat.{_<_};
 ghost use mir.Syntax.{w64};
 ghost use mir.Val.{toZ};
+ghost use Rattle.bounds.specs.Bounds.{attributeLimit};
 ghost use Rattle.kinds.specs.Limits.{between, betweenZ};
-ghost use Rattle.schema.specs.Layout.{attributeLimit};
 ghost use Rattle.schema.specs.Rows.{attributeRow};
 ghost use Rattle.node.specs.Check.{floatRight, numberRight, factoryRight, numbersRight, textsRight};
 

@@ -5,6 +5,7 @@ use mathlib.Core.Bool.{false}
 use mathlib.Core.List.{List, [], _∷_, List·Memᴰ}
 use Prim.Native.Nat.{ℕ, _^_, _<_, _≤_, max}
 use lib.ListN.{getD, drop}
+use Rattle.bounds.specs.Bounds.{versionLimit}
 use Rattle.tlv.specs.Decode.{Opt}
 use Rattle.tlv.specs.Decode.Opt.{just, nothing}
 use Rattle.envelope.specs.declared.Fields.{Fields}
@@ -80,7 +81,7 @@ Last m = (x : PartAt) × (partIn (drop envelopeLength m) ≡ just x) × (x .part
 abbrev pub FirstHalf : Type 0
 FirstHalf =
     (p : Plan) (b : Start p) (u : World) (run : Reach p b u) (endpoint cluster version : ℕ) → endpoint < 2 ^ 16 → cluster < 2 ^ 32
-    → changesOf p u endpoint cluster < 2 ^ 32
+    → changesOf p u endpoint cluster < versionLimit
     → CallsWhole u endpoint cluster version
     → ((x : World) × Visits run x × (versionOf p x endpoint cluster ≡ just version))
     × ((x : World) → Visits run x → versionOf p x endpoint cluster ≡ just version

@@ -4,6 +4,7 @@ use mathlib.Core.Logic.{_⊎_, inl, inr}
 use mathlib.Core.Bool.{Bool}
 use mathlib.Core.List.{List, [], List·Memᴰ}
 use Prim.Native.Nat.{ℕ, suc, _^_, _≤_, _<_}
+use Rattle.bounds.specs.Bounds.{versionLimit}
 use Rattle.tlv.specs.declared.Value.{Value}
 use Rattle.envelope.specs.Envelope.{maxMessage}
 use Rattle.interaction_writer.specs.Meaning.{PathFits}
@@ -18,7 +19,7 @@ module _ (p : Plan) where
     alters : (endpoint cluster attribute : ℕ) (src : List ℕ) (new : Value) → Typed new
         → Step u (afterSign u (altered p u endpoint cluster attribute src new .state) (altered p u endpoint cluster attribute src new .edits) [])
     beginsRead : (room : ℕ) → Step u (afterPanel u (begin.beginsRead (u .page) (u .panel) room))
-    beginsWrite : (endpoint cluster attribute : ℕ) (given : Bool) (version : ℕ) (src : List ℕ) (new : Value) (room : ℕ) → PathFits endpoint cluster attribute → version < 2 ^ 32 → Typed new
+    beginsWrite : (endpoint cluster attribute : ℕ) (given : Bool) (version : ℕ) (src : List ℕ) (new : Value) (room : ℕ) → PathFits endpoint cluster attribute → version < versionLimit → Typed new
         → Step u (afterPanel u (begin.beginsWrite (u .page) (u .panel) endpoint cluster attribute given version src new room))
     resends : (room : ℕ) → Step u (afterPanel u (begin.resends (u .page) (u .panel) room))
     hears : (m : List ℕ) (room : ℕ) → List·Memᴰ m (u .requests)

@@ -6,6 +6,7 @@ use mathlib.Core.Bool.{true}
 use lib.ListN.{length, getD}
 use mir.Syntax.{w64}
 use mir.Val.{SFits}
+use Rattle.bounds.specs.Bounds.{versionLimit}
 use Rattle.tlv.specs.declared.Value.{Value}
 use Rattle.tlv.specs.declared.Value.the-variants as value
 use Rattle.schema.specs.Layout.{subjectWord, textSize}
@@ -78,7 +79,7 @@ with (b ∷ m) l = (b ∷ m) ∷ l
 -- how many changes lead from one version to another: each adds one, and 2^32 - 1 goes to 0. It is exact, as one call makes fewer than 2^32: at most one for
 -- each entry of a write
 abbrev pub moved : ℕ → ℕ → ℕ
-moved old new = (new + 2 ^ 32 - old) % 2 ^ 32
+moved old new = (new + versionLimit - old) % versionLimit
 
 -- after a call of the sign, which leaves this state, page and reply
 unfoldable pub afterSign : World → server.State → List ℕ → List ℕ → World

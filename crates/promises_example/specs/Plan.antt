@@ -3,7 +3,8 @@ use mathlib.Core.Bool.{true, false}
 use mathlib.Core.List.{List, [], _∷_, _++_}
 use Prim.Native.Nat.{ℕ, _+_, _*_, _^_}
 use lib.ListN.{replicate}
-use Rattle.schema.specs.Layout.{headerSize, clusterLimit, attributeLimit, half, textLimit, textSize}
+use Rattle.bounds.specs.Bounds.{clusterLimit, attributeLimit}
+use Rattle.schema.specs.Layout.{headerSize, half, textLimit, textSize}
 use Rattle.schema.specs.Rows.{column}
 use Rattle.acl.specs.declared.Entry.{Entry}
 use Rattle.cached.specs.Limits.{pageSize}

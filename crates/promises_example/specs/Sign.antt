@@ -3,9 +3,10 @@ use mathlib.Core.Bool.{true, false}
 use mathlib.Core.List.{List, _∷_, _++_}
 use Prim.Native.Nat.{ℕ, _-_, _*_}
 use lib.ListN.{length, replicate}
+use Rattle.bounds.specs.Bounds.{clusterLimit, attributeLimit}
 use Rattle.members.specs.Scalar.{ABSENT}
 use Rattle.envelope.specs.Envelope.{maxMessage}
-use Rattle.schema.specs.Layout.{clusterLimit, attributeLimit, textSize}
+use Rattle.schema.specs.Layout.{textSize}
 use Rattle.selection.specs.Request.{pathSize, filtersAt}
 use Rattle.selection.specs.Filters.{unfiltered}
 use Rattle.exchange.specs.Rules.{nothing, part}

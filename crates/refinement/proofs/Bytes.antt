@@ -4,6 +4,7 @@ use mathlib.Core.Bool.{Bool}
 use mathlib.Core.List.{List, [], _∷_, _++_, map, List·Memᴰ}
 use Prim.Native.Nat.{ℕ, _^_, _<_, _≤_}
 use lib.ListN.{length}
+use Rattle.bounds.specs.Bounds.{versionLimit, maxPayload, maxFilters}
 use Rattle.tlv.specs.Value.{Datum}
 use Rattle.tlv_writer.specs.Meaning.{Writable}
 use Rattle.interaction.specs.declared.Wanted.{Wanted}
@@ -35,13 +36,13 @@ partBytes w p = envelopeOctets panelEdition reportOpcode (p .exchange) (p .turn)
 pub record EntryRight (w : List ℕ) (e : Entry Datum) : Type 0 where
   pub row : e .place .attribute < attributeCount w
   pub place : e .place ≡ placeAt w (e .place .attribute)
-  pub version : e .version < 2 ^ 32
+  pub version : e .version < versionLimit
   pub value : Takable (e .value)
   pub writable : Writable (primitiveD (e .value))
 
 pub record PartRight (w : List ℕ) (p : Part Datum) : Type 0 where
   pub entries : (e : Entry Datum) → List·Memᴰ e (p .entries) → EntryRight w e
-  pub short : length (partPayload w p) ≤ 1024
+  pub short : length (partPayload w p) ≤ maxPayload
   pub exchange : p .exchange < exchangeLimit
   pub turn : p .turn < 2 ^ 16
 
@@ -51,13 +52,13 @@ answerBytes exchange o = envelopeOctets panelEdition writeResponseOpcode exchang
 
 -- THE PANEL'S
 pub record WriteFits (version endpoint cluster attribute : ℕ) (d : Datum) : Type 0 where
-  pub version-fits : version < 2 ^ 32
+  pub version-fits : version < versionLimit
   pub path : PathFits endpoint cluster attribute
   pub writable : Writable (primitiveD d)
   pub takable : Takable d
 
 pub data MessageAs (w m : List ℕ) (u : Message) : Type 0 where
-  reads : (x : ℕ) (fs : List Wanted) → m ≡ readMessage panelEdition x fs → u ≡ read x (filtersAs w fs) → x < exchangeLimit → Each WantedFits fs → length fs ≤ 32 → MessageAs w m u
+  reads : (x : ℕ) (fs : List Wanted) → m ≡ readMessage panelEdition x fs → u ≡ read x (filtersAs w fs) → x < exchangeLimit → Each WantedFits fs → length fs ≤ maxFilters → MessageAs w m u
   writes : (x : ℕ) (given : Bool) (version e c a : ℕ) (d : Datum) → m ≡ writeMessage panelEdition x given version e c a d → u ≡ write x → x < exchangeLimit → WriteFits version e c a d → MessageAs w m u
   succeeds : (x turn : ℕ) → m ≡ successMessage panelEdition x turn → u ≡ success x turn → x < exchangeLimit → turn < 2 ^ 16 → MessageAs w m u
 

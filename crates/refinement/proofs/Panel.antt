@@ -5,6 +5,7 @@ use mathlib.Core.List.{List, List·Memᴰ}
 use Prim.Native.Nat.{ℕ, _^_, _<_}
 use lib.Dec.{eqb}
 use lib.ListN.{getD}
+use Rattle.bounds.specs.Bounds.{versionLimit}
 use Rattle.tlv.specs.Value.{Datum}
 use Rattle.tlv.specs.Decode.Opt.{just}
 use Rattle.schema.specs.Rows.{clusterRow, clusterCount}
@@ -42,7 +43,7 @@ pub record HeldAs (w page : List ℕ) (c : Cached) (entries : List (Entry Datum)
   pub clusters-once : Distinct c
   pub keys-once : DistinctKeys c
   pub cluster-rows : ClusterRows w c
-  pub versions-fit : (i : ℕ) → getD (c .versions) i 0 < 2 ^ 32
+  pub versions-fit : (i : ℕ) → getD (c .versions) i 0 < versionLimit
   pub right : (e : Entry Datum) → List·Memᴰ e entries → EntryRight w e
   pub has : (e : Entry Datum) → List·Memᴰ e entries → let q = pathAt w (e .place .attribute) in lookup c page (q .endpoint) (q .cluster) (q .attribute) ≡ just (record { version = e .version; value = e .value })
   pub only : (endpoint cluster attribute : ℕ) → endpoint < 2 ^ 16 → cluster < 2 ^ 32 → attribute < 2 ^ 32 → (x : cached.Entry) → lookup c page endpoint cluster attribute ≡ just x → Found w entries endpoint cluster attribute x

@@ -5,6 +5,7 @@ use mathlib.Core.List.{List, [], _∷_, _++_}
 use Prim.Native.Nat.{ℕ, _+_, _-_, _^_, _<_}
 use lib.Dec.{eqb}
 use lib.ListN.{length, getD}
+use Rattle.bounds.specs.Bounds.{versionLimit}
 use Rattle.tlv.specs.Value.{Datum}
 use Rattle.schema.specs.Rows.{clusterCount, attributeCount}
 use Rattle.acl.specs.declared.Grants.{Grants}
@@ -48,7 +49,7 @@ pub record RowAs (w : List ℕ) (g : Grants) (sent : List (List ℕ)) (x : repli
 
 pub record SignAs (w defaults : List ℕ) (g : Grants) (sent : List (List ℕ)) (edits : List ℕ) (s : State) (clusters : ℕ → Cluster Datum) (r : Row Datum) : Type 0 where
   pub valid : ValidSign w defaults edits s
-  pub versions-fit : (k : ℕ) → getD (s .values .versions) k 0 < 2 ^ 32
+  pub versions-fit : (k : ℕ) → getD (s .values .versions) k 0 < versionLimit
   pub held : ClustersAs w defaults edits (s .values) clusters
   pub row : RowAs w g sent (s .row) r
 

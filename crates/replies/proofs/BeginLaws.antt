@@ -5,14 +5,15 @@ use Prim.Native.Nat.{ℕ, _*_, _^_, _≤_, _<_}
 use native.Mathlib.Omega.{arith}
 use borrow.Author.Tests.{eq-eqb, ne-eqb}
 use lib.ListN.{length, getD, take, length-take}
+use Rattle.bounds.specs.Bounds.{maxPaths, maxFilters, maxWrites}
 use Rattle.octets.specs.Store.{store, Stored}
 use Rattle.tlv.specs.Decode.{Opt}
 use Rattle.tlv.specs.Decode.Opt.{just, nothing}
 use Rattle.interaction.specs.declared.ReadRequest.{ReadRequest}
-use Rattle.interaction.specs.Read.{maxPaths, maxFilters, nowhere, Read, readIn, readRead}
+use Rattle.interaction.specs.Read.{nowhere, Read, readIn, readRead}
 use Rattle.interaction.proofs.KeepLaws.{length-first, first-none}
 use Rattle.interaction_write.specs.declared.WriteRequest.{WriteRequest}
-use Rattle.interaction_write.specs.Write.{maxWrites, noEntry, entryStruct, WriteOf, writeIn, writeRead}
+use Rattle.interaction_write.specs.Write.{noEntry, entryStruct, WriteOf, writeIn, writeRead}
 use Rattle.interaction_write.proofs.WidthLaws.{kept-wide}
 use Rattle.acl.specs.declared.Grants.{Grants}
 use Rattle.values.specs.declared.Values.{Values}

@@ -7,10 +7,11 @@ use native.Mathlib.Omega.{arith}
 use borrow.Author.Tests.{eq-eqb, eqb-true}
 use lib.Dec.{eqb}
 use lib.ListN.{length, length-take}
+use Rattle.bounds.specs.Bounds.{maxPaths}
 use Rattle.octets.proofs.StoreLaws.{length-store}
 use Rattle.tlv.specs.Octet.{pick}
 use Rattle.tlv.proofs.Picks.{pick-elim}
-use Rattle.interaction.specs.Read.{maxPaths, readIn, readRead}
+use Rattle.interaction.specs.Read.{readIn, readRead}
 use Rattle.interaction_write.specs.Write.{writeIn, writeRead}
 use Rattle.acl.specs.declared.Grants.{Grants}
 use Rattle.values.specs.declared.Values.{Values}

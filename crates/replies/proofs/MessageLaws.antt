@@ -4,10 +4,11 @@ use mathlib.Core.List.{List}
 use Prim.Native.Nat.{ℕ, _^_, _≤_, _<_}
 use native.Mathlib.Omega.{arith}
 use lib.ListN.{length, getD, length-append}
+use Rattle.bounds.specs.Bounds.{maxWrites}
 use Rattle.octets.specs.Store.{Stored}
 use Rattle.octets.proofs.StoreLaws.{then, same-length}
 use Rattle.interaction_write.specs.declared.Entry.{Entry}
-use Rattle.interaction_write.specs.Write.{maxWrites, noEntry}
+use Rattle.interaction_write.specs.Write.{noEntry}
 use Rattle.interaction_writer.specs.Envelope.{envelopeOctets}
 use Rattle.interaction_writer.specs.Spelling.{spelling}
 use Rattle.interaction_writer.specs.Message.{messageTree, statusMembers}

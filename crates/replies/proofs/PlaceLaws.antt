@@ -4,7 +4,7 @@ use mathlib.Core.List.{List}
 use Prim.Native.Nat.{ℕ, _≤_}
 use native.Mathlib.Omega.{arith}
 use lib.ListN.{length}
-use Rattle.schema.specs.Layout.{attributeLimit}
+use Rattle.bounds.specs.Bounds.{attributeLimit}
 use Rattle.selection.specs.declared.asked.Asked.{Asked}
 use Rattle.report.specs.declared.Place.{Place}
 use Rattle.report.specs.Blocks.{View, attributePhase, blocksFrom}

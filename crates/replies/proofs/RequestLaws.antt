@@ -5,9 +5,8 @@ use Prim.Native.Nat.{ℕ, _^_, _≤_, _<_}
 use native.Mathlib.Omega.{arith}
 use borrow.Author.Tests.{ltb-false}
 use lib.Dec.{eqb, ltb}
+use Rattle.bounds.specs.Bounds.{maxPaths, maxFilters, maxWrites}
 use Rattle.tlv.specs.Octet.{pick}
-use Rattle.interaction.specs.Read.{maxPaths, maxFilters}
-use Rattle.interaction_write.specs.Write.{maxWrites}
 use Rattle.replies.specs.declared.refusal.Asks.{Asks}
 use Rattle.replies.specs.Refusal.{refusalCode}
 

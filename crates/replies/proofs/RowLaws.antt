@@ -7,10 +7,9 @@ use native.Mathlib.Omega.{arith}
 use borrow.Author.Tests.{ltb-true, leb-true, eqb-true, lt-ltb, le-leb, eq-eqb}
 use lib.Dec.{leb, ltb, eqb}
 use lib.ListN.{length, take}
+use Rattle.bounds.specs.Bounds.{attributeLimit, maxPaths}
 use Rattle.octets.specs.Store.{store, Stored}
 use Rattle.octets.proofs.StoreLaws.{store-back, same-length}
-use Rattle.interaction.specs.Read.{maxPaths}
-use Rattle.schema.specs.Layout.{attributeLimit}
 use Rattle.schema.proofs.BoolLaws.{left, right}
 use Rattle.exchange.specs.declared.Progress.{Progress}
 use Rattle.exchange.specs.Rules.{maxTurn, part}

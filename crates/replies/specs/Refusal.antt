@@ -3,10 +3,9 @@
 use mathlib.Core.Bool.{_||_}
 use Prim.Native.Nat.{ℕ}
 use lib.Dec.{ltb, eqb}
+use Rattle.bounds.specs.Bounds.{maxPaths, maxFilters, maxWrites}
 use Rattle.tlv.specs.Octet.{pick}
-use Rattle.interaction.specs.Read.{maxPaths, maxFilters}
 use Rattle.interaction.specs.declared.ReadRequest.{ReadRequest}
-use Rattle.interaction_write.specs.Write.{maxWrites}
 use Rattle.interaction_write.specs.declared.WriteRequest.{WriteRequest}
 use Rattle.replies.specs.declared.refusal.Asks.{Asks}
 

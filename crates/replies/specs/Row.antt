@@ -4,11 +4,10 @@ use mathlib.Core.List.{List, [], _∷_}
 use Prim.Native.Nat.{ℕ, _+_}
 use lib.Dec.{leb, ltb, eqb}
 use lib.ListN.{length, getD, take, drop}
+use Rattle.bounds.specs.Bounds.{attributeLimit, maxPaths}
 use Rattle.octets.specs.Store.{store}
 use Rattle.tlv.specs.Octet.{pick}
-use Rattle.interaction.specs.Read.{maxPaths}
 use Rattle.interaction_writer.specs.Envelope.{panelEdition, exchangeLimit}
-use Rattle.schema.specs.Layout.{attributeLimit}
 use Rattle.acl.specs.declared.Grants.{Grants}
 use Rattle.values.specs.declared.Values.{Values}
 use Rattle.selection.specs.declared.asked.Asked.{Asked}

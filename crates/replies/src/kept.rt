@@ -14,13 +14,13 @@ use super::MAX_MESSAGE;
 use super::Standing;
 use super::message::put_part;
 use acl::Grants;
+use bounds::ATTRIBUTES;
+use bounds::CLUSTERS;
 use exchange::NOTHING;
 use exchange::PART;
 use exchange::Progress;
 use interaction_writer::envelope::PANEL_EDITION;
 use octets::put_bytes;
-use schema::ATTRIBUTES;
-use schema::CLUSTERS;
 use schema::WORDS;
 use selection::request::ROW_WORDS;
 

@@ -1,9 +1,9 @@
 // Why a whole request is refused: the order of the statuses in one place, for every action.
 ghost use mathlib.Core.Path.{_≡_};
 ghost use Rattle.replies.specs.Refusal.{refusalCode};
-use interaction::MAX_FILTERS;
-use interaction::MAX_PATHS;
-use interaction_write::MAX_WRITES;
+use bounds::MAX_FILTERS;
+use bounds::MAX_PATHS;
+use bounds::MAX_WRITES;
 
 const MALFORMED: u8 = 0x80;
 

@@ -6,14 +6,14 @@ ghost use Rattle.selection.specs.Request.{standingAt};
 ghost use Rattle.replies.specs.Row.{rowIn, rowRight, standingIn, standingWords};
 use super::MAX_MESSAGE;
 use super::Standing;
+use bounds::ATTRIBUTES;
+use bounds::MAX_PATHS;
 use exchange::MAX_TURN;
 use exchange::PART;
 use exchange::Progress;
-use interaction::MAX_PATHS;
 use interaction_writer::envelope::EXCHANGE_LIMIT;
 use report::ATTRIBUTE_PHASE;
 use report::Place;
-use schema::ATTRIBUTES;
 use selection::request::ROW_WORDS;
 use selection::request::STANDING_AT;
 

@@ -7,11 +7,11 @@ use native.Mathlib.Numerals.{add-one}
 use native.Mathlib.Omega.{arith}
 use lib.ListN.{length, getD, take, drop, length-take, drop-of-length-le}
 use lib.Seq.{drop-cons, getD-take}
+use Rattle.bounds.specs.Bounds.{attributeLimit}
 use Rattle.tlv.specs.Octet.{pick}
 use Rattle.tlv.specs.Decode.{Opt}
 use Rattle.tlv.specs.Decode.Opt.{just, nothing}
 use Rattle.interaction_writer.specs.Block.{Block}
-use Rattle.schema.specs.Layout.{attributeLimit}
 use Rattle.schema.specs.Rows.{attributeCount}
 use Rattle.acl.specs.declared.Grants.{Grants}
 use Rattle.selection.specs.Asked.{concrete}

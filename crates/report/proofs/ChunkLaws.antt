@@ -7,6 +7,7 @@ use native.Mathlib.Omega.{arith}
 use borrow.Author.Tests.{leb-true, leb-false, le-leb, lt-leb}
 use lib.Dec.{leb}
 use lib.ListN.{length, length-append}
+use Rattle.bounds.specs.Bounds.{maxPayload}
 use Rattle.tlv.specs.Octet.{pick}
 use Rattle.interaction_writer.specs.Spelling.{spelling, joined, Each}
 use Rattle.interaction_writer.specs.Block.{Block, blockTree}
@@ -17,7 +18,7 @@ use Rattle.schema.proofs.BoolLaws.{by-test}
 use Rattle.selection.specs.declared.asked.Asked.{Asked}
 use Rattle.report.specs.declared.Place.{Place}
 use Rattle.report.specs.Blocks.{View, Placed, blocksFrom}
-use Rattle.report.specs.Chunk.{maxPayload, frameLength, blockRoom, size, any, sizes, payloadLength, fits, taken, left, takenAfter, after, trees, Short}
+use Rattle.report.specs.Chunk.{frameLength, blockRoom, size, any, sizes, payloadLength, fits, taken, left, takenAfter, after, trees, Short}
 use Rattle.report.specs.Part.{partPayload, parts, partsFrom, together}
 use Rattle.report.proofs.NextLaws.{blocks-after}
 use Rattle.report.proofs.PartLaws.{taken-within}

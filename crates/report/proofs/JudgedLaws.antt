@@ -7,9 +7,9 @@ use native.Mathlib.Omega.{arith}
 use borrow.Author.Tests.{ne-eqb}
 use lib.Dec.{eqb}
 use lib.ListN.{length, getD}
+use Rattle.bounds.specs.Bounds.{clusterLimit}
 use Rattle.tlv.specs.Octet.{pick}
 use Rattle.interaction.specs.declared.Wanted.{Wanted}
-use Rattle.schema.specs.Layout.{clusterLimit}
 use Rattle.schema.specs.Rows.{clusterRow, clusterCount, attributeRow, attributeCount}
 use Rattle.schema.specs.Check.{wellFormed}
 use Rattle.schema.proofs.RowLaws.{filled-at}

@@ -4,10 +4,10 @@ use mathlib.Core.List.{List, [], _∷_, _++_, map}
 use Prim.Native.Nat.{ℕ, zero, suc, _+_, _-_, _≤_, _<_}
 use native.Mathlib.Omega.{arith}
 use lib.ListN.{length, drop, length-drop}
+use Rattle.bounds.specs.Bounds.{attributeLimit}
 use Rattle.tlv.specs.Octet.{pick}
 use Rattle.interaction_writer.specs.Spelling.{Each}
 use Rattle.interaction_writer.specs.Block.{Block}
-use Rattle.schema.specs.Layout.{attributeLimit}
 use Rattle.selection.specs.declared.asked.Asked.{Asked}
 use Rattle.selection.specs.Items.{span}
 use Rattle.report.specs.declared.Place.{Place}

@@ -7,6 +7,7 @@ use native.Mathlib.Omega.{arith}
 use borrow.Author.Tests.{leb-true, eqb-true}
 use lib.Dec.{eqb}
 use lib.ListN.{length, getD, drop}
+use Rattle.bounds.specs.Bounds.{textMax}
 use Rattle.utf8.specs.WellFormed as utf8
 use Rattle.tlv.specs.Octet.{pick}
 use Rattle.tlv.specs.Decode.{Opt}
@@ -17,7 +18,6 @@ use Rattle.interaction_writer.specs.Block.{Block, ShortText}
 use Rattle.interaction_writer.specs.Meaning.{PathFits}
 use Rattle.kinds.specs.declared.Kind.{Kind}
 use Rattle.kinds.specs.declared.Kind.the-variants as Kinds
-use Rattle.kinds.specs.Limits.{textMax}
 use Rattle.kinds.specs.Stored.{held}
 use Rattle.schema.specs.Rows.{attributeRow, attributeCount, isText}
 use Rattle.schema.specs.Rules.{Path, pathAt}

@@ -5,11 +5,11 @@ use mathlib.Core.List.{List}
 use Prim.Native.Nat.{ℕ, _^_, _<_}
 use native.Mathlib.Omega.{arith}
 use lib.ListN.{length, getD}
+use Rattle.bounds.specs.Bounds.{clusterLimit}
 use Rattle.tlv.specs.declared.Value.{Value}
 use Rattle.tlv.specs.Value.{datumIn}
 use Rattle.tlv_writer.specs.Element.{InPage}
 use Rattle.interaction_writer.specs.Block.{Block}
-use Rattle.schema.specs.Layout.{clusterLimit}
 use Rattle.schema.specs.Rows.{clusterRow, attributeRow, attributeCount}
 use Rattle.schema.specs.Rules.{path, pathAt}
 use Rattle.schema.specs.Check.{wellFormed}

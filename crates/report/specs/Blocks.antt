@@ -5,6 +5,7 @@ use mathlib.Core.Bool.{Bool, true, false}
 use mathlib.Core.List.{List, [], _∷_, _++_, map}
 use Prim.Native.Nat.{ℕ, zero, suc, _+_, _-_, _^_, _<_}
 use lib.ListN.{getD, drop}
+use Rattle.bounds.specs.Bounds.{versionLimit}
 use Rattle.tlv.specs.Decode.{Opt}
 use Rattle.tlv.specs.Decode.Opt.{just, nothing}
 use Rattle.interaction_writer.specs.Block.{Block}
@@ -40,7 +41,7 @@ viewOf w v defaults edits g filters =
 pub record Sound (s : View) : Type 0 where
   pub schema-right : wellFormed (s .schema) ≡ true
   pub values-right : valuesRight (s .schema) (s .defaults) (s .edits) (s .values) ≡ true
-  pub version-fits : (k : ℕ) → getD (s .values .versions) k 0 < 2 ^ 32
+  pub version-fits : (k : ℕ) → getD (s .values .versions) k 0 < versionLimit
 
 -- a path whose numbers have their widths
 abbrev pub Named : Asked → Type 0

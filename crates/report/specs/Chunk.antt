@@ -5,6 +5,7 @@ use mathlib.Core.List.{List, [], _∷_, _++_, map}
 use Prim.Native.Nat.{ℕ, _+_, _-_, _^_, _<_}
 use lib.Dec.{leb}
 use lib.ListN.{length}
+use Rattle.bounds.specs.Bounds.{versionLimit, maxPayload}
 use Rattle.tlv.specs.Octet.{pick}
 use Rattle.tlv.specs.Tree.{Tree}
 use Rattle.interaction_writer.specs.Spelling.{spelling}
@@ -12,10 +13,6 @@ use Rattle.interaction_writer.specs.Block.{Block, blockTree, ShortText}
 use Rattle.interaction_writer.specs.Meaning.{PathFits}
 use Rattle.report.specs.declared.Place.{Place}
 use Rattle.report.specs.Blocks.{Placed}
-
--- "Then a payload of at most 1,024 bytes"
-abbrev pub maxPayload : ℕ
-maxPayload = 1024
 
 -- what a report has around its blocks, by whether more follows: 10 bytes in both cases, 3 of them the array's
 abbrev pub frameLength : Bool → ℕ
@@ -73,5 +70,5 @@ trees l = map (λ (x : Placed). blockTree (x .block)) l
 
 -- a block with numbers in their widths (document 01, A sign's plan), and with a text of at most 200 bytes if it has one
 unfoldable pub Short : Block → Type 0
-Short (Block.value version e c a d) = (version < 2 ^ 32) × (PathFits e c a × ShortText d)
+Short (Block.value version e c a d) = (version < versionLimit) × (PathFits e c a × ShortText d)
 Short (Block.status e c a code) = PathFits e c a × (code < 2 ^ 8)

@@ -3,6 +3,7 @@ use Prim.Native.Nat.{ℕ, _^_, _<_}
 use mathlib.Core.Bool.{Bool, true}
 use mathlib.Core.List.{List, [], _∷_, map}
 use lib.ListN.{length}
+use Rattle.bounds.specs.Bounds.{versionLimit}
 use Rattle.tlv.specs.Octet.{pick}
 use Rattle.tlv.specs.Tree.{Tree}
 use Rattle.tlv.specs.Tree.Tag.{context}
@@ -32,7 +33,7 @@ statusOctets code = spelling (messageTree (statusMembers code))
 pub record WantedFits (f : Wanted) : Type 0 where
   pub endpoint-fits : f .endpoint < 2 ^ 16
   pub cluster-fits : f .cluster < 2 ^ 32
-  pub version-fits : f .version < 2 ^ 32
+  pub version-fits : f .version < versionLimit
 
 abbrev pub wantedTree : Wanted → Tree
 wantedTree f = filterTree (f .endpoint) (f .cluster) (f .version)

@@ -3,7 +3,8 @@ use mathlib.Core.Path.{_≡_, refl}
 use mathlib.Core.Bool.{true, false}
 use mathlib.Core.List.{List, [], _∷_, _++_}
 use Prim.Native.Nat.{ℕ, _+_, _*_, _^_}
-use Rattle.schema.specs.Layout.{headerSize, clusterLimit, attributeLimit}
+use Rattle.bounds.specs.Bounds.{clusterLimit, attributeLimit}
+use Rattle.schema.specs.Layout.{headerSize}
 use Rattle.schema.specs.Rows.{column, rowsFrom}
 use Rattle.schema.specs.Check.{every, count, rises, changes, wellFormed}
 use Rattle.schema.specs.Rules.{path, pathAt}

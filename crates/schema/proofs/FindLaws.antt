@@ -6,7 +6,7 @@ use Prim.Native.Nat.{ℕ, _<_}
 use native.Mathlib.Omega.{arith}
 use borrow.Author.Tests.{eqb-true, eq-eqb, ltb-true, lt-ltb}
 use lib.Dec.{eqb, ltb}
-use Rattle.schema.specs.Layout.{clusterLimit}
+use Rattle.bounds.specs.Bounds.{clusterLimit}
 use Rattle.schema.specs.Rows.{clusterRow, attributeRow, clusterCount, attributeCount}
 use Rattle.schema.specs.Rules.{Path, path, pathAt, Rules}
 use Rattle.schema.specs.Search.{first, isFound}

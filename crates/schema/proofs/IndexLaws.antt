@@ -7,7 +7,8 @@ use native.Mathlib.Omega.{arith}
 use borrow.Author.Tests.{leb-true, le-leb, ltb-true, lt-ltb}
 use lib.Dec.{ltb, leb}
 use lib.ListN.{getD}
-use Rattle.schema.specs.Layout.{endpointLimit, clusterLimit, attributeLimit, textLimit, clusterCountWord, attributeCountWord, spareColumn, spareCount, pathColumn, versionColumn, keyColumn, traitsColumn, half}
+use Rattle.bounds.specs.Bounds.{endpointLimit, clusterLimit, attributeLimit}
+use Rattle.schema.specs.Layout.{textLimit, clusterCountWord, attributeCountWord, spareColumn, spareCount, pathColumn, versionColumn, keyColumn, traitsColumn, half}
 use Rattle.schema.specs.Rows.{word, clusterCount, attributeCount}
 use Rattle.schema.specs.Check.{rises, allBelow, endpointChanges, traitsRight, allTraits, rankRight, allRanks, ranksRight, textCount, clustersRight, attributesRight, columnsRight, wellFormed}
 use Rattle.schema.proofs.BoolLaws.{both, left, right}

@@ -8,7 +8,8 @@ use native.Mathlib.Omega.{arith}
 use borrow.Author.Tests.{eqb-true, eqb-false, eq-eqb, ltb-true, ltb-false}
 use lib.Dec.{eqb, ltb}
 use lib.ListN.{getD}
-use Rattle.schema.specs.Layout.{endpointLimit, pathColumn, keyColumn, half}
+use Rattle.bounds.specs.Bounds.{endpointLimit}
+use Rattle.schema.specs.Layout.{pathColumn, keyColumn, half}
 use Rattle.schema.specs.Rows.{word, ClusterRow, clusterRow, attributeRow, clusterCount, attributeCount, clusters, attributes, rowsFrom, isText}
 use Rattle.schema.specs.Check.{count, rank, rankRight, endpointChanges, wellFormed}
 use Rattle.schema.specs.Rules.{Rising, different, path, noCluster, pathOf, pathAt, ClusterBefore, PathBefore, ClusterRules, AttributeRules, Ranked, Rules}

@@ -4,7 +4,8 @@ use mathlib.Core.List.{List, [], _∷_}
 use Prim.Native.Nat.{ℕ, zero, suc, _+_, _*_, _/_, _%_, _^_}
 use lib.Dec.{eqb, ltb, leb}
 use lib.ListN.{getD}
-use Rattle.schema.specs.Layout.{endpointLimit, clusterLimit, attributeLimit, textLimit, clusterCountWord, attributeCountWord, spareColumn, spareCount, pathColumn, versionColumn, keyColumn, traitsColumn, half, textKind, administer}
+use Rattle.bounds.specs.Bounds.{endpointLimit, clusterLimit, attributeLimit, versionLimit}
+use Rattle.schema.specs.Layout.{textLimit, clusterCountWord, attributeCountWord, spareColumn, spareCount, pathColumn, versionColumn, keyColumn, traitsColumn, half, textKind, administer}
 use Rattle.schema.specs.Rows.{word, clusterRow, attributeRow, clusterCount, attributeCount, isText, rowsFrom}
 
 -- p holds at each index below n
@@ -62,7 +63,7 @@ abbrev pub allRanks : List ℕ → ℕ → Bool
 allRanks w n = every (rankRight w) n
 
 abbrev pub clustersRight : List ℕ → ℕ → Bool
-clustersRight w n = rises w pathColumn n (2 ^ 48) && (allBelow w versionColumn n half && leb (endpointChanges w n) endpointLimit)
+clustersRight w n = rises w pathColumn n (2 ^ 48) && (allBelow w versionColumn n versionLimit && leb (endpointChanges w n) endpointLimit)
 
 -- n is the number of clusters: a key below n * 2^32 is that of a cluster that is there
 abbrev pub attributesRight : List ℕ → ℕ → ℕ → Bool

@@ -3,7 +3,7 @@ use mathlib.Core.Bool.{Bool, _&&_}
 use mathlib.Core.List.{List}
 use Prim.Native.Nat.{ℕ}
 use lib.Dec.{eqb, ltb}
-use Rattle.schema.specs.Layout.{clusterLimit}
+use Rattle.bounds.specs.Bounds.{clusterLimit}
 use Rattle.schema.specs.Rows.{word, ClusterRow, AttributeRow, clusterRow, attributeRow, clusterCount, attributeCount}
 use Rattle.schema.specs.Search.{first, pick, isFound}
 use Rattle.schema.specs.declared.Found.{Found}

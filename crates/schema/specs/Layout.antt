@@ -1,23 +1,14 @@
--- The limits, and where the schema's words lie. The code has constants of the same names; the contracts hold the two together.
+-- Where the schema's words lie. The code has constants of the same names; the contracts hold the two together.
 use Prim.Native.Nat.{ℕ, _+_, _-_, _^_}
+use Rattle.bounds.specs.Bounds.{clusterLimit, attributeLimit, textMax}
 
--- document 01, A sign's plan: "At most 8 endpoints, 32 clusters, 256 attributes"
-abbrev pub endpointLimit : ℕ
-endpointLimit = 8
-
-abbrev pub clusterLimit : ℕ
-clusterLimit = 32
-
-abbrev pub attributeLimit : ℕ
-attributeLimit = 256
-
--- "text of up to 200 bytes": what one text takes in the page of edits
+-- what one text takes in the page of edits
 abbrev pub textSize : ℕ
-textSize = 200
+textSize = textMax
 
 -- how many texts a schema may have: as many as attributes, so that document 01 is not narrowed
 abbrev pub textLimit : ℕ
-textLimit = 256
+textLimit = attributeLimit
 
 -- the last of the five kinds, which is text, and the highest of the four privileges
 abbrev pub textKind : ℕ

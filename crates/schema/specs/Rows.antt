@@ -4,7 +4,8 @@ use mathlib.Core.List.{List, [], _∷_, _++_}
 use mathlib.Core.Bool.{Bool, cond}
 use lib.Dec.{eqb, ltb}
 use lib.ListN.{getD, length, replicate}
-use Rattle.schema.specs.Layout.{clusterLimit, attributeLimit, textLimit, clusterCountWord, attributeCountWord, pathColumn, versionColumn, keyColumn, traitsColumn, lowColumn, highColumn, firstColumn, factoryColumn, half, textKind}
+use Rattle.bounds.specs.Bounds.{clusterLimit, attributeLimit}
+use Rattle.schema.specs.Layout.{textLimit, clusterCountWord, attributeCountWord, pathColumn, versionColumn, keyColumn, traitsColumn, lowColumn, highColumn, firstColumn, factoryColumn, half, textKind}
 
 -- word i of a column
 abbrev pub word : List ℕ → ℕ → ℕ → ℕ

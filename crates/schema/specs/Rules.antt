@@ -6,7 +6,8 @@ use mathlib.Core.Logic.{_⊎_}
 use Prim.Native.Nat.{ℕ, suc, _+_, _^_, _<_, _≤_}
 use lib.Dec.{eqb}
 use lib.ListN.{getD, length}
-use Rattle.schema.specs.Layout.{endpointLimit, clusterLimit, attributeLimit, textLimit, clusterCountWord, attributeCountWord, spareColumn, spareCount, textKind, administer}
+use Rattle.bounds.specs.Bounds.{endpointLimit, clusterLimit, attributeLimit, versionLimit}
+use Rattle.schema.specs.Layout.{textLimit, clusterCountWord, attributeCountWord, spareColumn, spareCount, textKind, administer}
 use Rattle.schema.specs.Rows.{word, ClusterRow, AttributeRow, attributeRow, clusters, attributes, isText}
 use Rattle.schema.specs.Check.{one, textCount}
 
@@ -71,7 +72,7 @@ pub record ClusterRules (r : ClusterRow) : Type 0 where
   pub endpoint : r .endpoint < 2 ^ 16
   pub cluster : r .cluster < 2 ^ 32
   -- "Each cluster has a 32-bit data version with a given start"
-  pub version : r .version < 2 ^ 32
+  pub version : r .version < versionLimit
 
 -- n is the number of clusters
 pub record AttributeRules (n : ℕ) (a : AttributeRow) : Type 0 where

@@ -2,14 +2,12 @@
 // over a column.
 ghost use mathlib.Core.Path.{_≡_};
 ghost use Prim.Native.Nat.{_+_, _^_, _≤_};
-ghost use Rattle.schema.specs.Layout.{clusterLimit, attributeLimit, wordCount};
+ghost use Rattle.bounds.specs.Bounds.{clusterLimit, attributeLimit};
+ghost use Rattle.schema.specs.Layout.{wordCount};
 ghost use Rattle.schema.specs.Check.{rises, allBelow, endpointChanges, topBitsClear, allTraits, ranked, clustersRight, attributesRight, columnsRight, wellFormed};
 use super::ADMINISTER;
 use super::ATTRIBUTE_COUNT_WORD;
-use super::ATTRIBUTES;
 use super::CLUSTER_COUNT_WORD;
-use super::CLUSTERS;
-use super::ENDPOINTS;
 use super::FIRST;
 use super::HALF;
 use super::KEY;
@@ -24,6 +22,10 @@ use super::TRAITS;
 use super::VERSION;
 use super::WORDS;
 use super::WRITE_PART;
+use bounds::ATTRIBUTES;
+use bounds::CLUSTERS;
+use bounds::ENDPOINTS;
+use bounds::VERSIONS;
 
 // Far above any path and key.
 const ROOM: u64 = 4_611_686_018_427_387_904;
@@ -152,7 +154,7 @@ fn clusters_right(w: &[u64; WORDS], n: usize) -> bool
     if !rising(w, PATH, n, 65_536 * HALF) {
         return false;
     }
-    if !all_below(w, VERSION, n, HALF) {
+    if !all_below(w, VERSION, n, VERSIONS) {
         return false;
     }
     endpoint_changes(w, n) <= ENDPOINTS

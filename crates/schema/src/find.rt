@@ -3,12 +3,12 @@ ghost use mathlib.Core.Path.{_≡_};
 ghost use Prim.Native.Nat.{_+_, _≤_};
 ghost use Rattle.schema.specs.Layout.{wordCount};
 ghost use Rattle.schema.specs.Find.{findWord, findCluster, findAttribute, hasEndpoint};
-use super::CLUSTERS;
 use super::Found;
 use super::HALF;
 use super::KEY;
 use super::PATH;
 use super::WORDS;
+use bounds::CLUSTERS;
 
 // The first of the n words from `from` on that is x.
 fn find_word(w: &[u64; WORDS], from: usize, n: usize, x: u64) -> Found

@@ -4,23 +4,20 @@ ghost use mathlib.Core.Path.{_≡_};
 ghost use Prim.Native.Nat.{_<_};
 ghost use lib.ListN.{getD};
 ghost use lib.Dec.{eqb};
-ghost use Rattle.schema.specs.Layout.{clusterLimit, attributeLimit, subjectWord};
+ghost use Rattle.bounds.specs.Bounds.{clusterLimit, attributeLimit};
+ghost use Rattle.schema.specs.Layout.{subjectWord};
 ghost use Rattle.schema.specs.Rows.{clusterCount, attributeCount, clusterRow, attributeRow, isText, factoryWord, factoryStart, factoryLength};
+use bounds::ATTRIBUTES;
+use bounds::CLUSTERS;
 
 pub mod check;
 pub mod find;
 pub mod texts;
 
-// Limits (document 01, A sign's plan).
-pub const ENDPOINTS: usize = 8;
+// How many texts, and what one takes in the page of edits.
+pub const TEXTS: usize = ATTRIBUTES;
 
-pub const CLUSTERS: usize = 32;
-
-pub const ATTRIBUTES: usize = 256;
-
-pub const TEXTS: usize = 256;
-
-pub const TEXT_SIZE: usize = 200;
+pub const TEXT_SIZE: usize = bounds::TEXT_MAX;
 
 // The header's words.
 pub const CLUSTER_COUNT_WORD: usize = 0;

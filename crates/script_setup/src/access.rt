@@ -1,6 +1,6 @@
 // The access table as the lines give it.
-use acl::ENTRIES;
 use acl::Entry;
+use bounds::ACCESS_ENTRIES;
 use script::Scan;
 use script::is_done;
 use script::number::read_marked;
@@ -10,7 +10,7 @@ use script::path::ID_MAX;
 
 // The first `count` of the entries are in use.
 pub struct Table {
-    pub entries: [Entry; ENTRIES],
+    pub entries: [Entry; ACCESS_ENTRIES],
     pub count: usize,
 }
 
@@ -32,7 +32,7 @@ const ANYBODY: Entry = Entry {
 
 pub fn no_entries() -> Table {
     Table {
-        entries: [ANYBODY; ENTRIES],
+        entries: [ANYBODY; ACCESS_ENTRIES],
         count: 0,
     }
 }
@@ -41,7 +41,7 @@ pub fn no_entries() -> Table {
 fn with_entry(t: Table, e: Entry) -> Table {
     let n = t.count;
     let mut entries = t.entries;
-    if n < ENTRIES {
+    if n < ACCESS_ENTRIES {
         entries[n] = e;
         return Table {
             entries,
@@ -50,7 +50,7 @@ fn with_entry(t: Table, e: Entry) -> Table {
     }
     Table {
         entries,
-        count: ENTRIES + 1,
+        count: ACCESS_ENTRIES + 1,
     }
 }
 

@@ -1,16 +1,16 @@
 // The setup line of an attribute: its row of the schema's words, and its factory text.
 ghost use Prim.Native.Nat.{_≤_, _<_};
-ghost use Rattle.schema.specs.Layout.{attributeLimit};
+ghost use Rattle.bounds.specs.Bounds.{attributeLimit};
 use super::PAGE;
 use super::PATHS;
 use super::SETUP;
 use super::count_up;
+use bounds::ATTRIBUTES;
 use kinds::stored::same_bytes;
 use node::FLOAT;
 use node::SIGNED;
 use node::UNSIGNED;
 use schema::ATTRIBUTE_COUNT_WORD;
-use schema::ATTRIBUTES;
 use schema::FIRST;
 use schema::HALF;
 use schema::HIGH;

@@ -1,9 +1,9 @@
 // Setup lines: the schema's words as the lines give them, row by row. A row past a limit is counted and not kept: the schema is then refused,
 // as it is for every other rule that the lines break. No input and no output.
+use bounds::ATTRIBUTES;
+use bounds::CLUSTERS;
 use kinds::stored::same_bytes;
-use schema::ATTRIBUTES;
 use schema::CLUSTER_COUNT_WORD;
-use schema::CLUSTERS;
 use schema::HALF;
 use schema::PATH;
 use schema::SUBJECT_WORD;

@@ -1,10 +1,10 @@
 // The schema of all lines so far.
 ghost use Prim.Native.Nat.{_≤_, _<_, _+_};
-ghost use Rattle.schema.specs.Layout.{clusterLimit, attributeLimit};
+ghost use Rattle.bounds.specs.Bounds.{clusterLimit, attributeLimit};
 use super::PATHS;
 use super::SETUP;
-use schema::ATTRIBUTES;
-use schema::CLUSTERS;
+use bounds::ATTRIBUTES;
+use bounds::CLUSTERS;
 use schema::FACTORY;
 use schema::FIRST;
 use schema::Found;

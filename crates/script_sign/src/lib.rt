@@ -1,8 +1,8 @@
 // Lines for the sign: a message handed to it, the panel's newest message forwarded, a local change. No input and no output.
+use bounds::ATTRIBUTES;
+use bounds::CLUSTERS;
 use envelope::MAX_MESSAGE;
 use kinds::stored::same_bytes;
-use schema::ATTRIBUTES;
-use schema::CLUSTERS;
 use schema::WORDS;
 use schema::subject_served;
 use schema::texts::edits_size;

@@ -9,10 +9,10 @@ use borrow.Author.Tests.{eq-eqb, ne-eqb, eqb-true, eqb-false, lt-ltb, le-ltb, lt
 use lib.Dec.{eqb, ltb}
 use lib.ListN.{length, getD, set, take, drop, length-take, drop-of-length-le, replicate}
 use lib.Seq.{drop-cons, getD-take, getD-drop}
+use Rattle.bounds.specs.Bounds.{clusterLimit}
 use Rattle.octets.specs.Store.{store}
 use Rattle.octets.proofs.StoreLaws.{store-store}
 use Rattle.tlv.specs.Octet.{pick}
-use Rattle.schema.specs.Layout.{clusterLimit}
 use Rattle.schema.specs.Rows.{clusterRow, clusterCount, filled, rowsFrom}
 use Rattle.schema.proofs.BoolLaws.{by-test}
 use Rattle.schema.proofs.RowLaws.{rows-get, rows-same, fill-step}

@@ -9,10 +9,10 @@ use borrow.Author.Tests.{eqb-true, eq-eqb, lt-ltb, ltb-true}
 use lib.Dec.{eqb, ltb}
 use lib.ListN.{length, getD, set, take, drop}
 use lib.Seq.{getD-take, getD-drop, set-set, set-comm}
+use Rattle.bounds.specs.Bounds.{clusterLimit}
 use Rattle.octets.specs.Store.{store}
 use Rattle.octets.proofs.StoreLaws.{length-store, store-back, store-over}
 use Rattle.tlv.specs.Octet.{pick}
-use Rattle.schema.specs.Layout.{clusterLimit}
 use Rattle.schema.specs.Rows.{clusterRow, clusterCount, rowsFrom}
 use Rattle.schema.specs.Check.{wellFormed}
 use Rattle.schema.specs.Find.{findCluster}

@@ -6,10 +6,10 @@ use Prim.Native.Nat.{ℕ, _<_, _^_}
 use native.Mathlib.Omega.{arith}
 use borrow.Author.Tests.{eq-eqb, ne-eqb, ltb-true}
 use lib.Dec.{eqb, ltb}
+use Rattle.bounds.specs.Bounds.{clusterLimit, attributeLimit}
 use Rattle.tlv.specs.Octet.{pick}
 use Rattle.tlv.proofs.Picks.{pick-elim}
 use Rattle.blocks.proofs.BlockLaws.{never}
-use Rattle.schema.specs.Layout.{clusterLimit, attributeLimit}
 use Rattle.schema.specs.declared.Found.{Found}
 use Rattle.schema.specs.declared.Found.the-variants as found
 use Rattle.schema.specs.Rows.{attributeRow}

@@ -8,15 +8,14 @@ use borrow.Author.Tests.{ltb-true, ltb-false}
 use lib.Dec.{ltb}
 use lib.ListN.{length, getD, set, take, drop, length-take, drop-of-length-le}
 use lib.Seq.{drop-cons, getD-take, set-getD}
+use Rattle.bounds.specs.Bounds.{clusterLimit, maxPaths}
 use Rattle.octets.specs.Store.{store}
 use Rattle.octets.proofs.StoreLaws.{length-store, part-before, store-back, store-store}
-use Rattle.schema.specs.Layout.{clusterLimit}
 use Rattle.schema.specs.Rows.{rowsFrom}
 use Rattle.schema.proofs.BoolLaws.{by-test}
 use Rattle.schema.proofs.RowLaws.{rows-length, rows-get, rows-same, rows-snoc}
 use Rattle.interaction.specs.declared.Target.{Target}
 use Rattle.interaction.specs.declared.Wanted.{Wanted}
-use Rattle.interaction.specs.Read.{maxPaths}
 use Rattle.selection.specs.declared.asked.Asked.{Asked}
 use Rattle.selection.specs.Asked.{askedFor}
 use Rattle.selection.specs.Request.{pathSize, filtersAt, standingAt, pathsIn, filtersIn, targetWords, pathsWords, askedAt, askedPaths}

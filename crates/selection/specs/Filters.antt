@@ -4,8 +4,8 @@ use mathlib.Core.List.{List, [], _∷_}
 use Prim.Native.Nat.{ℕ, _+_, _^_}
 use lib.Dec.{eqb, ltb}
 use lib.ListN.{getD, set}
+use Rattle.bounds.specs.Bounds.{clusterLimit, versionLimit}
 use Rattle.tlv.specs.Octet.{pick}
-use Rattle.schema.specs.Layout.{clusterLimit}
 use Rattle.schema.specs.declared.Found.{Found}
 use Rattle.schema.specs.declared.Found.the-variants.{At, Nothing}
 use Rattle.schema.specs.Find.{findCluster}
@@ -39,10 +39,10 @@ skipsOf w fs versions = filled false (skipsAt w fs versions) clusterLimit (clust
 
 -- FILTERS JUDGED ONCE, at the request, to one word for each cluster: no filter is for it, or they disagree, or the one version that all of them carry
 abbrev pub unfiltered : ℕ
-unfiltered = 2 ^ 32
+unfiltered = versionLimit
 
 abbrev pub disagreeing : ℕ
-disagreeing = 2 ^ 32 + 1
+disagreeing = versionLimit + 1
 
 -- a cluster's word with one filter more, which carries this version
 unfoldable pub joined : ℕ → ℕ → ℕ

@@ -3,8 +3,8 @@
 use mathlib.Core.List.{List}
 use Prim.Native.Nat.{ℕ, _<_}
 use lib.Dec.{eqb}
+use Rattle.bounds.specs.Bounds.{clusterLimit, attributeLimit}
 use Rattle.tlv.specs.Octet.{pick}
-use Rattle.schema.specs.Layout.{clusterLimit, attributeLimit}
 use Rattle.schema.specs.Rows.{AttributeRow, attributeRow}
 use Rattle.acl.specs.declared.Grants.{Grants}
 use Rattle.acl.specs.Access.{isGranted}

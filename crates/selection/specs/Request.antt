@@ -2,10 +2,9 @@
 use mathlib.Core.List.{List, [], _∷_}
 use Prim.Native.Nat.{ℕ, _+_, _*_}
 use lib.ListN.{getD, take, drop}
-use Rattle.schema.specs.Layout.{clusterLimit}
+use Rattle.bounds.specs.Bounds.{clusterLimit, maxPaths}
 use Rattle.schema.specs.Rows.{rowsFrom}
 use Rattle.interaction.specs.declared.Target.{Target}
-use Rattle.interaction.specs.Read.{maxPaths}
 use Rattle.selection.specs.declared.asked.Asked.{Asked}
 use Rattle.selection.specs.Asked.{askedFor}
 

@@ -3,26 +3,25 @@ ghost use mathlib.Core.Path.{_≡_};
 ghost use mathlib.Core.Bool.{true};
 ghost use Prim.Native.Nat.{_≤_, _+_};
 ghost use lib.ListN.{length, take, drop};
+ghost use Rattle.bounds.specs.Bounds.{clusterLimit, maxFilters};
 ghost use Rattle.octets.specs.Store.{store};
-ghost use Rattle.schema.specs.Layout.{clusterLimit};
 ghost use Rattle.schema.specs.Rows.{rowsFrom};
 ghost use Rattle.schema.specs.Check.{wellFormed};
-ghost use Rattle.interaction.specs.Read.{maxFilters};
 ghost use Rattle.selection.specs.Request.{filtersAt, filtersIn};
 ghost use Rattle.selection.specs.Filters.{unfiltered, joined, filterWords, rowOf, joinedAt, skipsNow};
 use super::request::FILTERS_AT;
 use super::request::ROW_WORDS;
-use interaction::MAX_FILTERS;
+use bounds::CLUSTERS;
+use bounds::MAX_FILTERS;
 use interaction::Wanted;
-use schema::CLUSTERS;
 use schema::Found;
 use schema::WORDS;
 use schema::find::find_cluster;
 
 // No filter is for the cluster, or they disagree; every other word is the version that all of them carry.
-pub const UNFILTERED: u64 = 4_294_967_296;
+pub const UNFILTERED: u64 = bounds::VERSIONS;
 
-const DISAGREEING: u64 = 4_294_967_297;
+const DISAGREEING: u64 = UNFILTERED + 1;
 
 // A cluster's word with one filter more.
 fn join(word: u64, version: u64) -> u64

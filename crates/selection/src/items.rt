@@ -2,7 +2,7 @@
 ghost use mathlib.Core.Path.{_≡_};
 ghost use mathlib.Core.Bool.{true};
 ghost use Prim.Native.Nat.{ℕ, _<_};
-ghost use Rattle.schema.specs.Layout.{attributeLimit};
+ghost use Rattle.bounds.specs.Bounds.{attributeLimit};
 ghost use Rattle.schema.specs.Check.{wellFormed};
 ghost use Rattle.selection.specs.declared.locate.Located.the-variants.{Here};
 ghost use Rattle.selection.specs.Reach.{Within};
@@ -15,7 +15,7 @@ use super::reach::Action;
 use super::reach::allow;
 use super::reach::reach;
 use acl::Grants;
-use schema::CLUSTERS;
+use bounds::CLUSTERS;
 use schema::WORDS;
 
 pub enum Item {

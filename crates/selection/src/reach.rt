@@ -1,7 +1,7 @@
 // Which attribute an action may use: one ordered chain for reads and writes, with its first refusal.
 ghost use mathlib.Core.Path.{_≡_};
 ghost use Prim.Native.Nat.{_<_};
-ghost use Rattle.schema.specs.Layout.{attributeLimit};
+ghost use Rattle.bounds.specs.Bounds.{attributeLimit};
 ghost use Rattle.schema.specs.Rows.{attributeRow};
 ghost use Rattle.selection.specs.Reach as reach;
 use super::UNSUPPORTED_ACCESS;

@@ -3,14 +3,14 @@
 ghost use mathlib.Core.Path.{_≡_};
 ghost use Prim.Native.Nat.{_≤_, _<_, _+_, _*_};
 ghost use lib.ListN.{length};
+ghost use Rattle.bounds.specs.Bounds.{maxPaths};
 ghost use Rattle.octets.specs.Store.{store};
-ghost use Rattle.interaction.specs.Read.{maxPaths};
 ghost use Rattle.selection.specs.Request.{pathSize, filtersAt, askedAt, targetWords, pathsWords};
 use super::asked::Asked;
 use super::asked::asked_for;
-use interaction::MAX_PATHS;
+use bounds::CLUSTERS;
+use bounds::MAX_PATHS;
 use interaction::Target;
-use schema::CLUSTERS;
 
 pub const PATH_SIZE: usize = 3;
 

@@ -6,11 +6,12 @@ use Prim.Native.Nat.{ℕ, _<_}
 use native.Mathlib.Omega.{arith}
 use borrow.Author.Tests.{lt-leb, le-leb}
 use lib.ListN.{length}
+use Rattle.bounds.specs.Bounds.{entryLimit}
 use Rattle.schema.specs.Layout.{administer}
 use Rattle.schema.proofs.BoolLaws.{by-test, both}
 use Rattle.acl.specs.declared.Entry.{Entry}
 use Rattle.acl.specs.declared.Grants.{Grants}
-use Rattle.acl.specs.Access.{entryLimit, view, privilegeOk, tableOk}
+use Rattle.acl.specs.Access.{view, privilegeOk, tableOk}
 use Rattle.acl.specs.Table.{tableRight}
 use Rattle.acl.proofs.RuleLaws.{table-exactly}
 use Rattle.server.specs.declared.State.{State}

@@ -5,10 +5,10 @@ use mathlib.Core.List.{List}
 use Prim.Native.Nat.{ℕ}
 use lib.Dec.{eqb}
 use lib.ListN.{replicate}
+use Rattle.bounds.specs.Bounds.{clusterLimit, attributeLimit}
 use Rattle.tlv.specs.declared.Value.{Value}
 use Rattle.tlv.specs.Octet.{pick}
 use Rattle.node.specs.Check.{accepted}
-use Rattle.schema.specs.Layout.{clusterLimit, attributeLimit}
 use Rattle.values.specs.declared.Values.{Values}
 use Rattle.values.specs.Fresh.{freshValues}
 use Rattle.selection.specs.Request.{rowLength}

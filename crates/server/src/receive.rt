@@ -22,11 +22,13 @@ use super::Outcome;
 use super::SILENT;
 use super::SMALL_BUFFER;
 use super::sign_ok;
-use acl::ENTRIES;
 use acl::Entry;
 use acl::Grants;
 use acl::table::search;
 use acl::table::search_in;
+use bounds::ACCESS_ENTRIES;
+use bounds::ATTRIBUTES;
+use bounds::CLUSTERS;
 use envelope::Envelope;
 use envelope::Fields;
 use envelope::envelope_of;
@@ -48,8 +50,6 @@ use replies::kept::next_part;
 use replies::kept::resend;
 use replies::words::put_standing;
 use replies::words::read_standing;
-use schema::ATTRIBUTES;
-use schema::CLUSTERS;
 use schema::WORDS;
 use schema::subject_served;
 use selection::request::ROW_WORDS;
@@ -352,7 +352,7 @@ pub fn receive_in<'a>(
     versions: &mut [u32; CLUSTERS],
     row: &mut [u64; ROW_WORDS],
     kept: &mut [u8; MAX_MESSAGE],
-    entries: [Entry; ENTRIES],
+    entries: [Entry; ACCESS_ENTRIES],
     count: usize,
     subject: u64,
     message: &'a [u8],

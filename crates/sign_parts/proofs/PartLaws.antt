@@ -6,6 +6,7 @@ use Prim.Native.Nat.{ℕ, zero, suc, _+_, _-_, _^_, _≤_, _<_}
 use native.Mathlib.Omega.{arith}
 use borrow.Author.Tests.{le-leb}
 use lib.ListN.{length, getD}
+use Rattle.bounds.specs.Bounds.{maxPayload}
 use Rattle.tlv.specs.Value.{Datum}
 use Rattle.tlv.proofs.Picks.{pick-elim}
 use Rattle.blocks.proofs.BlockLaws.{never}
@@ -155,7 +156,7 @@ module _ (w defaults edits : List ℕ) (v : Values) (g : Grants) (fs : List Want
           let of-row = all-readable w g (λ (p : Place). EntryRight w (entryAt clusters p)) entry-right (attributeCount w - index) index (omega arith) in
           record {
             entries = map-from (EntryRight w) (entryAt clusters) (reported skip n (ahead index)) (λ p i. of-row p (reported-in skip n (ahead index) p i));
-            short = subst (λ (l : List ℕ). length l ≤ 1024) same-payload (part-length (blocks index));
+            short = subst (λ (l : List ℕ). length l ≤ maxPayload) same-payload (part-length (blocks index));
             exchange = fx;
             turn = ft;
           }

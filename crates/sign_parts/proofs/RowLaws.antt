@@ -6,11 +6,11 @@ use Prim.Native.Nat.{ℕ, suc, _+_, _-_, _^_, _≤_, _<_}
 use native.Mathlib.Omega.{arith}
 use lib.Dec.{eqb}
 use lib.ListN.{getD}
+use Rattle.bounds.specs.Bounds.{clusterLimit}
 use Rattle.tlv.specs.Octet.{pick}
 use Rattle.tlv.specs.Value.{Datum}
 use Rattle.interaction.specs.declared.Wanted.{Wanted}
 use Rattle.interaction_writer.specs.Block.{Block}
-use Rattle.schema.specs.Layout.{clusterLimit}
 use Rattle.schema.specs.Rows.{attributeRow, clusterCount, attributeCount}
 use Rattle.schema.specs.Check.{wellFormed}
 use Rattle.schema.proofs.BoolLaws.{by-test}

@@ -10,6 +10,7 @@ use lib.ListN.{length, getD}
 use lib.Signed.{mag}
 use mir.Syntax.{w64}
 use mir.Val.{toZ}
+use Rattle.bounds.specs.Bounds.{textMax}
 use Rattle.utf8.specs.WellFormed as utf8
 use Rattle.tlv.specs.Octet.{pick}
 use Rattle.tlv_writer.specs.Meaning.{Writable}
@@ -17,7 +18,6 @@ use Rattle.interaction_writer.specs.Spelling.{primitiveD}
 use Rattle.kinds.specs.declared.Kind.{Kind}
 use Rattle.kinds.specs.declared.Kind.the-variants as Kinds
 use Rattle.kinds.specs.Float.{rangeOf}
-use Rattle.kinds.specs.Limits.{textMax}
 use Rattle.kinds.specs.Stored.{held}
 use Rattle.schema.specs.Layout.{half}
 use Rattle.schema.specs.Rows.{AttributeRow, attributeRow, attributeCount, isText}

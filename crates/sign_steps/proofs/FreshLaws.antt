@@ -9,8 +9,9 @@ use borrow.Author.Tests.{ltb-true, ltb-false}
 use lib.Dec.{ltb}
 use lib.ListN.{length, getD, replicate, length-replicate, getD-replicate, List·getD-eq-default}
 use lib.Seq.{getD-append-add}
+use Rattle.bounds.specs.Bounds.{clusterLimit}
 use Rattle.tlv.specs.Value.{Datum}
-use Rattle.schema.specs.Layout.{clusterLimit, textSize}
+use Rattle.schema.specs.Layout.{textSize}
 use Rattle.schema.specs.Rows.{clusterRow, clusterCount, rowsFrom}
 use Rattle.schema.specs.Check.{textCount}
 use Rattle.schema.specs.Rules.{Rules}

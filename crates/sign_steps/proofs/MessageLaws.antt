@@ -5,6 +5,7 @@ use mathlib.Core.List.{List, [], List·Memᴰ, Memᴰ·cast}
 use Prim.Native.Nat.{ℕ, _^_, _≤_, _<_}
 use native.Mathlib.Omega.{arith}
 use lib.ListN.{length, getD, drop}
+use Rattle.bounds.specs.Bounds.{maxFilters}
 use Rattle.tlv.specs.Value.{Datum}
 use Rattle.interaction.specs.declared.Wanted.{Wanted}
 use Rattle.interaction.specs.Read.{readIn, readRead}
@@ -39,7 +40,7 @@ unfolding beginning
 begins-write = refl
 
 -- with no ground to refuse it
-read-taken : (x : ℕ) (fs : List Wanted) → Each WantedFits fs → length fs ≤ 32 → readRead (readIn (drop envelopeLength (readMessage panelEdition x fs))) ≡ readAnswer fs
+read-taken : (x : ℕ) (fs : List Wanted) → Each WantedFits fs → length fs ≤ maxFilters → readRead (readIn (drop envelopeLength (readMessage panelEdition x fs))) ≡ readAnswer fs
 unfolding readMessage
 read-taken x fs h few = ap (λ (q : List ℕ). readRead (readIn q)) (after-envelope panelEdition readOpcode x 0 (readOctets fs)) ∙ read-answered fs h
 
@@ -54,7 +55,7 @@ module _ {w defaults : List ℕ} {g : Grants} {sent : List (List ℕ)} (here : S
   Taken m u = Served here node u (reaction here m room)
 
   module _ (x : ℕ) (fx : x < exchangeLimit) where
-    read-as : (fs : List Wanted) → Each WantedFits fs → length fs ≤ 32 → Taken (readMessage panelEdition x fs) (read x (filtersAs w fs))
+    read-as : (fs : List Wanted) → Each WantedFits fs → length fs ≤ maxFilters → Taken (readMessage panelEdition x fs) (read x (filtersAs w fs))
     unfolding serve reacted
     read-as fs h few =
         request-served here node (readMessage panelEdition x fs) room enough (read-short panelEdition x fs h few) readOpcode x (read-envelope panelEdition x fs (omega arith) fx) begins-read (read x (filtersAs w fs))

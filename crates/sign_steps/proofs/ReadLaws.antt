@@ -6,10 +6,11 @@ use native.Mathlib.Omega.{arith}
 use borrow.Author.Tests.{le-ltb}
 use native.Mathlib.Numerals.{add-one}
 use lib.ListN.{length, getD}
+use Rattle.bounds.specs.Bounds.{maxFilters}
 use Rattle.tlv.specs.Value.{Datum}
 use Rattle.interaction.specs.declared.Wanted.{Wanted}
 use Rattle.interaction.specs.Message.{firstOf}
-use Rattle.interaction.specs.Read.{maxFilters, unwanted, readIn, readRead}
+use Rattle.interaction.specs.Read.{unwanted, readIn, readRead}
 use Rattle.schema.specs.Rows.{attributeCount, rowsFrom}
 use Rattle.acl.specs.declared.Grants.{Grants}
 use Rattle.selection.specs.Asked.{askedFor}

@@ -2,21 +2,17 @@
 use mathlib.Core.Path.{_≡_}
 use mathlib.Core.Bool.{true}
 use mathlib.Core.List.{List, [], _∷_, _++_}
-use Prim.Native.Nat.{ℕ}
+use Prim.Native.Nat.{ℕ, _-_}
 use lib.IntN.{negsuc}
 use lib.ListN.{getD, replicate}
+use Rattle.bounds.specs.Bounds.{endpointLimit, clusterLimit, attributeLimit, entryLimit, textMax, versionLimit, maxPayload, maxDepth, maxPaths, maxFilters, maxWrites}
 use Rattle.tlv.specs.declared.Value.{Value}
 use Rattle.tlv.specs.declared.Value.the-variants.{Signed, Float, Text}
-use Rattle.tlv.specs.Tree.{maxDepth}
-use Rattle.interaction.specs.Read.{maxPaths, maxFilters}
-use Rattle.interaction_write.specs.Write.{maxWrites}
 use Rattle.interaction_writer.specs.Envelope.{panelEdition, exchangeLimit}
 use Rattle.envelope.specs.Envelope.{envelopeLength, maxMessage}
-use Rattle.kinds.specs.Limits.{textMax}
-use Rattle.schema.specs.Layout.{endpointLimit, clusterLimit, attributeLimit, textSize}
-use Rattle.acl.specs.Access.{entryLimit, grantsOf, tableOk}
+use Rattle.schema.specs.Layout.{textSize}
+use Rattle.acl.specs.Access.{grantsOf, tableOk}
 use Rattle.exchange.specs.Rules.{firstReply, maxTurn}
-use Rattle.report.specs.Chunk.{maxPayload}
 use Rattle.cached.specs.Limits as Panel
 use Rattle.server.specs.declared.State.{State}
 use Rattle.server.specs.State.{signRight}
@@ -27,7 +23,7 @@ use Rattle.specimens.specs.Messages.{request1, reply1, block2, payload3,
 
 -- a sign given a message by subject 1, with a buffer of full size
 abbrev pub given : List ℕ → State → List ℕ → Reaction
-given page s m = received words defaults page s (tableOk access) (grantsOf access 1 words) 1 m 1032
+given page s m = received words defaults page s (tableOk access) (grantsOf access 1 words) 1 m maxMessage
 
 -- the fresh sign given a message
 abbrev pub after : List ℕ → Reaction
@@ -159,6 +155,8 @@ pub record All : Type 0 where
   -- "text of up to 200 bytes", and room for as many in the page of edits
   pub text : textMax ≡ 200
   pub text-room : textSize ≡ 200
+  -- "2^32 - 1 going to 0"
+  pub versions : versionLimit - 1 ≡ 0xFFFF_FFFF
   -- "Eight bytes, [...]: edition 4 bits (0), [...] exchange 40, turn 16. Then a payload of at most 1,024 bytes."
   pub header : envelopeLength ≡ 8
   pub edition : panelEdition ≡ 0

@@ -9,12 +9,13 @@ use borrow.Author.Tests.{eqb-true, eq-eqb, ltb-false}
 use lib.ListN.{length, take, drop, take-append-drop}
 use lib.Seq.{drop-length, length-take-le}
 use lib.Dec.{ltb, eqb}
+use Rattle.bounds.specs.Bounds.{maxDepth}
 use Rattle.octets.proofs.NumberLaws.{Bytes}
 use Rattle.tlv.specs.declared.Element.{Element}
 use Rattle.tlv.specs.declared.Head.{Head}
 use Rattle.tlv.specs.declared.Head.the-variants.{Found, Malformed}
 use Rattle.tlv.specs.Octet.{pick, structure}
-use Rattle.tlv.specs.Tree.{Tag, Tree, Trees, depth, maxDepth, tagOf, tagged, Spells, SpellsMessage}
+use Rattle.tlv.specs.Tree.{Tag, Tree, Trees, depth, tagOf, tagged, Spells, SpellsMessage}
 use Rattle.tlv.specs.Tree.Tag.{anonymous}
 use Rattle.tlv.specs.Tree.Tree.{container}
 use Rattle.tlv.specs.Head.{headAt, elementOf}

@@ -7,12 +7,12 @@ use native.Mathlib.Omega.{arith}
 use borrow.Author.Tests.{eq-eqb, le-ltb, lt-ltb}
 use lib.ListN.{length}
 use lib.Dec.{ltb, eqb}
+use Rattle.bounds.specs.Bounds.{maxDepth}
 use Rattle.tlv.specs.declared.Cursor.{Cursor}
 use Rattle.tlv.specs.declared.Element.{Element}
 use Rattle.tlv.specs.declared.Head.the-variants.{Found, Malformed}
 use Rattle.tlv.specs.declared.Walk.the-variants.{Past, Broken}
 use Rattle.tlv.specs.Octet.{structure, list, endOfContainer}
-use Rattle.tlv.specs.Tree.{maxDepth}
 use Rattle.tlv.specs.Head.{headAt}
 use Rattle.tlv.specs.Walk.{Got, choose, allowedIn, foldAt, elementBy, elementEnd, membersEnd, elementAt, ended, endsAt, isMessage}
 use Rattle.tlv.specs.Walk.Got.{got, bad}

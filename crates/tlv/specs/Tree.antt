@@ -6,6 +6,7 @@ use mathlib.Core.Bool.{Bool, true, false, not}
 use lib.IntN.{ℤ, pos, negsuc}
 use lib.ListN.{length}
 use lib.Dec.{ltb, leb, eqb}
+use Rattle.bounds.specs.Bounds.{maxDepth}
 use Rattle.tlv.specs.Octet.{pick, tagWidth, numberWidth, isString, headOctets, structure, array, endOfContainer}
 
 pub data Tag : Type 0 where
@@ -44,9 +45,6 @@ unfoldable mutual
   pub depths : Trees → ℕ
   depths none = 0
   depths (more t ts) = max (depth t) (depths ts)
-
-abbrev pub maxDepth : ℕ
-maxDepth = 10
 
 abbrev pub tagOfTree : Tree → Tag
 tagOfTree (primitive t v) = t

@@ -4,13 +4,13 @@ use mathlib.Core.List.{List}
 use mathlib.Core.Bool.{Bool, true, false}
 use lib.ListN.{length}
 use lib.Dec.{ltb, eqb}
+use Rattle.bounds.specs.Bounds.{maxDepth}
 use Rattle.tlv.specs.declared.Element.{Element}
 use Rattle.tlv.specs.declared.Head.{Head}
 use Rattle.tlv.specs.declared.Head.the-variants.{Found, Malformed}
 use Rattle.tlv.specs.declared.Walk.{Walk}
 use Rattle.tlv.specs.declared.Walk.the-variants.{Past, Broken}
 use Rattle.tlv.specs.Octet.{pick, structure, array, list, endOfContainer}
-use Rattle.tlv.specs.Tree.{maxDepth}
 use Rattle.tlv.specs.Head.{headAt}
 
 -- what is found at a position, and where it ends; or nothing

@@ -7,9 +7,6 @@ ghost use Rattle.tlv.specs.Walk.{allowedIn, elementEnd, membersEnd, elem
 ghost use Rattle.tlv.specs.Tree.{complement};
 ghost use Rattle.tlv.specs.Value.{signedOf, valueOf, valueIn};
 
-// How deep containers may nest: the message's own structure is depth 1.
-pub const MAX_DEPTH: usize = 10;
-
 pub const STRUCTURE: u8 = 21;
 
 pub const ARRAY: u8 = 22;
@@ -252,7 +249,7 @@ pub fn message(s: &[u8]) -> bool
     if e.kind != STRUCTURE {
         return false;
     }
-    let Walk::Past(n) = walk_element(s, e, MAX_DEPTH) else {
+    let Walk::Past(n) = walk_element(s, e, bounds::MAX_DEPTH) else {
         return false;
     };
     n.at == s.len()

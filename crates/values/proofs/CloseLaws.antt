@@ -7,10 +7,10 @@ use native.Mathlib.Omega.{arith}
 use borrow.Author.Tests.{le-leb, eqb-true, eq-eqb}
 use lib.Dec.{eqb, leb}
 use lib.ListN.{length, getD, replicate, getD-replicate}
+use Rattle.bounds.specs.Bounds.{attributeLimit, textMax}
 use Rattle.tlv.specs.Octet.{pick}
-use Rattle.kinds.specs.Limits.{textMax}
 use Rattle.kinds.specs.Stored.{held}
-use Rattle.schema.specs.Layout.{attributeLimit, textLimit, textSize}
+use Rattle.schema.specs.Layout.{textLimit, textSize}
 use Rattle.schema.specs.Rows.{attributeRow, attributeCount, isText, factoryStart}
 use Rattle.schema.specs.Check.{every, rank, rankRight, allRanks, ranksRight, textCount}
 use Rattle.schema.proofs.BoolLaws.{both, left, right, by-test, same}

@@ -6,7 +6,8 @@ use Prim.Native.Nat.{ℕ, _+_, _*_, _-_, _≤_, _<_}
 use native.Mathlib.Omega.{arith}
 use borrow.Author.Tests.{eq-eqb}
 use lib.ListN.{length, getD, set, take, drop, getD-replicate, replicate, length-replicate, length-append}
-use Rattle.schema.specs.Layout.{clusterLimit, attributeLimit, textSize}
+use Rattle.bounds.specs.Bounds.{clusterLimit, attributeLimit}
+use Rattle.schema.specs.Layout.{textSize}
 use Rattle.schema.specs.Rows.{clusterRow, attributeRow, clusterCount, attributeCount, isText, factoryStart, factoryLength, rowsFrom, filled}
 use Rattle.schema.specs.Check.{textCount}
 use Rattle.schema.proofs.BoolLaws.{both, by-test}

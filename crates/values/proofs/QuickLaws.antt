@@ -7,11 +7,11 @@ use native.Mathlib.Omega.{arith}
 use borrow.Author.Tests.{le-leb, lt-leb, leb-true, eqb-true, eq-eqb, ne-eqb}
 use lib.Dec.{eqb, leb}
 use lib.ListN.{length, getD}
+use Rattle.bounds.specs.Bounds.{attributeLimit, textMax}
 use Rattle.tlv.specs.Octet.{pick}
 use Rattle.utf8.specs.Bytewise.{allBelow}
 use Rattle.utf8.proofs.Below.{ascii-formed, below-part}
-use Rattle.kinds.specs.Limits.{textMax}
-use Rattle.schema.specs.Layout.{attributeLimit, textLimit, textSize}
+use Rattle.schema.specs.Layout.{textLimit, textSize}
 use Rattle.schema.specs.Rows.{attributeRow, attributeCount, isText, factoryStart}
 use Rattle.schema.specs.Check.{every, rank, rankRight, ranksRight, textCount}
 use Rattle.schema.proofs.BoolLaws.{both, left, right, past, fails, by-test}

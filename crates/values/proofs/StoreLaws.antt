@@ -8,12 +8,13 @@ use borrow.Author.Tests.{eqb-true, eqb-false, eq-eqb, leb-true}
 use lib.Dec.{eqb}
 use lib.ListN.{length, getD, length-set}
 use lib.Seq.{getD-set-same, getD-set-other}
+use Rattle.bounds.specs.Bounds.{clusterLimit, textMax}
 use Rattle.octets.specs.Store.{store}
 use Rattle.octets.proofs.StoreLaws.{length-store}
 use Rattle.tlv.specs.Value.{Datum}
-use Rattle.kinds.specs.Limits.{isNull, textMax}
+use Rattle.kinds.specs.Limits.{isNull}
 use Rattle.kinds.specs.Stored.{held, nextVersion}
-use Rattle.schema.specs.Layout.{clusterLimit, textSize}
+use Rattle.schema.specs.Layout.{textSize}
 use Rattle.schema.specs.Rows.{AttributeRow, attributeRow, attributeCount, factoryStart}
 use Rattle.schema.specs.Rows as rows
 use Rattle.schema.specs.Rules.{Rules}

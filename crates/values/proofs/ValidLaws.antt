@@ -6,17 +6,17 @@ use Prim.Native.Nat.{ℕ, _*_, _≤_, _<_}
 use borrow.Author.Tests.{eqb-true, eq-eqb, le-leb}
 use lib.Dec.{eqb, leb}
 use lib.ListN.{length, getD, take, drop}
+use Rattle.bounds.specs.Bounds.{clusterLimit, attributeLimit, textMax}
 use Rattle.utf8.specs.WellFormed.{wellFormed}
 use Rattle.utf8.specs.Boundary.{cutWell}
 use Rattle.utf8.proofs.Cuts.{cut-exactly}
-use Rattle.schema.specs.Layout.{clusterLimit, attributeLimit, textSize}
+use Rattle.schema.specs.Layout.{textSize}
 use Rattle.schema.specs.Rows.{attributeRow, attributeCount, isText, factoryStart}
 use Rattle.schema.specs.Check.{every, textCount}
 use Rattle.schema.proofs.BoolLaws.{both, left, right}
 use Rattle.schema.proofs.CheckLaws.{every-at, every-all}
 use Rattle.tlv.specs.Octet.{pick}
 use Rattle.kinds.specs.declared.Kind.the-variants.{Text}
-use Rattle.kinds.specs.Limits.{textMax}
 use Rattle.kinds.specs.Stored.{held}
 use Rattle.node.specs.Attributes.{kindOf}
 use Rattle.node.specs.Check.{numberRight, numbersRight}

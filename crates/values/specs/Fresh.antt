@@ -3,7 +3,7 @@ use mathlib.Core.Bool.{false}
 use mathlib.Core.List.{List}
 use Prim.Native.Nat.{ℕ}
 use lib.ListN.{replicate}
-use Rattle.schema.specs.Layout.{clusterLimit, attributeLimit}
+use Rattle.bounds.specs.Bounds.{clusterLimit, attributeLimit}
 use Rattle.schema.specs.Rows.{clusterRow, attributeRow, clusterCount, attributeCount, filled}
 use Rattle.node.specs.Attributes.{firstWord}
 use Rattle.values.specs.declared.Values.{Values}

@@ -5,11 +5,11 @@ use mathlib.Core.List.{List}
 use Prim.Native.Nat.{ℕ, _*_, _-_, min}
 use lib.Dec.{eqb, leb}
 use lib.ListN.{length, getD}
+use Rattle.bounds.specs.Bounds.{attributeLimit, textMax}
 use Rattle.tlv.specs.Octet.{pick}
 use Rattle.utf8.specs.Bytewise.{allBelow}
-use Rattle.kinds.specs.Limits.{textMax}
 use Rattle.kinds.specs.Stored.{held}
-use Rattle.schema.specs.Layout.{attributeLimit, textLimit, textSize}
+use Rattle.schema.specs.Layout.{textLimit, textSize}
 use Rattle.schema.specs.Rows.{attributeRow, attributeCount, isText, factoryStart}
 use Rattle.schema.specs.Check.{every, rank, textCount}
 use Rattle.node.specs.Attributes.{kindOf}

@@ -4,9 +4,9 @@ ghost use mathlib.Core.Bool.{true};
 ghost use Rattle.schema.specs.Check.{wellFormed};
 ghost use Rattle.values.specs.Values.{valuesOf};
 ghost use Rattle.values.specs.Fresh.{firstWords, firstVersions, freshValues};
+use bounds::ATTRIBUTES;
+use bounds::CLUSTERS;
 use node::decode::first_word;
-use schema::ATTRIBUTES;
-use schema::CLUSTERS;
 use schema::WORDS;
 
 fn first_words(w: &[u64; WORDS]) -> [u64; ATTRIBUTES]

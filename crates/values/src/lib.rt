@@ -1,13 +1,13 @@
 // What a sign holds: the value of each attribute and the data version of each cluster (document 01, A sign's plan).
 ghost use mathlib.Core.Path.{_≡_};
 ghost use Prim.Native.Nat.{_<_};
-ghost use Rattle.schema.specs.Layout.{attributeLimit};
+ghost use Rattle.bounds.specs.Bounds.{attributeLimit};
 ghost use Rattle.values.specs.Values.{textAt, valueAt};
+use bounds::ATTRIBUTES;
+use bounds::CLUSTERS;
 use kinds::stored::value_of;
 use node::decode::kind_of;
 use node::pages::shown;
-use schema::ATTRIBUTES;
-use schema::CLUSTERS;
 use schema::WORDS;
 use tlv::Value;
 

@@ -5,8 +5,8 @@ ghost use mathlib.Core.Bool.{true, false, _&&_};
 ghost use Prim.Native.Nat.{_<_, _≤_};
 ghost use lib.Dec.{leb};
 ghost use lib.ListN.{length, take, drop};
+ghost use Rattle.bounds.specs.Bounds.{attributeLimit};
 ghost use Rattle.utf8.specs.WellFormed.{wellFormed};
-ghost use Rattle.schema.specs.Layout.{attributeLimit};
 ghost use Rattle.schema.specs.Check.{ranksRight};
 ghost use Rattle.node.specs.Check.{numbersRight};
 ghost use Rattle.values.specs.Valid.{shownRight, shownAt, allShown, heldRight};
@@ -16,9 +16,9 @@ use super::quick::is_quick;
 use super::quick::nulls_ok;
 use super::quick::some_mark;
 use super::text_at;
-use kinds::TEXT_MAX;
+use bounds::ATTRIBUTES;
+use bounds::TEXT_MAX;
 use node::pages::part;
-use schema::ATTRIBUTES;
 use schema::WORDS;
 
 // Whether the factory page is valid UTF-8 as a whole. It is asked only where a text is shown from it (one of the first n marks is false), and where it is no

@@ -5,7 +5,7 @@
 ghost use mathlib.Core.Path.{_≡_};
 ghost use Prim.Native.Nat.{_≤_};
 ghost use lib.ListN.{length};
-ghost use Rattle.tlv.specs.Tree.{maxDepth};
+ghost use Rattle.bounds.specs.Bounds.{maxDepth};
 ghost use Rattle.tlv.specs.Walk.{elementAt, endsAt};
 use libc::STDIN_FILENO;
 use rewrite::Put;
@@ -83,7 +83,7 @@ fn is_element(s: &[u8]) -> bool
     ensures { λ r. ⌜ r ≡ endsAt (length (now (s .entry))) (elementAt maxDepth (now (s .entry)) 0) ⌝ }
 {
     let start = Cursor { at: 0 };
-    let Walk::Past(n) = start.walk(s, tlv::MAX_DEPTH) else {
+    let Walk::Past(n) = start.walk(s, bounds::MAX_DEPTH) else {
         return false;
     };
     n.at == s.len()

@@ -7,10 +7,10 @@ use native.Mathlib.Omega.{arith}
 use borrow.Author.Tests.{lt-ltb}
 use lib.ListN.{length, getD, set, take, drop, replicate, length-take, drop-of-length-le}
 use lib.Seq.{drop-cons, getD-take}
+use Rattle.bounds.specs.Bounds.{maxWrites}
 use Rattle.interaction.specs.Message.{snoc, firstOf}
 use Rattle.interaction.proofs.KeepLaws.{length-snoc, first-none, keep-one}
 use Rattle.interaction_write.specs.declared.Entry.{Entry}
-use Rattle.interaction_write.specs.Write.{maxWrites}
 use Rattle.acl.specs.declared.Grants.{Grants}
 use Rattle.writes.specs.Offer.{Held, Outcome}
 use Rattle.writes.specs.Entry.{entryWritten, heldAfter, codesOf, codesIn}

@@ -6,6 +6,7 @@ use Prim.Native.Nat.{ℕ, _+_, _*_, _≤_, _<_}
 use native.Mathlib.Omega.{arith}
 use lib.Dec.{eqb}
 use lib.ListN.{length}
+use Rattle.bounds.specs.Bounds.{clusterLimit}
 use Rattle.tlv.specs.declared.Value.{Value}
 use Rattle.tlv.specs.declared.Value.the-variants as value
 use Rattle.tlv.specs.Value.{datumIn}
@@ -13,7 +14,7 @@ use Rattle.kinds.specs.declared.Kind.{Kind}
 use Rattle.kinds.specs.declared.Verdict.{Verdict}
 use Rattle.kinds.specs.declared.Verdict.the-variants.{Success}
 use Rattle.kinds.specs.Limits.{judgedIn}
-use Rattle.schema.specs.Layout.{textSize, clusterLimit}
+use Rattle.schema.specs.Layout.{textSize}
 use Rattle.schema.specs.Rows.{attributeRow, attributeCount}
 use Rattle.schema.specs.Check.{textCount}
 use Rattle.schema.specs.Rules.{Rules}

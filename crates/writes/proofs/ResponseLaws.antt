@@ -6,11 +6,12 @@ use native.Mathlib.Numerals.{add-one}
 use native.Mathlib.Omega.{arith}
 use lib.ListN.{length, getD, take, length-take, length-append}
 use lib.Seq.{getD-take}
+use Rattle.bounds.specs.Bounds.{maxPayload, maxWrites}
 use Rattle.octets.specs.Store.{Stored}
 use Rattle.octets.proofs.StoreLaws.{then}
 use Rattle.tlv.specs.Tree.{Tree}
 use Rattle.interaction_write.specs.declared.Entry.{Entry}
-use Rattle.interaction_write.specs.Write.{maxWrites, noEntry}
+use Rattle.interaction_write.specs.Write.{noEntry}
 use Rattle.interaction_writer.specs.Spelling.{spelling, joined}
 use Rattle.interaction_writer.specs.Block.{answerTree}
 use Rattle.interaction_writer.proofs.LengthLaws.{write-status-bound}
@@ -55,7 +56,7 @@ answers-bound (x ∷ xs) (code ∷ codes) f g =
     )
 
 -- A RESPONSE fits one payload
-pub response-length : (xs : List Entry) (codes : List ℕ) → length xs ≤ maxWrites → ((i : ℕ) → i < length xs → InWidth (getD xs i noEntry)) → ((i : ℕ) → i < length codes → getD codes i 0 < 2 ^ 8) → length (responsePayload xs codes) ≤ 1024
+pub response-length : (xs : List Entry) (codes : List ℕ) → length xs ≤ maxWrites → ((i : ℕ) → i < length xs → InWidth (getD xs i noEntry)) → ((i : ℕ) → i < length codes → getD codes i 0 < 2 ^ 8) → length (responsePayload xs codes) ≤ maxPayload
 unfolding responsePayload
 response-length xs codes l f g = omega (arith, l, length-response (answerTrees xs codes), answers-bound xs codes f g)
 

@@ -4,12 +4,13 @@ use mathlib.Core.List.{List, [], _∷_}
 use Prim.Native.Nat.{ℕ, zero, suc, _^_, _≤_, _<_}
 use native.Mathlib.Omega.{arith}
 use lib.ListN.{length, getD, take, length-take}
+use Rattle.bounds.specs.Bounds.{maxPayload, maxWrites}
 use Rattle.tlv.specs.Octet.{pick}
 use Rattle.tlv.specs.declared.Value.{Value}
 use Rattle.tlv.proofs.Picks.{pick-elim}
 use Rattle.interaction.specs.Message.{firstOf}
 use Rattle.interaction_write.specs.declared.Entry.{Entry}
-use Rattle.interaction_write.specs.Write.{maxWrites, noEntry}
+use Rattle.interaction_write.specs.Write.{noEntry}
 use Rattle.kinds.specs.declared.Verdict.{Verdict}
 use Rattle.kinds.specs.declared.Verdict.the-variants.{Success, ConstraintError, InvalidDataType}
 use Rattle.kinds.specs.Limits.{statusCode}
@@ -71,7 +72,7 @@ module _ (w : List ℕ) (g : Grants) (defaults s : List ℕ) where
   one-status-each h (x ∷ xs) = ap suc (one-status-each (entryWritten w g defaults s h x .held) xs)
 
   -- the answer to a write of at most 16 entries fits one payload
-  pub answer-length : (h : Held) (xs : List Entry) → length xs ≤ maxWrites → ((i : ℕ) → i < length xs → InWidth (getD xs i noEntry)) → length (responsePayload xs (codesOf w g defaults s h xs)) ≤ 1024
+  pub answer-length : (h : Held) (xs : List Entry) → length xs ≤ maxWrites → ((i : ℕ) → i < length xs → InWidth (getD xs i noEntry)) → length (responsePayload xs (codesOf w g defaults s h xs)) ≤ maxPayload
   answer-length h xs l f = response-length xs (codesOf w g defaults s h xs) l f (codes-octets h xs)
 
 -- ---- as the code keeps them

@@ -5,12 +5,12 @@ use mathlib.Core.List.{List, [], _∷_}
 use Prim.Native.Nat.{ℕ, _<_, _^_}
 use lib.Dec.{eqb}
 use lib.ListN.{getD}
+use Rattle.bounds.specs.Bounds.{maxWrites}
 use Rattle.tlv.specs.Octet.{pick}
 use Rattle.tlv.specs.Value.{valueIn}
 use Rattle.members.specs.Scalar.{ABSENT}
 use Rattle.interaction.specs.Message.{firstOf}
 use Rattle.interaction_write.specs.declared.Entry.{Entry}
-use Rattle.interaction_write.specs.Write.{maxWrites}
 use Rattle.schema.specs.Rows.{attributeRow}
 use Rattle.acl.specs.declared.Grants.{Grants}
 use Rattle.selection.specs.declared.locate.Located.{Located}

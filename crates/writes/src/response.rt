@@ -2,13 +2,14 @@
 ghost use mathlib.Core.Path.{_≡_};
 ghost use Prim.Native.Nat.{ℕ, _<_, _≤_, _+_, _*_};
 ghost use lib.ListN.{length, take, getD};
+ghost use Rattle.bounds.specs.Bounds.{maxPayload, maxWrites};
 ghost use Rattle.octets.specs.Store.{Stored};
-ghost use Rattle.interaction_write.specs.Write.{maxWrites, noEntry};
+ghost use Rattle.interaction_write.specs.Write.{noEntry};
 ghost use Rattle.interaction_writer.specs.Spelling.{joined};
 ghost use Rattle.writes.specs.Entry.{InWidth};
 ghost use Rattle.writes.specs.Response.{answerTrees, responsePayload};
+use bounds::MAX_WRITES;
 use interaction_write::Entry;
-use interaction_write::MAX_WRITES;
 use interaction_writer::response::put_write_response_close;
 use interaction_writer::response::put_write_response_open;
 use interaction_writer::response::put_write_status;
@@ -49,7 +50,7 @@ pub fn put_response(
     out: &mut [u8],
     start: usize,
 ) -> usize
-    requires { ⌜ (n ≤ maxWrites) × (((i : ℕ) → i < n → InWidth (getD entries i noEntry)) × (start + 1024 ≤ length (now out))) ⌝ }
+    requires { ⌜ (n ≤ maxWrites) × (((i : ℕ) → i < n → InWidth (getD entries i noEntry)) × (start + maxPayload ≤ length (now out))) ⌝ }
     ensures { λ r. ⌜ Stored (now (out .entry)) start (responsePayload (take n entries) (take n codes)) (now (out .exit)) r ⌝ }
 {
     let p = put_write_response_open(out, start);

@@ -1,6 +1,6 @@
 use mathlib.Core.Path.{sym, ap, _∙_}
 use lib.ListN.{length}
-use Rattle.tlv.specs.Tree.{maxDepth}
+use Rattle.bounds.specs.Bounds.{maxDepth}
 use Rattle.tlv.specs.Walk.{elementAt, endsAt}
 use Rattle.tlv.proofs.WalkLaws.{broken, past}
 use borrow.Author.Needs.{needs}

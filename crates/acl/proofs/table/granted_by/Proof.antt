@@ -2,7 +2,7 @@ use mathlib.Core.Path.{_≡_}
 use Prim.Native.Nat.{_≤_, _-_}
 use borrow.Author.Needs.{needs}
 use lib.ListN.{length, length-map}
-use Rattle.schema.specs.Layout.{clusterLimit}
+use Rattle.bounds.specs.Bounds.{clusterLimit}
 use Rattle.schema.specs.Rows.{clusterCount}
 use Rattle.acl.proofs.SearchLaws.{upTo, up-begin, up-step, up-done}
 use Rattle.acl.proofs.table.granted_by.Statement.{statement}

@@ -4,6 +4,9 @@ use Rattle.kinds.specs.Stored.{nextVersion}
 use Rattle.kinds.proofs.stored.next_version.Statement.{statement}
 use Rattle.kinds.proofs.stored.next_version.Tie as tie
 
+add-if1 : tie.Need-add-if1
+add-if1 c = search needs
+
 add-result : tie.Need-add-result
 add-result c = search needs
 
@@ -16,4 +19,4 @@ unfolding nextVersion
 returns-2 c = omega arith
 
 pub next-version-spec : {M : Type 1} → statement M
-next-version-spec = tie.close (tie.spec add-result returns returns-2)
+next-version-spec = tie.close (tie.spec add-if1 add-result returns returns-2)

@@ -1,7 +1,6 @@
 use mathlib.Core.Path.{refl}
 use borrow.Author.Tests.{eq-eqb, ne-eqb, lt-ltb, le-ltb, not-true, not-false}
-use Rattle.interaction.specs.Read.{maxPaths, maxFilters}
-use Rattle.interaction_write.specs.Write.{maxWrites}
+use Rattle.bounds.specs.Bounds.{maxPaths, maxFilters, maxWrites}
 use Rattle.replies.specs.Refusal.{refusalCode}
 use Rattle.replies.proofs.refusal.refusal_code.Statement.{statement}
 use Rattle.replies.proofs.refusal.refusal_code.Tie as tie

@@ -1,8 +1,7 @@
 use mathlib.Core.Path.{refl}
 use Prim.Native.Nat.{_^_}
 use borrow.Author.Tests.{lt-ltb, le-ltb, lt-leb, le-leb, eq-eqb, ne-eqb}
-use Rattle.interaction.specs.Read.{maxPaths}
-use Rattle.schema.specs.Layout.{attributeLimit}
+use Rattle.bounds.specs.Bounds.{attributeLimit, maxPaths}
 use Rattle.exchange.specs.Rules.{maxTurn, part}
 use Rattle.interaction_writer.specs.Envelope.{exchangeLimit}
 use Rattle.report.specs.Blocks.{attributePhase}

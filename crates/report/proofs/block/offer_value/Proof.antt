@@ -4,7 +4,7 @@ use Prim.Native.Nat.{_<_}
 use native.Mathlib.Omega.{arith}
 use borrow.Author.Needs.{needs}
 use lib.ListN.{getD}
-use Rattle.schema.specs.Layout.{clusterLimit}
+use Rattle.bounds.specs.Bounds.{clusterLimit}
 use Rattle.values.specs.Values.{valuesOf}
 use Rattle.report.proofs.OfferLaws.{offered-as}
 use Rattle.report.proofs.ValueLaws.{value-inside, cluster-within, endpoint-fits, value-block}

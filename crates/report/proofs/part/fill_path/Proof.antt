@@ -5,7 +5,7 @@ use Prim.Native.Nat.{ℕ, _+_, _-_, _≤_, _<_}
 use native.Mathlib.Omega.{arith}
 use borrow.Author.Needs.{needs}
 use lib.ListN.{length}
-use Rattle.schema.specs.Layout.{attributeLimit}
+use Rattle.bounds.specs.Bounds.{attributeLimit}
 use Rattle.acl.specs.declared.Grants.{Grants}
 use Rattle.selection.specs.Items.{span}
 use Rattle.report.specs.declared.Filled.{Filled}

@@ -2,7 +2,7 @@ use mathlib.Core.Path.{sym, ap, _∙_}
 use Prim.Native.Nat.{ℕ}
 use lib.Dec.{leb}
 use borrow.Author.Tests.{not-true, not-false}
-use Rattle.schema.specs.Layout.{endpointLimit}
+use Rattle.bounds.specs.Bounds.{endpointLimit}
 use Rattle.schema.proofs.BoolLaws.{past, fails}
 use borrow.Author.Needs.{needs}
 use Rattle.schema.proofs.check.clusters_right.Statement.{statement}

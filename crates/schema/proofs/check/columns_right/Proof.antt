@@ -2,7 +2,8 @@ use mathlib.Core.Path.{sym, ap, ap₂, _∙_}
 use native.Mathlib.Omega.{arith}
 use borrow.Author.Tests.{not-true, not-false, le-leb, lt-leb}
 use lib.ListN.{getD}
-use Rattle.schema.specs.Layout.{clusterLimit, attributeLimit, clusterCountWord, attributeCountWord, spareColumn, spareCount}
+use Rattle.bounds.specs.Bounds.{clusterLimit, attributeLimit}
+use Rattle.schema.specs.Layout.{clusterCountWord, attributeCountWord, spareColumn, spareCount}
 use Rattle.schema.specs.Check.{allBelow, clustersRight, attributesRight}
 use Rattle.schema.proofs.BoolLaws.{past, fails}
 use borrow.Author.Needs.{needs}

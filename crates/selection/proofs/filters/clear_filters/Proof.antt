@@ -2,8 +2,8 @@ use mathlib.Core.Path.{_≡_, refl, sym, ap, _∙_}
 use Prim.Native.Nat.{_≤_, _-_}
 use native.Mathlib.Omega.{arith}
 use lib.ListN.{length, length-set}
+use Rattle.bounds.specs.Bounds.{clusterLimit}
 use Rattle.octets.specs.Store.{store}
-use Rattle.schema.specs.Layout.{clusterLimit}
 use Rattle.schema.specs.Rows.{rowsFrom}
 use Rattle.selection.specs.Request.{filtersAt}
 use Rattle.selection.specs.Filters.{unfiltered}

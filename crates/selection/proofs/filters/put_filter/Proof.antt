@@ -2,7 +2,7 @@ use mathlib.Core.Path.{_≡_, refl, sym, ap, _∙_}
 use Prim.Native.Nat.{_<_, _+_}
 use native.Mathlib.Omega.{arith}
 use lib.ListN.{set}
-use Rattle.schema.specs.Layout.{clusterLimit}
+use Rattle.bounds.specs.Bounds.{clusterLimit}
 use Rattle.selection.specs.Request.{filtersAt}
 use Rattle.selection.specs.Filters.{joinedAt}
 use Rattle.selection.proofs.PutLaws.{row-within}

@@ -3,10 +3,10 @@ use mathlib.Core.List.{[], _∷_, _++_}
 use Prim.Native.Nat.{_≤_, _+_, _-_}
 use native.Mathlib.Omega.{arith}
 use lib.ListN.{length, take}
+use Rattle.bounds.specs.Bounds.{clusterLimit, maxFilters}
 use Rattle.octets.specs.Store.{store}
 use Rattle.octets.proofs.StoreLaws.{length-store}
-use Rattle.schema.specs.Layout.{clusterLimit}
-use Rattle.interaction.specs.Read.{maxFilters, unwanted}
+use Rattle.interaction.specs.Read.{unwanted}
 use Rattle.selection.specs.Request.{filtersAt}
 use Rattle.selection.specs.Filters.{filterWords}
 use Rattle.selection.proofs.PutLaws.{clear-length, clear-over, clear-stays, filter-more, take-more}

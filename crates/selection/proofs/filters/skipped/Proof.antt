@@ -2,7 +2,7 @@ use mathlib.Core.Path.{_≡_, refl, sym, ap, _∙_}
 use mathlib.Core.Bool.{false}
 use Prim.Native.Nat.{_≤_, _-_}
 use native.Mathlib.Omega.{arith}
-use Rattle.schema.specs.Layout.{clusterLimit}
+use Rattle.bounds.specs.Bounds.{clusterLimit}
 use Rattle.schema.specs.Rows.{clusterCount, filled}
 use Rattle.schema.proofs.RowLaws.{fill-begin}
 use Rattle.selection.specs.Filters.{skipsNow}

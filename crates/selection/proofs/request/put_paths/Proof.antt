@@ -3,9 +3,9 @@ use Prim.Native.Nat.{_≤_, _-_}
 use native.Mathlib.Omega.{arith}
 use lib.ListN.{length, take}
 use lib.Seq.{take-length}
+use Rattle.bounds.specs.Bounds.{maxPaths}
 use Rattle.octets.specs.Store.{store}
 use Rattle.octets.proofs.StoreLaws.{length-store}
-use Rattle.interaction.specs.Read.{maxPaths}
 use Rattle.selection.specs.Request.{pathsWords}
 use Rattle.selection.proofs.RequestLaws.{path-stored}
 use borrow.Author.Needs.{needs}

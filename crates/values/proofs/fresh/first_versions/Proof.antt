@@ -2,7 +2,8 @@ use mathlib.Core.Path.{_≡_}
 use Prim.Native.Nat.{_≤_, _-_, _<_}
 use native.Mathlib.Omega.{arith}
 use borrow.Author.Needs.{needs}
-use Rattle.schema.specs.Layout.{clusterLimit, half}
+use Rattle.bounds.specs.Bounds.{clusterLimit}
+use Rattle.schema.specs.Layout.{half}
 use Rattle.schema.specs.Rows.{clusterRow, clusterCount, filled}
 use Rattle.schema.proofs.RowLaws.{fill-begin}
 use Rattle.schema.proofs.IndexLaws.{to-index}

@@ -1,7 +1,7 @@
 use mathlib.Core.Path.{_≡_}
 use Prim.Native.Nat.{_≤_, _-_}
 use borrow.Author.Needs.{needs}
-use Rattle.schema.specs.Layout.{attributeLimit}
+use Rattle.bounds.specs.Bounds.{attributeLimit}
 use Rattle.schema.specs.Rows.{attributeRow, attributeCount, filled}
 use Rattle.schema.proofs.RowLaws.{fill-begin}
 use Rattle.node.specs.Attributes.{firstWord}

@@ -1,6 +1,6 @@
 use lib.ListN.{replicate}
 use mathlib.Core.Bool.{false}
-use Rattle.schema.specs.Layout.{attributeLimit}
+use Rattle.bounds.specs.Bounds.{attributeLimit}
 use Rattle.values.specs.Fresh.{freshValues}
 use borrow.Author.Needs.{needs}
 use Rattle.values.proofs.fresh.fresh.Statement.{statement}

@@ -1,6 +1,6 @@
 use Prim.Native.Nat.{_<_, _≤_, min}
 use borrow.Author.Needs.{needs}
-use Rattle.kinds.specs.Limits.{textMax}
+use Rattle.bounds.specs.Bounds.{textMax}
 use Rattle.values.proofs.QuickLaws.{near-long, near-short}
 use Rattle.values.proofs.quick.is_near.Statement.{statement}
 use Rattle.values.proofs.quick.is_near.Tie as tie

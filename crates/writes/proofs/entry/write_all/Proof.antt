@@ -3,7 +3,8 @@ use mathlib.Core.Path.{_≡_, sym, ap, _∙_}
 use Prim.Native.Nat.{_≤_, _*_, _-_}
 use native.Mathlib.Omega.{arith}
 use lib.ListN.{length, take, length-take}
-use Rattle.interaction_write.specs.Write.{maxWrites, noEntry}
+use Rattle.bounds.specs.Bounds.{maxWrites}
+use Rattle.interaction_write.specs.Write.{noEntry}
 use Rattle.schema.specs.Layout.{textSize}
 use Rattle.schema.specs.Check.{textCount}
 use Rattle.writes.specs.Offer.{Outcome}

@@ -4,9 +4,10 @@ use native.Mathlib.Omega.{arith}
 use borrow.Author.Needs.{elem-fits, needs}
 use lib.ListN.{length, take, getD}
 use mir.Syntax.{w8}
+use Rattle.bounds.specs.Bounds.{maxWrites}
 use Rattle.octets.specs.Store.{store, Stored}
 use Rattle.octets.proofs.StoreLaws.{same-length as kept-length}
-use Rattle.interaction_write.specs.Write.{maxWrites, noEntry}
+use Rattle.interaction_write.specs.Write.{noEntry}
 use Rattle.interaction_writer.specs.Spelling.{spelling, joined}
 use Rattle.writes.specs.Response.{answerTrees}
 use Rattle.writes.proofs.ResponseLaws.{answerFor, status-more, answer-bound}
