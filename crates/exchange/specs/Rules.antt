@@ -1,9 +1,11 @@
 -- The exchange rules (document 01, Envelope): what a message means for the exchange that is being served. With `last` the newest exchange served and k its
 -- newest reply.
-use mathlib.Core.Bool.{Bool, _&&_, _||_, not}
+use mathlib.Core.Bool.{Bool, true, false, _&&_, not}
 use Prim.Native.Nat.{ℕ, _+_}
 use lib.Dec.{eqb, ltb, leb}
 use Rattle.tlv.specs.Octet.{pick}
+use Rattle.exchange.specs.declared.Action.{Action}
+use Rattle.exchange.specs.declared.Action.the-variants.{Status, Read, Write, Other}
 use Rattle.exchange.specs.declared.Step.{Step}
 use Rattle.exchange.specs.declared.Step.the-variants.{Silence, Begin, Repeat, Next, Close}
 use Rattle.exchange.specs.declared.Progress.{Progress}
@@ -24,14 +26,24 @@ writeOpcode = 6
 abbrev pub writeResponseOpcode : ℕ
 writeResponseOpcode = 7
 
--- a message that may begin an exchange
-unfoldable pub beginning : ℕ → Bool
-beginning opcode = eqb opcode readOpcode || eqb opcode writeOpcode
+-- the action that an opcode stands for, of those that a server takes: a sign takes 1, 2 and 6
+unfoldable pub actionOf : ℕ → Action
+actionOf opcode =
+    pick (eqb opcode statusOpcode) Status (pick (eqb opcode readOpcode) Read (pick (eqb opcode writeOpcode) Write Other))
 
--- refusal 4, "opcode not for this end": a sign takes 1, 2 and 6
-unfoldable pub forServer : ℕ → Bool
-unfolding beginning
-forServer opcode = eqb opcode statusOpcode || beginning opcode
+-- an action that may begin an exchange
+abbrev pub beginning : Action → Bool
+beginning Status = false
+beginning Read = true
+beginning Write = true
+beginning Other = false
+
+-- an action that a server takes
+abbrev pub serverTakes : Action → Bool
+serverTakes Status = true
+serverTakes Read = true
+serverTakes Write = true
+serverTakes Other = false
 
 -- "the sign's reply number k has turn k": the turn of the first
 abbrev pub firstReply : ℕ

@@ -1,6 +1,6 @@
 // The exchange rules (document 01, Envelope), over numbers alone.
 ghost use mathlib.Core.Path.{_≡_};
-ghost use Rattle.exchange.specs.Rules.{beginning, forServer, onRequest, onPromised, onEarlier, onStatus};
+ghost use Rattle.exchange.specs.Rules.{actionOf, beginning, serverTakes, onRequest, onPromised, onEarlier, onStatus};
 
 // Opcodes of the Interaction Model.
 pub const STATUS: u64 = 1;
@@ -32,6 +32,16 @@ pub struct Progress {
     pub closed: u64,
 }
 
+// What a message asks of a server.
+pub enum Action {
+    // A status for a reply.
+    Status,
+    Read,
+    Write,
+    // None that a server takes.
+    Other,
+}
+
 // What a message gets.
 pub enum Step {
     Silence,
@@ -45,24 +55,44 @@ pub enum Step {
     Close,
 }
 
-// Whether a message with this opcode may begin an exchange.
-pub fn begins(opcode: u64) -> bool
-    ensures { λ r. ⌜ r ≡ beginning opcode ⌝ }
-{
-    if opcode == READ {
-        return true;
-    }
-    opcode == WRITE
-}
-
-// Whether a message with this opcode is for a server.
-pub fn is_for_server(opcode: u64) -> bool
-    ensures { λ r. ⌜ r ≡ forServer opcode ⌝ }
+// The action that an opcode stands for.
+pub fn action_of(opcode: u64) -> Action
+    ensures { λ r. ⌜ r ≡ actionOf opcode ⌝ }
 {
     if opcode == STATUS {
-        return true;
+        return Action::Status;
     }
-    begins(opcode)
+    if opcode == READ {
+        return Action::Read;
+    }
+    if opcode == WRITE {
+        return Action::Write;
+    }
+    Action::Other
+}
+
+// Whether an action may begin an exchange.
+pub fn begins(action: Action) -> bool
+    ensures { λ r. ⌜ r ≡ beginning action ⌝ }
+{
+    match action {
+        Action::Status => false,
+        Action::Read => true,
+        Action::Write => true,
+        Action::Other => false,
+    }
+}
+
+// Whether a server takes an action.
+pub fn server_takes(action: Action) -> bool
+    ensures { λ r. ⌜ r ≡ serverTakes action ⌝ }
+{
+    match action {
+        Action::Status => true,
+        Action::Read => true,
+        Action::Write => true,
+        Action::Other => false,
+    }
 }
 
 // A read or a write request.

@@ -2,7 +2,7 @@
 use mathlib.Core.Path.{_≡_, refl, subst, sym}
 use mathlib.Core.Bool.{Bool, true}
 use mathlib.Core.List.{List}
-use Prim.Native.Nat.{ℕ, _^_, _<_}
+use Prim.Native.Nat.{ℕ, _<_}
 use native.Mathlib.Omega.{arith}
 use lib.Dec.{eqb}
 use Rattle.tlv.specs.declared.Value.{Value}
@@ -16,7 +16,7 @@ use Rattle.acl.specs.declared.Grants.{Grants}
 use Rattle.values.proofs.ValidLaws.{Whole}
 use Rattle.exchange.specs.declared.Step.{Step}
 use Rattle.exchange.specs.declared.Step.the-variants.{Silence, Begin, Repeat, Next, Close}
-use Rattle.exchange.specs.Rules.{readOpcode, maxTurn}
+use Rattle.exchange.specs.Rules.{maxTurn}
 use Rattle.writes.specs.Offer.{Held, changed}
 use Rattle.writes.specs.Entry.{heldAfter}
 use Rattle.writes.proofs.HeldLaws.{Right, changed-keeps, writes-keep}
@@ -27,10 +27,12 @@ use Rattle.replies.specs.Begin.{Left, once, entriesOf, responseTo, readBegun, w
 use Rattle.replies.proofs.KeptLaws.{next-right, read-right, write-right}
 use Rattle.replies.proofs.RowLaws.{row-right, right-row}
 use Rattle.interaction_writer.specs.Envelope.{exchangeLimit}
+use Rattle.exchange.specs.declared.Action.{Action}
+use Rattle.exchange.specs.declared.Action.the-variants.{Status, Read, Write, Other}
 use Rattle.server.specs.declared.State.{State}
 use Rattle.server.specs.State.{signRight}
 use Rattle.server.specs.Start.{Altered, alteredBy}
-use Rattle.server.specs.Receive.{Reaction, withRow, replied, closing, wrote, reacted, received}
+use Rattle.server.specs.Receive.{Reaction, withRow, closing, reacted, received}
 use Rattle.server.proofs.SignLaws.{RightSign, sign-right, right-sign}
 use Rattle.server.proofs.StartLaws.{altered-right}
 use Rattle.server.proofs.ReceivedLaws.{received-holds}
@@ -86,20 +88,21 @@ module _ (w defaults edits : List ℕ) (s : State) (valid : ValidSign w defaults
       (moved k (changed-keeps w defaults rules h held-right e c a src new sized) (s .row) (parts .row))
 
   -- what a message gets
-  reacted-kept : (g : Grants) (e : Fields) → e .exchange < exchangeLimit → (payload : List ℕ) (step : Step) → (step ≡ Next → s .row .progress .turn < maxTurn) → ValidSign w defaults (reacted w defaults g s edits e payload step .edits) (reacted w defaults g s edits e payload step .state)
+  reacted-kept : (g : Grants) (e : Fields) → e .exchange < exchangeLimit → (payload : List ℕ) (action : Action) (step : Step) → (step ≡ Next → s .row .progress .turn < maxTurn) → ValidSign w defaults (reacted w defaults g s edits e payload action step .edits) (reacted w defaults g s edits e payload action step .state)
   unfolding reacted
-  reacted-kept g e below payload Silence t = valid
-  reacted-kept g e below payload Begin t =
+  reacted-kept g e below payload action Silence t = valid
+  reacted-kept g e below payload Read Begin t =
+      with-row (readBegun w (s .values) defaults edits g (s .row) (e .exchange) payload) (read-right (s .row) (e .exchange) below (parts .row) w (s .values) defaults edits g payload)
+  reacted-kept g e below payload Write Begin t =
       let h : Held = record { values = s .values; edits = edits } in
-      let x = readBegun w (s .values) defaults edits g (s .row) (e .exchange) payload in
       let l = writeBegun w g defaults h (s .row) (e .exchange) payload in
-      pick-elim (λ (y : Reaction). ValidSign w defaults (y .edits) (y .state)) (eqb (e .opcode) readOpcode) (replied s edits x) (wrote l)
-      (λ _. with-row x (read-right (s .row) (e .exchange) below (parts .row) w (s .values) defaults edits g payload))
-      (λ _. moved (l .held) (write-keeps w defaults rules h held-right g (s .row) (e .exchange) payload) (l .row) (write-right (s .row) (e .exchange) below (parts .row) w g defaults h payload))
-  reacted-kept g e below payload Repeat t = valid
-  reacted-kept g e below payload Next t =
+      moved (l .held) (write-keeps w defaults rules h held-right g (s .row) (e .exchange) payload) (l .row) (write-right (s .row) (e .exchange) below (parts .row) w g defaults h payload)
+  reacted-kept g e below payload Status Begin t = valid
+  reacted-kept g e below payload Other Begin t = valid
+  reacted-kept g e below payload action Repeat t = valid
+  reacted-kept g e below payload action Next t =
       with-row (nextPart w (s .values) defaults edits g (s .row)) (next-right w (s .values) defaults edits g (s .row) (parts .row) (t refl))
-  reacted-kept g e below payload Close t = with-row (closing (s .row)) (closing-right (s .row) (parts .row))
+  reacted-kept g e below payload action Close t = with-row (closing (s .row)) (closing-right (s .row) (parts .row))
 
   -- A MESSAGE, any bytes from anyone, with any access table and buffer
   pub received-kept : (table : Bool) (g : Grants) (subject : ℕ) (m : List ℕ) (room : ℕ) → ValidSign w defaults (received w defaults edits s table g subject m room .edits) (received w defaults edits s table g subject m room .state)

@@ -15,8 +15,9 @@ use Rattle.schema.specs.Layout.{subjectWord}
 use Rattle.acl.specs.declared.Grants.{Grants}
 use Rattle.exchange.specs.declared.Progress.{Progress}
 use Rattle.exchange.specs.declared.Step.the-variants.{Next}
-use Rattle.exchange.specs.Rules as rules
-use Rattle.exchange.specs.Rules.{statusOpcode, maxTurn, part, beginning, onStatus}
+use Rattle.exchange.specs.declared.Action.the-variants.{Status}
+use Rattle.exchange.specs.Rules.{statusOpcode, maxTurn, part, actionOf, onStatus}
+use Rattle.exchange.proofs.ActionLaws.{status-action}
 use Rattle.replies.specs.Messages.{envelopeLength, maxMessage}
 use Rattle.replies.specs.Row.{keptReply, nextPart}
 use Rattle.replies.proofs.KeptLaws.{next-right, next-some}
@@ -43,14 +44,14 @@ pub record Promised (x : Progress) : Type 0 where
   pub unclosed : x .closed ≡ 0
   pub left : x .turn < maxTurn
 
-step-next : (x : Progress) (e : Fields) (payload : List ℕ) → e .opcode ≡ statusOpcode → e .exchange ≡ x .last → e .turn ≡ x .turn → responseIn payload ≡ just 0 → Promised x → stepOf x e payload ≡ Next
-unfolding stepOf beginning onStatus
-step-next x e payload o a b c p =
-    rw (o, c, eq-eqb (e .exchange) (x .last) a, p .unclosed, eq-eqb (e .turn) (x .turn) b, p .promised, lt-ltb (x .turn) maxTurn (p .left)) refl
+step-next : (x : Progress) (e : Fields) (payload : List ℕ) → e .exchange ≡ x .last → e .turn ≡ x .turn → responseIn payload ≡ just 0 → Promised x → stepOf x Status e payload ≡ Next
+unfolding stepOf onStatus
+step-next x e payload a b c p =
+    rw (c, eq-eqb (e .exchange) (x .last) a, p .unclosed, eq-eqb (e .turn) (x .turn) b, p .promised, lt-ltb (x .turn) maxTurn (p .left)) refl
 
-for-status : (edition opcode : ℕ) → edition ≡ panelEdition → opcode ≡ statusOpcode → forServer edition opcode ≡ true
-unfolding forServer rules.forServer
-for-status edition opcode e o = rw (e, o) refl
+for-status : (edition : ℕ) → edition ≡ panelEdition → forServer edition Status ≡ true
+unfolding forServer
+for-status edition e = rw e refl
 
 some-number : (l : List ℕ) → envelopeLength ≤ length l → numberFor l ≡ 0
 some-number [] h = absurd (omega arith)
@@ -60,8 +61,8 @@ module _ (w defaults edits : List ℕ) (s : State) (g : Grants) (subject : ℕ) 
   pub promised-part : received w defaults edits s true g subject m room ≡ replied s edits (nextPart w (s .values) defaults edits g (s .row))
   unfolding reacted
   promised-part =
-      served w defaults edits s true g subject m room h refl enough (y .found) (y .fits) (for-status (e .edition) (e .opcode) (y .edition) (y .opcode)) (y .ours)
-      ∙ ap (reacted w defaults g s edits e (drop envelopeLength m)) (step-next (s .row .progress) e (drop envelopeLength m) (y .opcode) (y .exchange) (y .turn) (y .status) p)
+      served w defaults edits s true g subject m room h refl enough (y .found) (ap actionOf (y .opcode) ∙ status-action) (y .fits) (for-status (e .edition) (y .edition)) (y .ours)
+      ∙ ap (reacted w defaults g s edits e (drop envelopeLength m) Status) (step-next (s .row .progress) e (drop envelopeLength m) (y .exchange) (y .turn) (y .status) p)
 
   -- so it is never silence
   pub promised-answered : length (s .row .kept) ≡ maxMessage → received w defaults edits s true g subject m room .number ≡ 0

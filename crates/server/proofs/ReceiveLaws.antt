@@ -2,7 +2,7 @@
 use mathlib.Core.Path.{_≡_, refl, sym, ap, _∙_}
 use mathlib.Core.Bool.{Bool, true, false, _&&_}
 use mathlib.Core.List.{List}
-use Prim.Native.Nat.{ℕ, _*_, _-_, _≤_, _<_, _^_}
+use Prim.Native.Nat.{ℕ, _*_, _-_, _≤_, _<_}
 use native.Mathlib.Omega.{arith}
 use borrow.Author.Tests.{eq-eqb, ne-eqb, le-leb, lt-leb, lt-ltb, le-ltb, ltb-false}
 use lib.Dec.{ltb}
@@ -23,9 +23,11 @@ use Rattle.values.specs.Valid.{valuesRight}
 use Rattle.values.proofs.ValidLaws.{edits-size}
 use Rattle.replies.specs.Messages.{envelopeLength, maxMessage}
 use Rattle.replies.specs.Row.{rowRight}
+use Rattle.exchange.specs.declared.Action.{Action}
+use Rattle.exchange.specs.Rules.{actionOf}
 use Rattle.server.specs.declared.State.{State}
 use Rattle.server.specs.State.{signRight}
-use Rattle.server.specs.Receive.{refusal, silence, stepOf, reacted, inEnvelope, received, forServer}
+use Rattle.server.specs.Receive.{refusal, silence, stepOf, reacted, inEnvelope, received, forServer, byAction}
 
 -- what a valid sign has
 module _ (w defaults edits : List ℕ) (s : State) (h : signRight w defaults edits s ≡ true) where
@@ -82,30 +84,30 @@ module _ (w defaults edits : List ℕ) (s : State) (table : Bool) (g : Grants) (
       pub short : envelopeIn m ≡ Short → received w defaults edits s table g subject m room ≡ refusal 4 s edits
       short e = opened ∙ ap (inEnvelope w defaults g s edits subject m) e
 
-      module _ {e : Fields} (q : envelopeIn m ≡ Whole e) where
-        whole : received w defaults edits s table g subject m room ≡ inEnvelope w defaults g s edits subject m (Whole e)
-        whole = opened ∙ ap (inEnvelope w defaults g s edits subject m) q
+      module _ {e : Fields} (q : envelopeIn m ≡ Whole e) {action : Action} (d : actionOf (e .opcode) ≡ action) where
+        whole : received w defaults edits s table g subject m room ≡ byAction w defaults g s edits subject m e action
+        whole = opened ∙ ap (inEnvelope w defaults g s edits subject m) q ∙ ap (byAction w defaults g s edits subject m e) d
 
         pub too-long : maxMessage < length m → received w defaults edits s table g subject m room ≡ refusal 4 s edits
         too-long k = whole ∙ rw (lt-leb (length m) maxMessage k) refl
 
         module _ (k : length m ≤ maxMessage) where
-          pub not-for-server : forServer (e .edition) (e .opcode) ≡ false → received w defaults edits s table g subject m room ≡ refusal 4 s edits
+          pub not-for-server : forServer (e .edition) action ≡ false → received w defaults edits s table g subject m room ≡ refusal 4 s edits
           not-for-server o = whole ∙ rw (le-leb (length m) maxMessage k, o) refl
 
-          module _ (o : forServer (e .edition) (e .opcode) ≡ true) where
+          module _ (o : forServer (e .edition) action ≡ true) where
             pub other-subject : (subject ≡ getD w subjectWord 0 → ⊥) → received w defaults edits s table g subject m room ≡ silence s edits
             other-subject u = whole ∙ rw (le-leb (length m) maxMessage k, o, ne-eqb subject (getD w subjectWord 0) u) refl
 
-            pub served : subject ≡ getD w subjectWord 0 → received w defaults edits s table g subject m room ≡ reacted w defaults g s edits e (drop envelopeLength m) (stepOf (s .row .progress) e (drop envelopeLength m))
+            pub served : subject ≡ getD w subjectWord 0 → received w defaults edits s table g subject m room ≡ reacted w defaults g s edits e (drop envelopeLength m) action (stepOf (s .row .progress) action e (drop envelopeLength m))
             served u = whole ∙ rw (le-leb (length m) maxMessage k, o, eq-eqb subject (getD w subjectWord 0) u) refl
 
             -- the payload and the step as the code has them
-            pub served-as : subject ≡ getD w subjectWord 0 → {p : List ℕ} {k : Step} → p ≡ drop envelopeLength m → k ≡ stepOf (s .row .progress) e p → received w defaults edits s table g subject m room ≡ reacted w defaults g s edits e p k
+            pub served-as : subject ≡ getD w subjectWord 0 → {p : List ℕ} {k : Step} → p ≡ drop envelopeLength m → k ≡ stepOf (s .row .progress) action e p → received w defaults edits s table g subject m room ≡ reacted w defaults g s edits e p action k
             served-as u {p} {k} a b =
                 served u
-                ∙ ap (λ (l : List ℕ). reacted w defaults g s edits e l (stepOf (s .row .progress) e l)) (sym a)
-                ∙ ap (reacted w defaults g s edits e p) (sym b)
+                ∙ ap (λ (l : List ℕ). reacted w defaults g s edits e l action (stepOf (s .row .progress) action e l)) (sym a)
+                ∙ ap (reacted w defaults g s edits e p action) (sym b)
 
 -- what follows the envelope
 pub payload-of : (m : List ℕ) → take (length m - envelopeLength) (drop envelopeLength m) ≡ drop envelopeLength m

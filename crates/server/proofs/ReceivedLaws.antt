@@ -2,7 +2,7 @@
 use mathlib.Core.Path.{_≡_, refl, sym, _∙_}
 use mathlib.Core.Bool.{Bool, true, false, _&&_, true≢false}
 use mathlib.Core.List.{List, [], _∷_}
-use Prim.Native.Nat.{ℕ, _^_, _<_}
+use Prim.Native.Nat.{ℕ, _<_}
 use native.Mathlib.Omega.{arith}
 use lib.Dec.{eqb, ltb, leb}
 use lib.ListN.{length, getD, take, drop}
@@ -18,14 +18,16 @@ use Rattle.schema.proofs.BoolLaws.{both}
 use Rattle.acl.specs.declared.Grants.{Grants}
 use Rattle.exchange.specs.declared.Step.{Step}
 use Rattle.exchange.specs.declared.Step.the-variants.{Silence, Begin, Repeat, Next, Close}
-use Rattle.exchange.specs.Rules.{readOpcode, maxTurn}
+use Rattle.exchange.specs.Rules.{maxTurn, actionOf}
 use Rattle.replies.specs.Messages.{envelopeLength, maxMessage}
 use Rattle.replies.specs.Row.{keptReply, nextPart}
 use Rattle.replies.specs.Begin.{readBegun, writeBegun}
+use Rattle.exchange.specs.declared.Action.{Action}
+use Rattle.exchange.specs.declared.Action.the-variants.{Status, Read, Write, Other}
 use Rattle.server.proofs.StepLaws.{next-turn}
 use Rattle.server.specs.declared.State.{State}
 use Rattle.server.specs.State.{signRight}
-use Rattle.server.specs.Receive.{Reaction, refusal, numberFor, answering, silence, replied, wrote, stepOf, reacted, inEnvelope, received, forServer}
+use Rattle.server.specs.Receive.{Reaction, refusal, numberFor, answering, silence, stepOf, reacted, inEnvelope, received, forServer}
 
 -- ---- an envelope's exchange has 40 bits
 
@@ -44,14 +46,15 @@ envelope-below m = pick-elim Below (ltb (length m) envelopeLength) envelope.Shor
 -- ---- a property of what is answered: of the refusals, of silence, and of every reaction
 
 module _ (P : Reaction → Type 0) (w defaults edits : List ℕ) (s : State) (g : Grants) where
-  module _ (no-message : P (refusal 4 s edits)) (silent : P (silence s edits)) (each : (e : Fields) → e .exchange < exchangeLimit → (payload : List ℕ) (step : Step) → (step ≡ Next → s .row .progress .turn < maxTurn) → P (reacted w defaults g s edits e payload step)) where
+  module _ (no-message : P (refusal 4 s edits)) (silent : P (silence s edits)) (each : (e : Fields) → e .exchange < exchangeLimit → (payload : List ℕ) (action : Action) (step : Step) → (step ≡ Next → s .row .progress .turn < maxTurn) → P (reacted w defaults g s edits e payload action step)) where
     enveloped : (subject : ℕ) (m : List ℕ) (x : Envelope) → Below x → P (inEnvelope w defaults g s edits subject m x)
     enveloped subject m envelope.Short b = no-message
     enveloped subject m (envelope.Whole e) b =
         let payload = drop envelopeLength m in
-        let r = reacted w defaults g s edits e payload (stepOf (s .row .progress) e payload) in
-        pick-elim P (leb (length m) maxMessage && forServer (e .edition) (e .opcode)) (pick (eqb subject (getD w subjectWord 0)) r (silence s edits)) (refusal 4 s edits)
-        (λ _. pick-elim P (eqb subject (getD w subjectWord 0)) r (silence s edits) (λ _. each e b payload (stepOf (s .row .progress) e payload) (λ z. next-turn (s .row .progress) e payload z)) (λ _. silent))
+        let action = actionOf (e .opcode) in
+        let r = reacted w defaults g s edits e payload action (stepOf (s .row .progress) action e payload) in
+        pick-elim P (leb (length m) maxMessage && forServer (e .edition) action) (pick (eqb subject (getD w subjectWord 0)) r (silence s edits)) (refusal 4 s edits)
+        (λ _. pick-elim P (eqb subject (getD w subjectWord 0)) r (silence s edits) (λ _. each e b payload action (stepOf (s .row .progress) action e payload) (λ z. next-turn (s .row .progress) action e payload z)) (λ _. silent))
         (λ _. no-message)
 
     pub received-holds : (table : Bool) (subject : ℕ) (m : List ℕ) (room : ℕ) → ((signRight w defaults edits s && table) ≡ false → P (refusal 2 s edits)) → P (refusal 3 s edits) → P (received w defaults edits s table g subject m room)
@@ -63,19 +66,21 @@ module _ (P : Reaction → Type 0) (w defaults edits : List ℕ) (s : State) (g 
         broken
 
   -- every reaction answers with a reply or with silence
-  reacted-holds : ((t : State) (page reply : List ℕ) → P (answering t page reply)) → (e : Fields) (payload : List ℕ) (step : Step) → P (reacted w defaults g s edits e payload step)
+  reacted-holds : ((t : State) (page reply : List ℕ) → P (answering t page reply)) → (e : Fields) (payload : List ℕ) (action : Action) (step : Step) → P (reacted w defaults g s edits e payload action step)
   unfolding reacted
-  reacted-holds f e payload Silence = f s edits []
-  reacted-holds f e payload Begin =
-      let x = readBegun w (s .values) defaults edits g (s .row) (e .exchange) payload in
+  reacted-holds f e payload action Silence = f s edits []
+  reacted-holds f e payload Read Begin = f _ edits (keptReply (readBegun w (s .values) defaults edits g (s .row) (e .exchange) payload))
+  reacted-holds f e payload Write Begin =
       let l = writeBegun w g defaults (record { values = s .values; edits = edits }) (s .row) (e .exchange) payload in
-      pick-elim P (eqb (e .opcode) readOpcode) (replied s edits x) (wrote l) (λ _. f _ edits (keptReply x)) (λ _. f _ (l .held .edits) (keptReply (l .row)))
-  reacted-holds f e payload Repeat = f s edits (keptReply (s .row))
-  reacted-holds f e payload Next = f _ edits (keptReply (nextPart w (s .values) defaults edits g (s .row)))
-  reacted-holds f e payload Close = f _ edits []
+      f _ (l .held .edits) (keptReply (l .row))
+  reacted-holds f e payload Status Begin = f s edits []
+  reacted-holds f e payload Other Begin = f s edits []
+  reacted-holds f e payload action Repeat = f s edits (keptReply (s .row))
+  reacted-holds f e payload action Next = f _ edits (keptReply (nextPart w (s .values) defaults edits g (s .row)))
+  reacted-holds f e payload action Close = f _ edits []
 
   answers-hold : ((t : State) (page reply : List ℕ) → P (answering t page reply)) → P (refusal 4 s edits) → (table : Bool) (subject : ℕ) (m : List ℕ) (room : ℕ) → ((signRight w defaults edits s && table) ≡ false → P (refusal 2 s edits)) → P (refusal 3 s edits) → P (received w defaults edits s table g subject m room)
-  answers-hold f no-message = received-holds no-message (f s edits []) (λ e b payload step t. reacted-holds f e payload step)
+  answers-hold f no-message = received-holds no-message (f s edits []) (λ e b payload action step t. reacted-holds f e payload action step)
 
 -- ---- the laws
 

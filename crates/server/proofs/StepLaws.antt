@@ -15,6 +15,7 @@ use Rattle.envelope.specs.declared.Fields.{Fields}
 use Rattle.exchange.specs.declared.Progress.{Progress}
 use Rattle.exchange.specs.declared.Step.the-variants.{Silence, Begin, Repeat, Next, Close}
 use Rattle.exchange.specs.Rules.{maxTurn, beginning, onRequest, onPromised, onEarlier, onStatus, firstReply}
+use Rattle.exchange.specs.declared.Action.{Action}
 use Rattle.server.specs.Receive.{byStatus, stepOf}
 
 never : {A : Type 0} → _≡_ {A = ℕ} 0 1 → A
@@ -64,9 +65,9 @@ module _ (x : Progress) where
       go true false false q = never (cc)
       go false b c q = never (cc)
 
-  pub next-turn : (e : Fields) (payload : List ℕ) → stepOf x e payload ≡ Next → x .turn < maxTurn
+  pub next-turn : (action : Action) (e : Fields) (payload : List ℕ) → stepOf x action e payload ≡ Next → x .turn < maxTurn
   unfolding stepOf
-  next-turn e payload h = go (beginning (e .opcode)) (responseIn payload) h
+  next-turn action e payload h = go (beginning action) (responseIn payload) h
     where
       go : (b : Bool) (o : Opt ℕ) → pick b (onRequest x (e .exchange) (e .turn)) (byStatus x e o) ≡ Next → x .turn < maxTurn
       go true o q = absurd (request-never (e .exchange) (e .turn) q)

@@ -18,10 +18,11 @@ use Rattle.interaction.specs.Status.{responseIn}
 use Rattle.schema.specs.Layout.{subjectWord}
 use Rattle.acl.specs.declared.Grants.{Grants}
 use Rattle.exchange.specs.declared.Progress.{Progress}
+use Rattle.exchange.specs.declared.Action.{Action}
+use Rattle.exchange.specs.declared.Action.the-variants.{Status, Read, Write, Other}
 use Rattle.exchange.specs.declared.Step.{Step}
 use Rattle.exchange.specs.declared.Step.the-variants.{Silence, Begin, Repeat, Next, Close}
-use Rattle.exchange.specs.Rules as rules
-use Rattle.exchange.specs.Rules.{readOpcode, beginning, onRequest, onStatus}
+use Rattle.exchange.specs.Rules.{actionOf, beginning, serverTakes, onRequest, onStatus}
 use Rattle.writes.specs.Offer.{Held}
 use Rattle.replies.specs.declared.Row.{Row}
 use Rattle.replies.specs.Messages.{envelopeLength, maxMessage}
@@ -78,36 +79,41 @@ abbrev pub byStatus : Progress → Fields → Opt ℕ → Step
 byStatus x e nothing = Silence
 byStatus x e (just code) = onStatus x (e .exchange) (e .turn) code
 
-unfoldable pub stepOf : Progress → Fields → List ℕ → Step
-stepOf x e payload = pick (beginning (e .opcode)) (onRequest x (e .exchange) (e .turn)) (byStatus x e (responseIn payload))
+unfoldable pub stepOf : Progress → Action → Fields → List ℕ → Step
+stepOf x action e payload = pick (beginning action) (onRequest x (e .exchange) (e .turn)) (byStatus x e (responseIn payload))
 
 module _ (w defaults : List ℕ) (g : Grants) (s : State) (edits : List ℕ) (e : Fields) (payload : List ℕ) where
-  -- a request that begins an exchange
-  abbrev pub begun : Reaction
-  begun =
-      pick (eqb (e .opcode) readOpcode) (replied s edits (readBegun w (s .values) defaults edits g (s .row) (e .exchange) payload))
-      (wrote (writeBegun w g defaults (record { values = s .values; edits = edits }) (s .row) (e .exchange) payload))
+  -- a request that begins an exchange; a status, or what is not for a server, begins none
+  abbrev pub begun : Action → Reaction
+  begun Read = replied s edits (readBegun w (s .values) defaults edits g (s .row) (e .exchange) payload)
+  begun Write = wrote (writeBegun w g defaults (record { values = s .values; edits = edits }) (s .row) (e .exchange) payload)
+  begun Status = silence s edits
+  begun Other = silence s edits
 
-  unfoldable pub reacted : Step → Reaction
-  reacted Silence = silence s edits
-  reacted Begin = begun
-  reacted Repeat = answering s edits (keptReply (s .row))
-  reacted Next = replied s edits (nextPart w (s .values) defaults edits g (s .row))
-  reacted Close = silence (withRow s (closing (s .row))) edits
+  unfoldable pub reacted : Action → Step → Reaction
+  reacted action Silence = silence s edits
+  reacted action Begin = begun action
+  reacted action Repeat = answering s edits (keptReply (s .row))
+  reacted action Next = replied s edits (nextPart w (s .values) defaults edits g (s .row))
+  reacted action Close = silence (withRow s (closing (s .row))) edits
 
 -- refusal 4, "edition not 0, opcode not for this end"
-unfoldable pub forServer : ℕ → ℕ → Bool
-forServer edition opcode = eqb edition panelEdition && rules.forServer opcode
+unfoldable pub forServer : ℕ → Action → Bool
+forServer edition action = eqb edition panelEdition && serverTakes action
 
--- 4: "message under 8 or over 1,032 bytes, edition not 0, opcode not for this end"; then another subject's silence
-abbrev pub inEnvelope : List ℕ → List ℕ → Grants → State → List ℕ → ℕ → List ℕ → Envelope → Reaction
-inEnvelope w defaults g s edits subject m Short = refusal 4 s edits
-inEnvelope w defaults g s edits subject m (Whole e) =
-    pick (leb (length m) maxMessage && forServer (e .edition) (e .opcode))
+-- 4: "message .. over 1,032 bytes, edition not 0, opcode not for this end"; then another subject's silence
+abbrev pub byAction : List ℕ → List ℕ → Grants → State → List ℕ → ℕ → List ℕ → Fields → Action → Reaction
+byAction w defaults g s edits subject m e action =
+    pick (leb (length m) maxMessage && forServer (e .edition) action)
     (pick (eqb subject (getD w subjectWord 0))
-    (reacted w defaults g s edits e (drop envelopeLength m) (stepOf (s .row .progress) e (drop envelopeLength m)))
+    (reacted w defaults g s edits e (drop envelopeLength m) action (stepOf (s .row .progress) action e (drop envelopeLength m)))
     (silence s edits))
     (refusal 4 s edits)
+
+-- 4: "message under 8 .. bytes"; else by the action that its opcode stands for
+abbrev pub inEnvelope : List ℕ → List ℕ → Grants → State → List ℕ → ℕ → List ℕ → Envelope → Reaction
+inEnvelope w defaults g s edits subject m Short = refusal 4 s edits
+inEnvelope w defaults g s edits subject m (Whole e) = byAction w defaults g s edits subject m e (actionOf (e .opcode))
 
 -- RECEIVING a message: 2, 3, 4, then the rules; `table` says whether the access table keeps the rules, `room` is the buffer's length
 unfoldable pub received : List ℕ → List ℕ → List ℕ → State → Bool → Grants → ℕ → List ℕ → ℕ → Reaction

@@ -32,12 +32,14 @@ use bounds::CLUSTERS;
 use envelope::Envelope;
 use envelope::Fields;
 use envelope::envelope_of;
+use exchange::Action;
 use exchange::Progress;
-use exchange::READ;
 use exchange::Step;
+use exchange::action_of;
 use exchange::begins;
 use exchange::on_request;
 use exchange::on_status;
+use exchange::server_takes;
 use interaction::StatusResponse;
 use interaction::status_response;
 use interaction_writer::envelope::PANEL_EDITION;
@@ -75,10 +77,10 @@ fn answer(len: usize) -> Outcome
 }
 
 // What the message means for the exchange.
-fn step_of(x: Progress, e: Fields, payload: &[u8]) -> Step
-    ensures { λ r. ⌜ r ≡ stepOf x e (now (payload .entry)) ⌝ }
+fn step_of(x: Progress, action: Action, e: Fields, payload: &[u8]) -> Step
+    ensures { λ r. ⌜ r ≡ stepOf x action e (now (payload .entry)) ⌝ }
 {
-    if begins(e.opcode) {
+    if begins(action) {
         return on_request(x, e.exchange, e.turn);
     }
     let StatusResponse::Code(code) = status_response(payload) else {
@@ -105,7 +107,7 @@ fn closed(t: Standing) -> Standing
     }
 }
 
-// A request that begins an exchange.
+// A request that begins an exchange; no other action does.
 fn begin<'a>(
     w: &'a [u64; WORDS],
     defaults: &'a [u8],
@@ -118,50 +120,57 @@ fn begin<'a>(
     kept: &mut [u8; MAX_MESSAGE],
     t: Standing,
     g: Grants,
+    action: Action,
     e: Fields,
     payload: &'a [u8],
     out: &mut [u8],
 ) -> Outcome
     requires { ⌜ (t ≡ standingIn (now row)) × ((signRight (now w) (now defaults) (now edits) (stateIn (valuesOf (now words) (now nulls) (now edited) (now versions)) (now row) (now kept)) ≡ true) × ((e .exchange < exchangeLimit) × (maxMessage ≤ length (now out)))) ⌝ }
-    ensures { λ r. ⌜ Reacted (begun (now (w .entry)) (now (defaults .entry)) g (stateIn (valuesOf (now (words .entry)) (now (nulls .entry)) (now (edited .entry)) (now (versions .entry))) (now (row .entry)) (now (kept .entry))) (now (edits .entry)) e (now (payload .entry))) r (heldOf (now (words .exit)) (now (nulls .exit)) (now (edited .exit)) (now (versions .exit)) (now (edits .exit))) (now (row .entry)) (now (row .exit)) (now (kept .exit)) (now (out .entry)) (now (out .exit)) ⌝ }
+    ensures { λ r. ⌜ Reacted (begun (now (w .entry)) (now (defaults .entry)) g (stateIn (valuesOf (now (words .entry)) (now (nulls .entry)) (now (edited .entry)) (now (versions .entry))) (now (row .entry)) (now (kept .entry))) (now (edits .entry)) e (now (payload .entry)) action) r (heldOf (now (words .exit)) (now (nulls .exit)) (now (edited .exit)) (now (versions .exit)) (now (edits .exit))) (now (row .entry)) (now (row .exit)) (now (kept .exit)) (now (out .entry)) (now (out .exit)) ⌝ }
 {
-    if e.opcode == READ {
-        let n = begin_read(
-            w,
-            words,
-            nulls,
-            edited,
-            versions,
-            defaults,
-            edits,
-            g,
-            row,
-            kept,
-            t,
-            e.exchange,
-            payload,
-            out,
-        );
-        put_standing(row, n);
-        return answer(n.len);
+    match action {
+        Action::Read => {
+            let n = begin_read(
+                w,
+                words,
+                nulls,
+                edited,
+                versions,
+                defaults,
+                edits,
+                g,
+                row,
+                kept,
+                t,
+                e.exchange,
+                payload,
+                out,
+            );
+            put_standing(row, n);
+            answer(n.len)
+        }
+        Action::Write => {
+            let n = begin_write(
+                w,
+                g,
+                defaults,
+                edits,
+                words,
+                nulls,
+                edited,
+                versions,
+                kept,
+                t,
+                e.exchange,
+                payload,
+                out,
+            );
+            put_standing(row, n);
+            answer(n.len)
+        }
+        Action::Status => answer(0),
+        Action::Other => answer(0),
     }
-    let n = begin_write(
-        w,
-        g,
-        defaults,
-        edits,
-        words,
-        nulls,
-        edited,
-        versions,
-        kept,
-        t,
-        e.exchange,
-        payload,
-        out,
-    );
-    put_standing(row, n);
-    answer(n.len)
 }
 
 // What the message gets.
@@ -177,13 +186,14 @@ fn react<'a>(
     kept: &mut [u8; MAX_MESSAGE],
     t: Standing,
     g: Grants,
+    action: Action,
     e: Fields,
     payload: &'a [u8],
     step: Step,
     out: &mut [u8],
 ) -> Outcome
     requires { ⌜ (t ≡ standingIn (now row)) × ((signRight (now w) (now defaults) (now edits) (stateIn (valuesOf (now words) (now nulls) (now edited) (now versions)) (now row) (now kept)) ≡ true) × ((e .exchange < exchangeLimit) × ((step ≡ steps.Next → t .progress .turn < maxTurn) × (maxMessage ≤ length (now out))))) ⌝ }
-    ensures { λ r. ⌜ Reacted (reacted (now (w .entry)) (now (defaults .entry)) g (stateIn (valuesOf (now (words .entry)) (now (nulls .entry)) (now (edited .entry)) (now (versions .entry))) (now (row .entry)) (now (kept .entry))) (now (edits .entry)) e (now (payload .entry)) step) r (heldOf (now (words .exit)) (now (nulls .exit)) (now (edited .exit)) (now (versions .exit)) (now (edits .exit))) (now (row .entry)) (now (row .exit)) (now (kept .exit)) (now (out .entry)) (now (out .exit)) ⌝ }
+    ensures { λ r. ⌜ Reacted (reacted (now (w .entry)) (now (defaults .entry)) g (stateIn (valuesOf (now (words .entry)) (now (nulls .entry)) (now (edited .entry)) (now (versions .entry))) (now (row .entry)) (now (kept .entry))) (now (edits .entry)) e (now (payload .entry)) action step) r (heldOf (now (words .exit)) (now (nulls .exit)) (now (edited .exit)) (now (versions .exit)) (now (edits .exit))) (now (row .entry)) (now (row .exit)) (now (kept .exit)) (now (out .entry)) (now (out .exit)) ⌝ }
 {
     match step {
         Step::Silence => answer(0),
@@ -199,6 +209,7 @@ fn react<'a>(
             kept,
             t,
             g,
+            action,
             e,
             payload,
             out,
@@ -232,14 +243,14 @@ fn react<'a>(
     }
 }
 
-// Whether a message is for a sign: the edition of a panel's exchanges, and an opcode that a server takes.
-fn is_for_server(edition: u64, opcode: u64) -> bool
-    ensures { λ r. ⌜ r ≡ forServer edition opcode ⌝ }
+// Whether a message is for a sign: in the edition of a panel's exchanges, and an action that a server takes.
+fn is_for_server(edition: u64, action: Action) -> bool
+    ensures { λ r. ⌜ r ≡ forServer edition action ⌝ }
 {
     if edition != PANEL_EDITION as u64 {
         return false;
     }
-    exchange::is_for_server(opcode)
+    server_takes(action)
 }
 
 // The core of receiving: what is granted to the subject is known, and whether the access table keeps the rules.
@@ -277,14 +288,15 @@ pub fn serve<'a>(
     if MAX_MESSAGE < message.len() {
         return refuse(NO_MESSAGE);
     }
-    if !is_for_server(e.edition, e.opcode) {
+    let action = action_of(e.opcode);
+    if !is_for_server(e.edition, action) {
         return refuse(NO_MESSAGE);
     }
     if subject != subject_served(w) {
         return answer(0);
     }
     let payload = &message[ENVELOPE..message.len()];
-    let step = step_of(t.progress, e, payload);
+    let step = step_of(t.progress, action, e, payload);
     react(
         w,
         defaults,
@@ -297,6 +309,7 @@ pub fn serve<'a>(
         kept,
         t,
         g,
+        action,
         e,
         payload,
         step,

@@ -1,6 +1,6 @@
 -- A REQUEST and A SUCCESS, whatever they ask: the exchange rules decide what the sign does, and the protocol decides the same.
 use mathlib.Core.Path.{_≡_, refl, sym, ap, _∙_}
-use mathlib.Core.Bool.{Bool, true, false, cond, or-true}
+use mathlib.Core.Bool.{Bool, true, false, cond}
 use mathlib.Core.List.{List, []}
 use Prim.Native.Nat.{ℕ, suc, _≤_, _<_}
 use borrow.Author.Tests.{eqb-true, lt-ltb}
@@ -15,10 +15,12 @@ use Rattle.schema.specs.Layout.{subjectWord}
 use Rattle.schema.proofs.BoolLaws.{left, right}
 use Rattle.acl.specs.declared.Grants.{Grants}
 use Rattle.exchange.specs.declared.Progress.{Progress}
+use Rattle.exchange.specs.declared.Action.{Action}
+use Rattle.exchange.specs.declared.Action.the-variants.{Status}
 use Rattle.exchange.specs.declared.Step.{Step}
 use Rattle.exchange.specs.declared.Step.the-variants.{Silence, Begin, Repeat, Next}
-use Rattle.exchange.specs.Rules as rules
-use Rattle.exchange.specs.Rules.{statusOpcode, maxTurn, beginning}
+use Rattle.exchange.specs.Rules.{statusOpcode, maxTurn, actionOf, beginning}
+use Rattle.exchange.proofs.ActionLaws.{status-action, begun-taken}
 use Rattle.cache_trip.specs.Begun.{envelopeAs}
 use Rattle.replies.specs.Messages.{envelopeLength, maxMessage}
 use Rattle.server.specs.Receive.{Reaction, stepOf, reacted, forServer}
@@ -30,13 +32,13 @@ use Rattle.sign_steps.proofs.Standing.{Standing}
 use Rattle.sign_steps.proofs.RuleLaws.{fields, repeats, request-step, own, newest, earlier, success-step, newest-only, own-same, newest-same, earlier-same}
 use Rattle.sign_steps.proofs.ServeLaws.{Serving, Served, Valid, silence-as, repeat-as, reaction, reacted-as}
 
-for-status : forServer panelEdition statusOpcode ≡ true
-unfolding forServer rules.forServer
+for-status : forServer panelEdition Status ≡ true
+unfolding forServer
 for-status = refl
 
-for-request : (opcode : ℕ) → beginning opcode ≡ true → forServer panelEdition opcode ≡ true
-unfolding forServer rules.forServer
-for-request opcode b = rw b (or-true (eqb opcode statusOpcode))
+for-request : (action : Action) → beginning action ≡ true → forServer panelEdition action ≡ true
+unfolding forServer
+for-request = begun-taken
 
 -- a message in its envelope, for which there is room
 module _ {w defaults : List ℕ} {g : Grants} {sent : List (List ℕ)} (here : Standing w defaults g sent) (node : Node Datum) (m : List ℕ) (room : ℕ) (enough : maxMessage ≤ room) (fits : length m ≤ maxMessage) where
@@ -48,14 +50,14 @@ module _ {w defaults : List ℕ} {g : Grants} {sent : List (List ℕ)} (here : S
   abbrev payload : List ℕ
   payload = drop envelopeLength m
 
-  opened : (opcode x turn : ℕ) → envelopeIn m ≡ envelopeAs panelEdition opcode x turn → forServer panelEdition opcode ≡ true → reaction here m room ≡ reacted w defaults g s edits (fields opcode x turn) payload (stepOf now (fields opcode x turn) payload)
-  opened opcode x turn e o =
-      served w defaults edits s true g (getD w subjectWord 0) m room (stands .valid .right) refl enough e fits o refl
+  opened : (opcode x turn : ℕ) → envelopeIn m ≡ envelopeAs panelEdition opcode x turn → {action : Action} → actionOf opcode ≡ action → forServer panelEdition action ≡ true → reaction here m room ≡ reacted w defaults g s edits (fields opcode x turn) payload action (stepOf now action (fields opcode x turn) payload)
+  opened opcode x turn e d o =
+      served w defaults edits s true g (getD w subjectWord 0) m room (stands .valid .right) refl enough e d fits o refl
 
   -- A REQUEST: the newest exchange is begun, or its reply is given again
-  module _ (opcode x : ℕ) (found : envelopeIn m ≡ envelopeAs panelEdition opcode x 0) (b : beginning opcode ≡ true) (u : Message) (next : ℕ → List (Store Datum) → System Datum) where
+  module _ (opcode x : ℕ) (found : envelopeIn m ≡ envelopeAs panelEdition opcode x 0) (action : Action) (meant : actionOf opcode ≡ action) (b : beginning action ≡ true) (u : Message) (next : ℕ → List (Store Datum) → System Datum) where
     abbrev on : Step → Reaction
-    on = reacted w defaults g s edits (fields opcode x 0) payload
+    on = reacted w defaults g s edits (fields opcode x 0) payload action
 
     -- what the protocol does with it, by whether the exchange is newer
     abbrev RequestAs : Bool → Type 0
@@ -63,16 +65,16 @@ module _ {w defaults : List ℕ} {g : Grants} {sent : List (List ℕ)} (here : S
 
     pub request-served : RequestAs (ltb (now .last) x) → (Valid here (on Begin) → (size : ℕ) × (stores : List (Store Datum)) × Serving here (next size stores) (on Begin)) → Served here node u (reaction here m room)
     request-served same begins =
-        reacted-as here m room (Served here node u) (opened opcode x 0 found (for-request opcode b) ∙ ap on (request-step now x opcode b payload)) (go (ltb (now .last) x) same)
+        reacted-as here m room (Served here node u) (opened opcode x 0 found meant (for-request action b) ∙ ap on (request-step now x action b opcode payload)) (go (ltb (now .last) x) same)
       where
         go : (t : Bool) → RequestAs t → Valid here (on (pick t Begin (pick (repeats now x) Repeat Silence))) → Served here node u (on (pick t Begin (pick (repeats now x) Repeat Silence)))
         go true e valid = let (size, stores, h) = begins valid in (size, stores, rw (e size stores) h)
-        go false e valid = (0, [], rw (e 0 []) (repeat-as here (fields opcode x 0) payload (repeats now x)))
+        go false e valid = (0, [], rw (e 0 []) (repeat-as here (fields opcode x 0) payload action (repeats now x)))
 
   -- A SUCCESS: the next part, or the kept reply again
   module _ (x turn : ℕ) (found : envelopeIn m ≡ envelopeAs panelEdition statusOpcode x turn) (status : responseIn payload ≡ just 0) where
     abbrev then : Step → Reaction
-    then = reacted w defaults g s edits (fields statusOpcode x turn) payload
+    then = reacted w defaults g s edits (fields statusOpcode x turn) payload Status
 
     abbrev next : ℕ → System Datum
     next size = send sys (partOf (sys .clusters) x (suc (sys .row .turn)) (sys .row .ahead) (sys .row .filters) (sys .row .since) size)
@@ -93,11 +95,11 @@ module _ {w defaults : List ℕ} {g : Grants} {sent : List (List ℕ)} (here : S
         → (x ≡ sys .row .exchange → promised now ≡ true → Valid here (then Next) → (size : ℕ) × Serving here (next size) (then Next))
         → Served here node (success x turn) (reaction here m room)
     success-served turns goes =
-        reacted-as here m room (Served here node (success x turn)) (opened statusOpcode x turn found for-status ∙ ap then (success-step now turn x payload status)) (go (own now x) (newest now turn) refl refl success-same)
+        reacted-as here m room (Served here node (success x turn)) (opened statusOpcode x turn found status-action for-status ∙ ap then (success-step now turn x payload status)) (go (own now x) (newest now turn) refl refl success-same)
       where
         go : (a b : Bool) → own now x ≡ a → newest now turn ≡ b → SuccessAs a b → Valid here (then (step a b)) → Served here node (success x turn) (then (step a b))
-        go false b p q e valid = (0, [], rw (e 0 []) (silence-as here (fields statusOpcode x turn) payload))
-        go true false p q e valid = (0, [], rw (e 0 []) (repeat-as here (fields statusOpcode x turn) payload (earlier now turn)))
+        go false b p q e valid = (0, [], rw (e 0 []) (silence-as here (fields statusOpcode x turn) payload Status))
+        go true false p q e valid = (0, [], rw (e 0 []) (repeat-as here (fields statusOpcode x turn) payload Status (earlier now turn)))
         go true true p q e valid =
             let more : promised now ≡ true = right (eqb turn (now .turn)) (promised now) q in
             let l = lt-ltb (now .turn) maxTurn (turns more) in

@@ -11,7 +11,9 @@ use Rattle.interaction.specs.declared.Wanted.{Wanted}
 use Rattle.interaction.specs.Read.{readIn, readRead}
 use Rattle.interaction_writer.specs.Spelling.{Each}
 use Rattle.acl.specs.declared.Grants.{Grants}
-use Rattle.exchange.specs.Rules.{readOpcode, writeOpcode, maxTurn, beginning}
+use Rattle.exchange.specs.declared.Action.the-variants.{Read, Write}
+use Rattle.exchange.specs.Rules.{readOpcode, writeOpcode, maxTurn}
+use Rattle.exchange.proofs.ActionLaws.{read-action, write-action}
 use Rattle.round_trip.specs.Meant.{WantedFits, readAnswer, readOctets}
 use Rattle.round_trip.proofs.ReaderLaws.{read-answered}
 use Rattle.cache_request.specs.Messages.{readMessage, writeMessage, successMessage}
@@ -30,14 +32,6 @@ use Rattle.sign_steps.proofs.ServeLaws.{Served, reaction}
 use Rattle.sign_steps.proofs.ReadLaws.{first-served, next-served}
 use Rattle.sign_steps.proofs.WriteLaws.{write-served}
 use Rattle.sign_steps.proofs.ExchangeLaws.{request-served, success-served}
-
-begins-read : beginning readOpcode ≡ true
-unfolding beginning
-begins-read = refl
-
-begins-write : beginning writeOpcode ≡ true
-unfolding beginning
-begins-write = refl
 
 -- with no ground to refuse it
 read-taken : (x : ℕ) (fs : List Wanted) → Each WantedFits fs → length fs ≤ maxFilters → readRead (readIn (drop envelopeLength (readMessage panelEdition x fs))) ≡ readAnswer fs
@@ -58,7 +52,7 @@ module _ {w defaults : List ℕ} {g : Grants} {sent : List (List ℕ)} (here : S
     read-as : (fs : List Wanted) → Each WantedFits fs → length fs ≤ maxFilters → Taken (readMessage panelEdition x fs) (read x (filtersAs w fs))
     unfolding serve reacted
     read-as fs h few =
-        request-served here node (readMessage panelEdition x fs) room enough (read-short panelEdition x fs h few) readOpcode x (read-envelope panelEdition x fs (omega arith) fx) begins-read (read x (filtersAs w fs))
+        request-served here node (readMessage panelEdition x fs) room enough (read-short panelEdition x fs h few) readOpcode x (read-envelope panelEdition x fs (omega arith) fx) Read read-action refl (read x (filtersAs w fs))
         (λ size stores. send sys (partOf (sys .clusters) x 1 (node .readable) (filtersAs w fs) (changesOf (sys .clusters)) size))
         (λ size stores. rw (newer-same (s .row) (sys .row) (stands .row) x, repeats-same (s .row) (sys .row) (stands .row) x))
         (λ valid. let (size, t) = first-served here words-fit start x fx fs few (drop envelopeLength (readMessage panelEdition x fs)) (read-taken x fs h few) valid in (size, [], t))
@@ -67,7 +61,7 @@ module _ {w defaults : List ℕ} {g : Grants} {sent : List (List ℕ)} (here : S
     unfolding serve reacted
     write-as given version e c a d f there =
         let (n, answer, value) = write-taken panelEdition x given version e c a d (f .version-fits) (f .path) (f .writable) (f .takable) in
-        request-served here node (writeMessage panelEdition x given version e c a d) room enough (write-short panelEdition x given version e c a d f) writeOpcode x (write-envelope panelEdition x given version e c a d (omega arith) fx) begins-write (write x)
+        request-served here node (writeMessage panelEdition x given version e c a d) room enough (write-short panelEdition x given version e c a d f) writeOpcode x (write-envelope panelEdition x given version e c a d (omega arith) fx) Write write-action refl (write x)
         (λ size stores. written (storeAll sys stores) x)
         (λ size stores. rw (newer-same (s .row) (sys .row) (stands .row) x, repeats-same (s .row) (sys .row) (stands .row) x))
         (λ valid. let (stores, t) = write-served here x fx given version e c a d f n answer there valid in (0, stores, t))

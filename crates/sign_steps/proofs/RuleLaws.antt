@@ -15,6 +15,8 @@ use Rattle.interaction.specs.Status.{responseIn}
 use Rattle.schema.proofs.BoolLaws.{left}
 use Rattle.acl.specs.declared.Grants.{Grants}
 use Rattle.exchange.specs.declared.Progress.{Progress}
+use Rattle.exchange.specs.declared.Action.{Action}
+use Rattle.exchange.specs.declared.Action.the-variants.{Status}
 use Rattle.exchange.specs.declared.Step.the-variants.{Silence, Begin, Repeat, Next}
 use Rattle.exchange.specs.Rules.{statusOpcode, maxTurn, beginning, onRequest, onStatus, firstReply}
 use Rattle.replies.specs.declared.Row as replies
@@ -31,9 +33,9 @@ module _ (p : Progress) (x : ℕ) where
   abbrev pub repeats : Bool
   repeats = eqb x (p .last) && (eqb (p .turn) firstReply && eqb (p .closed) 0)
 
-  pub request-step : (opcode : ℕ) → beginning opcode ≡ true → (payload : List ℕ) → stepOf p (fields opcode x 0) payload ≡ pick (ltb (p .last) x) Begin (pick repeats Repeat Silence)
+  pub request-step : (action : Action) → beginning action ≡ true → (opcode : ℕ) (payload : List ℕ) → stepOf p action (fields opcode x 0) payload ≡ pick (ltb (p .last) x) Begin (pick repeats Repeat Silence)
   unfolding stepOf onRequest
-  request-step opcode b payload = rw b refl
+  request-step action b opcode payload = rw b refl
 
   -- a message of the exchange that is served
   abbrev pub own : Bool
@@ -47,8 +49,8 @@ module _ (p : Progress) (turn : ℕ) where
   abbrev pub earlier : Bool
   earlier = leb firstReply turn && eqb (turn + 1) (p .turn)
 
-  pub success-step : (x : ℕ) (payload : List ℕ) → responseIn payload ≡ just 0 → stepOf p (fields statusOpcode x turn) payload ≡ pick (own p x) (pick newest (pick (ltb (p .turn) maxTurn) Next Silence) (pick earlier Repeat Silence)) Silence
-  unfolding stepOf beginning onStatus
+  pub success-step : (x : ℕ) (payload : List ℕ) → responseIn payload ≡ just 0 → stepOf p Status (fields statusOpcode x turn) payload ≡ pick (own p x) (pick newest (pick (ltb (p .turn) maxTurn) Next Silence) (pick earlier Repeat Silence)) Silence
+  unfolding stepOf onStatus
   success-step x payload h = rw h refl
 
   -- what is for the newest reply is not for the one before

@@ -19,6 +19,7 @@ use Rattle.protocol.specs.Model.{Message, Node, Part, Store, System, rowAfter, 
 use Rattle.protocol.specs.Claims.{moved}
 use Rattle.refinement.proofs.Bytes.{silent}
 use Rattle.refinement.proofs.Sign.{RowAs, Serves}
+use Rattle.exchange.specs.declared.Action.{Action}
 use Rattle.sign_steps.proofs.Standing.{Standing}
 use Rattle.sign_steps.proofs.StoreLaws.{unmoved}
 
@@ -63,13 +64,13 @@ module _ {w defaults : List ℕ} {g : Grants} {sent : List (List ℕ)} (here : S
         counted = uncounted;
       }
 
-  module _ (e : Fields) (payload : List ℕ) where
-    pub silence-as : Serving sys (reacted w defaults g s edits e payload Silence)
+  module _ (e : Fields) (payload : List ℕ) (action : Action) where
+    pub silence-as : Serving sys (reacted w defaults g s edits e payload action Silence)
     unfolding reacted
     silence-as = silent-as
 
     -- the kept reply where the test holds
-    pub repeat-as : (b : Bool) → Serving (cond b (sendAgain sys) sys) (reacted w defaults g s edits e payload (pick b Repeat Silence))
+    pub repeat-as : (b : Bool) → Serving (cond b (sendAgain sys) sys) (reacted w defaults g s edits e payload action (pick b Repeat Silence))
     unfolding reacted
     repeat-as true = again-as
     repeat-as false = silent-as

@@ -4,7 +4,7 @@ use mathlib.Core.Bool.{Bool, _&&_}
 use mathlib.Core.List.{List}
 use Prim.Native.Nat.{ℕ, _<_}
 use borrow.Author.Tests.{ne-eqb, lt-ltb}
-use lib.Dec.{eqb, ltb, leb}
+use lib.Dec.{ltb, leb}
 use lib.ListN.{length, getD}
 use Rattle.tlv.proofs.Picks.{pick-elim}
 use Rattle.envelope.specs.declared.Envelope.{Envelope}
@@ -17,6 +17,7 @@ use Rattle.server.specs.declared.State.{State}
 use Rattle.server.specs.State.{signRight}
 use Rattle.server.specs.Receive.{Reaction, refusal, silence, inEnvelope, received, forServer}
 use Rattle.server.proofs.ReceivedLaws.{Untouched}
+use Rattle.exchange.specs.Rules.{actionOf}
 
 module _ (w defaults edits : List ℕ) (s : State) (table : Bool) (g : Grants) (subject : ℕ) (m : List ℕ) (room : ℕ) where
   abbrev Still : Reaction → Type 0
@@ -37,7 +38,7 @@ module _ (w defaults edits : List ℕ) (s : State) (table : Bool) (g : Grants) (
   enveloped-still n Short = refusal-still 4
   enveloped-still n (Whole e) =
       rw (ne-eqb subject (getD w subjectWord 0) n)
-      (pick-elim Still (leb (length m) maxMessage && forServer (e .edition) (e .opcode)) (silence s edits) (refusal 4 s edits)
+      (pick-elim Still (leb (length m) maxMessage && forServer (e .edition) (actionOf (e .opcode))) (silence s edits) (refusal 4 s edits)
       (λ _. record { state = refl; page = refl; reply = refl }) (λ _. refusal-still 4))
 
   pub other-still : (subject ≡ getD w subjectWord 0 → ⊥) → Still (received w defaults edits s table g subject m room)

@@ -1,14 +1,15 @@
 use mathlib.Core.Path.{_≡_, refl, sym}
 use borrow.Author.Needs.{needs}
-use borrow.Author.Tests.{eq-eqb, ne-eqb}
 use Rattle.values.specs.Values.{valuesOf}
-use Rattle.exchange.specs.Rules.{readOpcode}
 use Rattle.replies.specs.Row.{rowIn}
 use Rattle.server.specs.State.{stateIn}
-use Rattle.server.proofs.ReactLaws.{begins-as, wrote-as}
+use Rattle.server.proofs.ReactLaws.{begins-as, wrote-as, silence-as}
 use Rattle.server.proofs.ReceiveLaws.{right-schema, right-size}
 use Rattle.server.proofs.receive.begin.Statement.{statement}
 use Rattle.server.proofs.receive.begin.Tie as tie
+
+enum-told : tie.Need-enum-told
+enum-told c = search needs
 
 begin-read-requires : tie.Need-begin-read-requires
 begin-read-requires c κs = let a = c .before .before .before .before .before .before .before .before .before .before .before .before .before .before .args in let p = c .before .before .before .before .before .before .before .before .before .before .before .before .before .before .pre in (right-schema (a .w .now) (a .defaults .now) (a .edits .now) (stateIn (valuesOf (a .words .now) (a .nulls .now) (a .edited .now) (a .versions .now)) (a .row .now) (a .kept .now)) (p .1 .0), (p .1 .1 .0, p .1 .1 .1))
@@ -27,7 +28,10 @@ same-length-2 c = search needs
 
 returns : tie.Need-returns
 returns c = let a = c .before .before .before .before .before .before .before .before .before .before .before .before .before .before .before .before .before .before .before .before .args in
-    rw (eq-eqb (a .e .opcode) readOpcode (c .before .before .before .before .before .before .before .before .before .before .before .before .before .before .if1 .taken), sym (c .before .before .before .before .before .before .before .before .before .before .before .before .before .before .before .before .before .before .before .before .pre .0)) (begins-as (record { values = (valuesOf (a .words .now) (a .nulls .now) (a .edited .now) (a .versions .now)); row = rowIn (a .row .now) (a .t) (a .kept .now) }) (a .edits .now) (c .before .before .before .before .before .begin-read .ensures) (c .answer .ensures) refl (c .before .put-standing .ensures))
+    rw (c .before .before .before .before .before .before .before .before .before .before .before .before .before .before .enum-told .given .1, sym (c .before .before .before .before .before .before .before .before .before .before .before .before .before .before .before .before .before .before .before .before .pre .0)) (begins-as (record { values = (valuesOf (a .words .now) (a .nulls .now) (a .edited .now) (a .versions .now)); row = rowIn (a .row .now) (a .t) (a .kept .now) }) (a .edits .now) (c .before .before .before .before .before .begin-read .ensures) (c .answer .ensures) refl (c .before .put-standing .ensures))
+
+enum-told-2 : tie.Need-enum-told-2
+enum-told-2 c = search needs
 
 begin-write-requires : tie.Need-begin-write-requires
 begin-write-requires c κs = let a = c .before .before .before .before .before .before .before .before .before .before .before .before .before .args in let p = c .before .before .before .before .before .before .before .before .before .before .before .before .before .pre in (right-schema (a .w .now) (a .defaults .now) (a .edits .now) (stateIn (valuesOf (a .words .now) (a .nulls .now) (a .edited .now) (a .versions .now)) (a .row .now) (a .kept .now)) (p .1 .0), (right-size (a .w .now) (a .defaults .now) (a .edits .now) (stateIn (valuesOf (a .words .now) (a .nulls .now) (a .edited .now) (a .versions .now)) (a .row .now) (a .kept .now)) (p .1 .0), (p .1 .1 .0, p .1 .1 .1)))
@@ -46,21 +50,47 @@ same-length-4 c = search needs
 
 returns-2 : tie.Need-returns-2
 returns-2 c = let a = c .before .before .before .before .before .before .before .before .before .before .before .before .before .before .before .before .before .before .before .before .before .args in
-    rw (ne-eqb (a .e .opcode) readOpcode (c .before .before .before .before .before .before .before .before .before .before .before .before .before .before .before .if1 .left), sym (c .before .before .before .before .before .before .before .before .before .before .before .before .before .before .before .before .before .before .before .before .before .pre .0)) (wrote-as _ (c .before .before .before .before .before .before .before .begin-write .ensures (a .row .now)) (c .answer2 .ensures) (c .before .put-standing2 .ensures))
+    rw (c .before .before .before .before .before .before .before .before .before .before .before .before .before .before .before .enum-told2 .given .1, sym (c .before .before .before .before .before .before .before .before .before .before .before .before .before .before .before .before .before .before .before .before .before .pre .0)) (wrote-as _ (c .before .before .before .before .before .before .before .begin-write .ensures (a .row .now)) (c .answer2 .ensures) (c .before .put-standing2 .ensures))
+
+enum-told-3 : tie.Need-enum-told-3
+enum-told-3 c = search needs
+
+answer-requires-3 : tie.Need-answer-requires-3
+answer-requires-3 c κs = search needs
+
+returns-3 : tie.Need-returns-3
+returns-3 c = let a = c .before .before .before .before .before .before .before .args in rw (c .before .enum-told3 .given .1) (silence-as (valuesOf (a .words .now) (a .nulls .now) (a .edited .now) (a .versions .now)) (a .edits .now) (a .row .now) (a .kept .now) (c .answer3 .ensures) refl)
+
+enum-told-4 : tie.Need-enum-told-4
+enum-told-4 c = search needs
+
+answer-requires-4 : tie.Need-answer-requires-4
+answer-requires-4 c κs = search needs
+
+returns-4 : tie.Need-returns-4
+returns-4 c = let a = c .before .before .before .before .before .before .before .args in rw (c .before .enum-told4 .given .1) (silence-as (valuesOf (a .words .now) (a .nulls .now) (a .edited .now) (a .versions .now)) (a .edits .now) (a .row .now) (a .kept .now) (c .answer4 .ensures) refl)
 
 pub begin-spec : {M : Type 1} → statement M
 begin-spec =
     tie.close
     (tie.spec
+    enum-told
     begin-read-requires
     put-standing-requires
     answer-requires
-    same-length
-    same-length-2
-    returns
+    enum-told-2
     begin-write-requires
     put-standing-requires-2
     answer-requires-2
+    enum-told-3
+    answer-requires-3
+    enum-told-4
+    answer-requires-4
+    same-length
+    same-length-2
+    returns
     same-length-3
     same-length-4
-    returns-2)
+    returns-2
+    returns-3
+    returns-4)

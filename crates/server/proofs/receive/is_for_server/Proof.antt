@@ -11,12 +11,12 @@ returns : tie.Need-returns
 unfolding forServer
 returns c = rw (ne-eqb _ _ (c .if1 .taken))
 
-is-for-server-requires : tie.Need-is-for-server-requires
-is-for-server-requires c κs = search needs
+server-takes-requires : tie.Need-server-takes-requires
+server-takes-requires c κs = search needs
 
 returns-2 : tie.Need-returns-2
 unfolding forServer
-returns-2 c = rw (eq-eqb _ _ (c .before .if1 .left)) (c .is-for-server .ensures)
+returns-2 c = rw (eq-eqb _ _ (c .before .if1 .left)) (c .server-takes .ensures)
 
 pub is-for-server-spec : {M : Type 1} → statement M
-is-for-server-spec = tie.close (tie.spec cast-if1 returns is-for-server-requires returns-2)
+is-for-server-spec = tie.close (tie.spec cast-if1 returns server-takes-requires returns-2)

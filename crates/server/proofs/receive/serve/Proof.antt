@@ -92,7 +92,10 @@ same-length-5 : tie.Need-same-length-5
 same-length-5 c = search needs
 
 returns-5 : tie.Need-returns-5
-returns-5 c = let a = c .before .before .before .before .before .before .before .before .before .before .before .before .before .before .before .before .before .before .before .before .args in rw (too-long (a .w .now) (a .defaults .now) (a .edits .now) (stateIn (valuesOf (a .words .now) (a .nulls .now) (a .edited .now) (a .versions .now)) (a .row .now) (a .kept .now)) (a .table) (a .g) (a .subject) (a .message .now) (length (a .out .now)) (right-here (c .before .before .before .before .before .before .before .before)) (not-false _ (c .before .before .before .before .before .before .before .if2 .left)) (c .before .before .before .before .before .before .if3 .left) (found-here (c .before .before .before)) (c .before .if4 .taken)) (refused-as (valuesOf (a .words .now) (a .nulls .now) (a .edited .now) (a .versions .now)) (a .edits .now) (a .row .now) (a .kept .now) 4 (c .refuse5 .ensures) refl)
+returns-5 c = let a = c .before .before .before .before .before .before .before .before .before .before .before .before .before .before .before .before .before .before .before .before .args in rw (too-long (a .w .now) (a .defaults .now) (a .edits .now) (stateIn (valuesOf (a .words .now) (a .nulls .now) (a .edited .now) (a .versions .now)) (a .row .now) (a .kept .now)) (a .table) (a .g) (a .subject) (a .message .now) (length (a .out .now)) (right-here (c .before .before .before .before .before .before .before .before)) (not-false _ (c .before .before .before .before .before .before .before .if2 .left)) (c .before .before .before .before .before .before .if3 .left) (found-here (c .before .before .before)) refl (c .before .if4 .taken)) (refused-as (valuesOf (a .words .now) (a .nulls .now) (a .edited .now) (a .versions .now)) (a .edits .now) (a .row .now) (a .kept .now) 4 (c .refuse5 .ensures) refl)
+
+action-of-requires : tie.Need-action-of-requires
+action-of-requires c κs = search needs
 
 is-for-server-requires : tie.Need-is-for-server-requires
 is-for-server-requires c κs = search needs
@@ -104,7 +107,7 @@ same-length-6 : tie.Need-same-length-6
 same-length-6 c = search needs
 
 returns-6 : tie.Need-returns-6
-returns-6 c = let a = c .before .before .before .before .before .before .before .before .before .before .before .before .before .before .before .before .before .before .before .before .before .before .args in rw (not-for-server (a .w .now) (a .defaults .now) (a .edits .now) (stateIn (valuesOf (a .words .now) (a .nulls .now) (a .edited .now) (a .versions .now)) (a .row .now) (a .kept .now)) (a .table) (a .g) (a .subject) (a .message .now) (length (a .out .now)) (right-here (c .before .before .before .before .before .before .before .before .before .before)) (not-false _ (c .before .before .before .before .before .before .before .before .before .if2 .left)) (c .before .before .before .before .before .before .before .before .if3 .left) (found-here (c .before .before .before .before .before)) (c .before .before .before .if4 .left) (sym (c .before .before .is-for-server .ensures) ∙ not-true _ (c .before .if5 .taken))) (refused-as (valuesOf (a .words .now) (a .nulls .now) (a .edited .now) (a .versions .now)) (a .edits .now) (a .row .now) (a .kept .now) 4 (c .refuse6 .ensures) refl)
+returns-6 c = let a = c .before .before .before .before .before .before .before .before .before .before .before .before .before .before .before .before .before .before .before .before .before .before .before .args in rw (not-for-server (a .w .now) (a .defaults .now) (a .edits .now) (stateIn (valuesOf (a .words .now) (a .nulls .now) (a .edited .now) (a .versions .now)) (a .row .now) (a .kept .now)) (a .table) (a .g) (a .subject) (a .message .now) (length (a .out .now)) (right-here (c .before .before .before .before .before .before .before .before .before .before .before)) (not-false _ (c .before .before .before .before .before .before .before .before .before .before .if2 .left)) (c .before .before .before .before .before .before .before .before .before .if3 .left) (found-here (c .before .before .before .before .before .before)) (sym (c .before .before .before .action-of .ensures)) (c .before .before .before .before .if4 .left) (sym (c .before .before .is-for-server .ensures) ∙ not-true _ (c .before .if5 .taken))) (refused-as (valuesOf (a .words .now) (a .nulls .now) (a .edited .now) (a .versions .now)) (a .edits .now) (a .row .now) (a .kept .now) 4 (c .refuse6 .ensures) refl)
 
 subject-served-requires : tie.Need-subject-served-requires
 subject-served-requires c κs = search needs
@@ -116,13 +119,13 @@ same-length-7 : tie.Need-same-length-7
 same-length-7 c = search needs
 
 returns-7 : tie.Need-returns-7
-returns-7 c = let a = c .before .before .before .before .before .before .before .before .before .before .before .before .before .before .before .before .before .before .before .before .before .before .before .before .args in rw (other-subject (a .w .now) (a .defaults .now) (a .edits .now) (stateIn (valuesOf (a .words .now) (a .nulls .now) (a .edited .now) (a .versions .now)) (a .row .now) (a .kept .now)) (a .table) (a .g) (a .subject) (a .message .now) (length (a .out .now)) (right-here (c .before .before .before .before .before .before .before .before .before .before .before .before)) (not-false _ (c .before .before .before .before .before .before .before .before .before .before .before .if2 .left)) (c .before .before .before .before .before .before .before .before .before .before .if3 .left) (found-here (c .before .before .before .before .before .before .before)) (c .before .before .before .before .before .if4 .left) (sym (c .before .before .before .before .is-for-server .ensures) ∙ not-false _ (c .before .before .before .if5 .left)) (λ z. c .before .if6 .taken (z ∙ sym (c .before .before .subject-served .ensures)))) (silence-as (valuesOf (a .words .now) (a .nulls .now) (a .edited .now) (a .versions .now)) (a .edits .now) (a .row .now) (a .kept .now) (c .answer .ensures) refl)
+returns-7 c = let a = c .before .before .before .before .before .before .before .before .before .before .before .before .before .before .before .before .before .before .before .before .before .before .before .before .before .args in rw (other-subject (a .w .now) (a .defaults .now) (a .edits .now) (stateIn (valuesOf (a .words .now) (a .nulls .now) (a .edited .now) (a .versions .now)) (a .row .now) (a .kept .now)) (a .table) (a .g) (a .subject) (a .message .now) (length (a .out .now)) (right-here (c .before .before .before .before .before .before .before .before .before .before .before .before .before)) (not-false _ (c .before .before .before .before .before .before .before .before .before .before .before .before .if2 .left)) (c .before .before .before .before .before .before .before .before .before .before .before .if3 .left) (found-here (c .before .before .before .before .before .before .before .before)) (sym (c .before .before .before .before .before .action-of .ensures)) (c .before .before .before .before .before .before .if4 .left) (sym (c .before .before .before .before .is-for-server .ensures) ∙ not-false _ (c .before .before .before .if5 .left)) (λ z. c .before .if6 .taken (z ∙ sym (c .before .before .subject-served .ensures)))) (silence-as (valuesOf (a .words .now) (a .nulls .now) (a .edited .now) (a .versions .now)) (a .edits .now) (a .row .now) (a .kept .now) (c .answer .ensures) refl)
 
 sub-payload : tie.Need-sub-payload
-sub-payload c = omega (arith, long-enough (c .before .before .before .before .before .before .before .before .before .before .before .before .before .before .before .before .before .before .before .before .before .before .before .args .message .now) (found-here (c .before .before .before .before .before .before)))
+sub-payload c = omega (arith, long-enough (c .before .before .before .before .before .before .before .before .before .before .before .before .before .before .before .before .before .before .before .before .before .before .before .before .args .message .now) (found-here (c .before .before .before .before .before .before .before)))
 
 part-payload-start : tie.Need-part-payload-start
-part-payload-start c = omega (arith, long-enough (c .before .before .before .before .before .before .before .before .before .before .before .before .before .before .before .before .before .before .before .before .before .before .before .args .message .now) (found-here (c .before .before .before .before .before .before)))
+part-payload-start c = omega (arith, long-enough (c .before .before .before .before .before .before .before .before .before .before .before .before .before .before .before .before .before .before .before .before .before .before .before .before .args .message .now) (found-here (c .before .before .before .before .before .before .before)))
 
 part-payload-end : tie.Need-part-payload-end
 part-payload-end c = search needs
@@ -131,7 +134,7 @@ step-of-requires : tie.Need-step-of-requires
 step-of-requires c κs = search needs
 
 react-requires : tie.Need-react-requires
-react-requires c κs = let a = c .before .before .before .before .before .before .before .before .before .before .before .before .before .before .before .before .before .before .before .before .before .before .before .before .before .before .before .before .before .before .before .before .before .args in (c .before .before .before .before .before .before .before .before .before .before .before .before .before .before .before .before .before .before .before .before .before .before .before .before .before .before .before .read-standing .ensures, (right-here (c .before .before .before .before .before .before .before .before .before .before .before .before .before .before .before .before .before .before .before .before .before), (exchange-below (a .message .now) (found-here (c .before .before .before .before .before .before .before .before .before .before .before .before .before .before .before .before)), ((λ z. next-turn (c .before .before .before .before .before .before .before .before .before .before .before .before .before .before .before .before .before .before .before .before .before .before .before .before .before .before .before .read-standing .result .progress) _ _ (sym (c .before .before .before .before .before .before .before .before .step-of .ensures) ∙ z)), c .before .before .before .before .before .before .before .before .before .before .before .before .before .before .before .before .before .before .before .if3 .left))))
+react-requires c κs = let a = c .before .before .before .before .before .before .before .before .before .before .before .before .before .before .before .before .before .before .before .before .before .before .before .before .before .before .before .before .before .before .before .before .before .before .args in (c .before .before .before .before .before .before .before .before .before .before .before .before .before .before .before .before .before .before .before .before .before .before .before .before .before .before .before .before .read-standing .ensures, (right-here (c .before .before .before .before .before .before .before .before .before .before .before .before .before .before .before .before .before .before .before .before .before .before), (exchange-below (a .message .now) (found-here (c .before .before .before .before .before .before .before .before .before .before .before .before .before .before .before .before .before)), ((λ z. next-turn (c .before .before .before .before .before .before .before .before .before .before .before .before .before .before .before .before .before .before .before .before .before .before .before .before .before .before .before .before .read-standing .result .progress) _ _ _ (sym (c .before .before .before .before .before .before .before .before .step-of .ensures) ∙ z)), c .before .before .before .before .before .before .before .before .before .before .before .before .before .before .before .before .before .before .before .before .if3 .left))))
 
 same-length-8 : tie.Need-same-length-8
 same-length-8 c = search needs
@@ -140,7 +143,7 @@ same-length-9 : tie.Need-same-length-9
 same-length-9 c = search needs
 
 returns-8 : tie.Need-returns-8
-returns-8 c = let a = c .before .before .before .before .before .before .before .before .before .before .before .before .before .before .before .before .before .before .before .before .before .before .before .before .before .before .before .before .before .before .before .before .before .before .before .before .before .before .args in rw (served-as (a .w .now) (a .defaults .now) (a .edits .now) (stateIn (valuesOf (a .words .now) (a .nulls .now) (a .edited .now) (a .versions .now)) (a .row .now) (a .kept .now)) (a .table) (a .g) (a .subject) (a .message .now) (length (a .out .now)) (right-here (c .before .before .before .before .before .before .before .before .before .before .before .before .before .before .before .before .before .before .before .before .before .before .before .before .before .before)) (not-false _ (c .before .before .before .before .before .before .before .before .before .before .before .before .before .before .before .before .before .before .before .before .before .before .before .before .before .if2 .left)) (c .before .before .before .before .before .before .before .before .before .before .before .before .before .before .before .before .before .before .before .before .before .before .before .before .if3 .left) (found-here (c .before .before .before .before .before .before .before .before .before .before .before .before .before .before .before .before .before .before .before .before .before)) (c .before .before .before .before .before .before .before .before .before .before .before .before .before .before .before .before .before .before .before .if4 .left) (sym (c .before .before .before .before .before .before .before .before .before .before .before .before .before .before .before .before .before .before .is-for-server .ensures) ∙ not-false _ (c .before .before .before .before .before .before .before .before .before .before .before .before .before .before .before .before .before .if5 .left)) (c .before .before .before .before .before .before .before .before .before .before .before .before .before .before .before .if6 .left ∙ c .before .before .before .before .before .before .before .before .before .before .before .before .before .before .before .before .subject-served .ensures) (payload-of (a .message .now)) (c .before .before .before .before .before .before .before .before .before .before .before .before .before .step-of .ensures ∙ ap (λ (u : Standing). stepOf (u .progress) (c .before .before .before .before .before .before .before .before .before .before .before .before .before .before .before .before .before .before .before .before .before .e .given .0 .0) (take (length (a .message .now) - envelopeLength) (drop envelopeLength (a .message .now)))) (c .before .before .before .before .before .before .before .before .before .before .before .before .before .before .before .before .before .before .before .before .before .before .before .before .before .before .before .before .before .before .before .before .read-standing .ensures))) (c .before .before .before .before .react .ensures)
+returns-8 c = let a = c .before .before .before .before .before .before .before .before .before .before .before .before .before .before .before .before .before .before .before .before .before .before .before .before .before .before .before .before .before .before .before .before .before .before .before .before .before .before .before .args in rw (served-as (a .w .now) (a .defaults .now) (a .edits .now) (stateIn (valuesOf (a .words .now) (a .nulls .now) (a .edited .now) (a .versions .now)) (a .row .now) (a .kept .now)) (a .table) (a .g) (a .subject) (a .message .now) (length (a .out .now)) (right-here (c .before .before .before .before .before .before .before .before .before .before .before .before .before .before .before .before .before .before .before .before .before .before .before .before .before .before .before)) (not-false _ (c .before .before .before .before .before .before .before .before .before .before .before .before .before .before .before .before .before .before .before .before .before .before .before .before .before .before .if2 .left)) (c .before .before .before .before .before .before .before .before .before .before .before .before .before .before .before .before .before .before .before .before .before .before .before .before .before .if3 .left) (found-here (c .before .before .before .before .before .before .before .before .before .before .before .before .before .before .before .before .before .before .before .before .before .before)) (sym (c .before .before .before .before .before .before .before .before .before .before .before .before .before .before .before .before .before .before .before .action-of .ensures)) (c .before .before .before .before .before .before .before .before .before .before .before .before .before .before .before .before .before .before .before .before .if4 .left) (sym (c .before .before .before .before .before .before .before .before .before .before .before .before .before .before .before .before .before .before .is-for-server .ensures) ∙ not-false _ (c .before .before .before .before .before .before .before .before .before .before .before .before .before .before .before .before .before .if5 .left)) (c .before .before .before .before .before .before .before .before .before .before .before .before .before .before .before .if6 .left ∙ c .before .before .before .before .before .before .before .before .before .before .before .before .before .before .before .before .subject-served .ensures) (payload-of (a .message .now)) (c .before .before .before .before .before .before .before .before .before .before .before .before .before .step-of .ensures ∙ ap (λ (u : Standing). stepOf (u .progress) (c .before .before .before .before .before .before .before .before .before .before .before .before .before .before .before .before .before .before .before .action-of .result) (c .before .before .before .before .before .before .before .before .before .before .before .before .before .before .before .before .before .before .before .before .before .before .e .given .0 .0) (take (length (a .message .now) - envelopeLength) (drop envelopeLength (a .message .now)))) (c .before .before .before .before .before .before .before .before .before .before .before .before .before .before .before .before .before .before .before .before .before .before .before .before .before .before .before .before .before .before .before .before .before .read-standing .ensures))) (c .before .before .before .before .react .ensures)
 
 pub serve-spec : {M : Type 1} → statement M
 serve-spec =
@@ -166,6 +169,7 @@ serve-spec =
     refuse-requires-5
     same-length-5
     returns-5
+    action-of-requires
     is-for-server-requires
     refuse-requires-6
     same-length-6

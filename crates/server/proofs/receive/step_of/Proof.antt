@@ -22,7 +22,7 @@ on-request-requires c κs = search needs
 
 returns : tie.Need-returns
 unfolding stepOf
-returns c = let q : beginning (c .before .before .before .before .args .e .opcode) ≡ true = sym (c .before .before .begins .ensures) ∙ c .before .if1 .taken in rw q (c .on-request .ensures)
+returns c = let q : beginning (c .before .before .before .before .args .action) ≡ true = sym (c .before .before .begins .ensures) ∙ c .before .if1 .taken in rw q (c .on-request .ensures)
 
 status-response-requires : tie.Need-status-response-requires
 status-response-requires c κs = search needs
@@ -35,14 +35,14 @@ enum-told c = search needs
 
 returns-2 : tie.Need-returns-2
 unfolding stepOf
-returns-2 c = let q : beginning (c .before .before .before .before .before .before .args .e .opcode) ≡ false = sym (c .before .before .before .before .begins .ensures) ∙ c .before .before .before .if1 .left in rw q (sym (ap (byStatus (c .before .before .before .before .before .before .args .x) (c .before .before .before .before .before .before .args .e)) (was-bad (responseIn (c .before .before .before .before .before .before .args .payload .now)) (sym (c .before .before .status-response .ensures) ∙ c .enum-told .given .1))))
+returns-2 c = let q : beginning (c .before .before .before .before .before .before .args .action) ≡ false = sym (c .before .before .before .before .begins .ensures) ∙ c .before .before .before .if1 .left in rw q (sym (ap (byStatus (c .before .before .before .before .before .before .args .x) (c .before .before .before .before .before .before .args .e)) (was-bad (responseIn (c .before .before .before .before .before .before .args .payload .now)) (sym (c .before .before .status-response .ensures) ∙ c .enum-told .given .1))))
 
 on-status-requires : tie.Need-on-status-requires
 on-status-requires c κs = search needs
 
 returns-3 : tie.Need-returns-3
 unfolding stepOf
-returns-3 c = let q : beginning (c .before .before .before .before .before .before .before .before .args .e .opcode) ≡ false = sym (c .before .before .before .before .before .before .begins .ensures) ∙ c .before .before .before .before .before .if1 .left in rw q (c .on-status .ensures ∙ sym (ap (byStatus (c .before .before .before .before .before .before .before .before .args .x) (c .before .before .before .before .before .before .before .before .args .e)) (was-code (responseIn (c .before .before .before .before .before .before .before .before .args .payload .now)) (sym (c .before .before .before .before .status-response .ensures) ∙ c .before .before .code .given .1))))
+returns-3 c = let q : beginning (c .before .before .before .before .before .before .before .before .args .action) ≡ false = sym (c .before .before .before .before .before .before .begins .ensures) ∙ c .before .before .before .before .before .if1 .left in rw q (c .on-status .ensures ∙ sym (ap (byStatus (c .before .before .before .before .before .before .before .before .args .x) (c .before .before .before .before .before .before .before .before .args .e)) (was-code (responseIn (c .before .before .before .before .before .before .before .before .args .payload .now)) (sym (c .before .before .before .before .status-response .ensures) ∙ c .before .before .code .given .1))))
 
 pub step-of-spec : {M : Type 1} → statement M
 step-of-spec =
