@@ -8,7 +8,7 @@ use reference::value::{Kind, Value};
 
 use crate::called::{Called, Last};
 use crate::messages::Messages;
-use crate::setup::{rows, word, Row, Setup, ATTRIBUTES, CLUSTERS, MESSAGE};
+use crate::setup::{is_text, rows, word, Row, Setup, ATTRIBUTES, CLUSTERS, MESSAGE, TEXTS};
 
 pub const PAYLOAD: usize = 1024;
 
@@ -25,7 +25,7 @@ const LOW: usize = TRAITS + ATTRIBUTES;
 const HIGH: usize = LOW + ATTRIBUTES;
 const FIRST: usize = HIGH + ATTRIBUTES;
 const FACTORY: usize = FIRST + ATTRIBUTES;
-const WORDS: usize = FACTORY + ATTRIBUTES;
+const WORDS: usize = FACTORY + TEXTS;
 
 // The words of an exchange row (crates/selection/src/request.rt): the paths of the request, a filter for each cluster, and how the exchange stands.
 const PATHS: usize = 16;
@@ -51,7 +51,7 @@ extern "C" {
         w: *const u64,
         words: *const u64,
         nulls: *const bool,
-        edited: *const bool,
+        texts: *const u16,
         versions: *const u32,
         defaults: *const u8,
         defaults_len: usize,
@@ -62,7 +62,7 @@ extern "C" {
         w: *const u64,
         words: *const u64,
         nulls: *const bool,
-        edited: *const bool,
+        texts: *const u16,
         versions: *const u32,
         defaults: *const u8,
         defaults_len: usize,
@@ -81,7 +81,7 @@ extern "C" {
         defaults_len: usize,
         words: *mut u64,
         nulls: *mut bool,
-        edited: *mut bool,
+        texts: *mut u16,
         versions: *mut u32,
         row: *mut u64,
         kept: *mut u8,
@@ -94,7 +94,7 @@ extern "C" {
         edits_len: usize,
         words: *mut u64,
         nulls: *mut bool,
-        edited: *mut bool,
+        texts: *mut u16,
         versions: *mut u32,
         row: *mut u64,
         kept: *mut u8,
@@ -112,7 +112,7 @@ extern "C" {
         edits_len: usize,
         words: *mut u64,
         nulls: *mut bool,
-        edited: *mut bool,
+        texts: *mut u16,
         versions: *mut u32,
         row: *const u64,
         endpoint: u16,
@@ -145,7 +145,7 @@ fn words_of(setup: &Setup) -> Box<[u64; WORDS]> {
             Kind::Float { lowest, highest } => (3, lowest.into(), highest.into()),
             Kind::Text => (4, 0, 0),
         };
-        let is_text = matches!(attribute.first, Value::Text(_));
+        let is_text = is_text(attribute);
         // A cluster that is not there is one past all rows.
         let cluster = cluster.unwrap_or(CLUSTERS) as u64;
         w[KEY + i] = cluster << 32 | u64::from(attribute.path.attribute);
@@ -168,7 +168,7 @@ fn words_of(setup: &Setup) -> Box<[u64; WORDS]> {
 struct Held {
     words: [u64; ATTRIBUTES],
     nulls: [bool; ATTRIBUTES],
-    edited: [bool; ATTRIBUTES],
+    texts: [u16; TEXTS],
     versions: [u32; CLUSTERS],
     row: [u64; ROW_WORDS],
     kept: [u8; MESSAGE],
@@ -180,7 +180,7 @@ impl Held {
         Held {
             words: setup.words,
             nulls: setup.nulls,
-            edited: setup.edited,
+            texts: setup.texts,
             versions: setup.versions,
             row: [0; ROW_WORDS],
             kept: [0; MESSAGE],
@@ -192,7 +192,7 @@ impl Held {
         Held {
             words: [u64::MAX; ATTRIBUTES],
             nulls: [true; ATTRIBUTES],
-            edited: [true; ATTRIBUTES],
+            texts: [u16::MAX; TEXTS],
             versions: [7; CLUSTERS],
             row: [u64::MAX; ROW_WORDS],
             kept: [0xA5; MESSAGE],
@@ -208,7 +208,7 @@ impl Held {
                 defaults.len(),
                 self.words.as_mut_ptr(),
                 self.nulls.as_mut_ptr(),
-                self.edited.as_mut_ptr(),
+                self.texts.as_mut_ptr(),
                 self.versions.as_mut_ptr(),
                 self.row.as_mut_ptr(),
                 self.kept.as_mut_ptr(),
@@ -235,7 +235,7 @@ impl Held {
                 edits.len(),
                 self.words.as_mut_ptr(),
                 self.nulls.as_mut_ptr(),
-                self.edited.as_mut_ptr(),
+                self.texts.as_mut_ptr(),
                 self.versions.as_mut_ptr(),
                 self.row.as_mut_ptr(),
                 self.kept.as_mut_ptr(),
@@ -293,7 +293,7 @@ impl Sign {
                 self.schema.as_ptr(),
                 held.words.as_ptr(),
                 held.nulls.as_ptr(),
-                held.edited.as_ptr(),
+                held.texts.as_ptr(),
                 held.versions.as_ptr(),
                 self.defaults.as_ptr(),
                 self.defaults.len(),
@@ -312,7 +312,7 @@ impl Sign {
                 self.schema.as_ptr(),
                 held.words.as_ptr(),
                 held.nulls.as_ptr(),
-                held.edited.as_ptr(),
+                held.texts.as_ptr(),
                 held.versions.as_ptr(),
                 self.defaults.as_ptr(),
                 self.defaults.len(),
@@ -411,7 +411,7 @@ impl Called for Sign {
                 edits.len(),
                 held.words.as_mut_ptr(),
                 held.nulls.as_mut_ptr(),
-                held.edited.as_mut_ptr(),
+                held.texts.as_mut_ptr(),
                 held.versions.as_mut_ptr(),
                 held.row.as_ptr(),
                 path.endpoint,

@@ -6,7 +6,7 @@ use reference::value::{self, Value};
 use crate::called::{Called, Last};
 use crate::messages::Messages;
 use crate::plain::{self, Answer, Attribute, Cluster, Entry, Kind, Schema, Values};
-use crate::setup::{rows, Row, Setup, MESSAGE};
+use crate::setup::{is_text, rows, word, Row, Setup, ATTRIBUTES, MESSAGE, TEXT_SIZE};
 
 /// `CHECKED`: each call tests what refusal 2 asks.
 pub struct Ordinary<const CHECKED: bool> {
@@ -52,6 +52,26 @@ fn attribute(row: &Row) -> Attribute {
         nullable: row.attribute.nullable,
         kind: kind(row),
     }
+}
+
+/// What is set up, in the form that this sign keeps: a text's length is its word, and whether it was changed a mark of its row.
+fn values(setup: &Setup) -> Values {
+    let Setup { words, nulls, versions, .. } = setup.clone();
+    let mut values = Values { words, nulls, edited: [false; ATTRIBUTES], versions };
+    for (i, row) in rows(&setup.schema).iter().enumerate().take(ATTRIBUTES) {
+        if is_text(row.attribute) {
+            let mark = usize::from(setup.texts[row.rank]);
+            values.edited[i] = mark != 0;
+            values.words[i] = match mark {
+                // A word that no text has, and a mark that none has, are a length that none has.
+                _ if words[i] != 0 || mark > TEXT_SIZE + 1 => u64::MAX,
+                _ if nulls[i] => 0,
+                0 => word(&row.attribute.first),
+                _ => mark as u64 - 1,
+            };
+        }
+    }
+    values
 }
 
 fn value_of(value: &Value) -> plain::Value<'_> {
@@ -117,12 +137,7 @@ impl<const CHECKED: bool> Called for Ordinary<CHECKED> {
             endpoint: one.endpoint,
             cluster: one.cluster,
         });
-        let values = Values {
-            words: setup.words,
-            nulls: setup.nulls,
-            edited: setup.edited,
-            versions: setup.versions,
-        };
+        let values = values(setup);
         Ordinary {
             subject: schema.subject,
             clusters: clusters.collect(),

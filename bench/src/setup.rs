@@ -6,6 +6,7 @@ use reference::value::Value;
 
 pub const ATTRIBUTES: usize = 256;
 pub const CLUSTERS: usize = 32;
+pub const TEXTS: usize = 256;
 pub const TEXT_SIZE: usize = 200;
 pub const MESSAGE: usize = 1032;
 
@@ -16,10 +17,11 @@ pub const OPEN: Entry = Entry { privilege: 4, subject: None, endpoint: None, clu
 pub struct Setup {
     pub schema: Schema,
     pub table: Vec<Entry>,
-    /// Of a text its length.
+    /// Of a text 0.
     pub words: [u64; ATTRIBUTES],
     pub nulls: [bool; ATTRIBUTES],
-    pub edited: [bool; ATTRIBUTES],
+    /// By rank: 0 for a text that was never changed, its length and one for one that was.
+    pub texts: [u16; TEXTS],
     pub versions: [u32; CLUSTERS],
     pub defaults: Vec<u8>,
     pub edits: Vec<u8>,
@@ -62,7 +64,11 @@ pub fn rows(schema: &Schema) -> Vec<Row<'_>> {
     rows
 }
 
-/// The word that a value is stored as.
+pub fn is_text(attribute: &Attribute) -> bool {
+    matches!(attribute.first, Value::Text(_))
+}
+
+/// A value as one word; of a text its length.
 pub fn word(value: &Value) -> u64 {
     match value {
         Value::Null => 0,
@@ -82,13 +88,13 @@ impl Setup {
             table,
             words: [0; ATTRIBUTES],
             nulls: [false; ATTRIBUTES],
-            edited: [false; ATTRIBUTES],
+            texts: [0; TEXTS],
             versions: [0; CLUSTERS],
             defaults: Vec::new(),
             edits: Vec::new(),
         };
         for (held, attribute) in setup.words.iter_mut().zip(&schema.attributes) {
-            *held = word(&attribute.first);
+            *held = if is_text(attribute) { 0 } else { word(&attribute.first) };
         }
         for (held, cluster) in setup.versions.iter_mut().zip(&schema.clusters) {
             *held = cluster.version;
@@ -111,11 +117,11 @@ impl Setup {
 
     /// Every text changed once: shown from the page of edits from then on.
     pub fn edit_all(&mut self) {
-        for (i, row) in rows(&self.schema).iter().enumerate() {
+        for row in rows(&self.schema) {
             if let Value::Text(text) = &row.attribute.first {
                 let place = TEXT_SIZE * row.rank;
                 self.edits[place..place + text.len()].copy_from_slice(text);
-                self.edited[i] = true;
+                self.texts[row.rank] = text.len() as u16 + 1;
             }
         }
     }

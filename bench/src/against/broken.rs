@@ -11,7 +11,7 @@ use crate::called::Called;
 use crate::library::Sign;
 use crate::messages::{read_all, status, whole_read};
 use crate::ordinary::Checked;
-use crate::setup::{Setup, ATTRIBUTES, CLUSTERS, MESSAGE, OPEN, TEXT_SIZE};
+use crate::setup::{Setup, ATTRIBUTES, CLUSTERS, MESSAGE, OPEN, TEXTS, TEXT_SIZE};
 
 /// How many signs kept the rules and how many did not; of those that did, how many were then lent a row that did, and one that did not.
 pub struct Judged {
@@ -103,14 +103,17 @@ fn touch_held(setup: &mut Setup, rng: &mut Rng) {
     let count = setup.schema.attributes.len().clamp(1, ATTRIBUTES);
     let i = rng.below(count);
     let byte = *rng.pick(&[b'x', 0x80, 0xC3, 0xA9, 0xE2, 0xF0, 0xFF]);
-    match rng.below(9) {
+    // A text whose mark is touched: one that the page of edits has room for.
+    let rank = rng.below((setup.edits.len() / TEXT_SIZE).clamp(1, TEXTS));
+    match rng.below(10) {
         0 => {
             setup.words[i] = *rng.pick(&[0, 1, 2, 7, 8, 199, 200, 201, 256, 257, 1 << 32, u64::MAX])
         }
         1 => setup.words[i] = setup.words[i].wrapping_add(*rng.pick(&[1, u64::MAX])),
         2 => setup.nulls[i] = true,
         3 => (setup.nulls[i], setup.words[i]) = (true, 0),
-        4 => setup.edited[i] = !setup.edited[i],
+        4 => setup.texts[rank] = *rng.pick(&[0, 1, 2, 3, 200, 201, 202, u16::MAX]),
+        9 => setup.texts[rank] = setup.texts[rank].wrapping_add(*rng.pick(&[1, u16::MAX])),
         5 if !setup.edits.is_empty() => {
             let at = rng.below(setup.edits.len());
             setup.edits[at] = byte;

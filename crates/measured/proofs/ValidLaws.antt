@@ -9,7 +9,7 @@ use Rattle.values.specs.declared.Values.{Values}
 use Rattle.values.specs.Valid.{heldRight, valuesRight}
 use Rattle.measured.specs.Sign.{signRight}
 
-pub as-tested : (w defaults edits : List ℕ) (v : Values) → signRight w defaults edits v ≡ (columnsRight w && (ranksRight w && (numbersRight w && heldRight w defaults edits (v .words) (v .nulls) (v .edited))))
+pub as-tested : (w defaults edits : List ℕ) (v : Values) → signRight w defaults edits v ≡ (columnsRight w && (ranksRight w && (numbersRight w && heldRight w defaults edits (v .words) (v .nulls) (v .texts))))
 unfolding signRight wellFormed valuesRight
 as-tested w defaults edits v =
-    and-assoc (columnsRight w) (ranksRight w) (numbersRight w && heldRight w defaults edits (v .words) (v .nulls) (v .edited))
+    and-assoc (columnsRight w) (ranksRight w) (numbersRight w && heldRight w defaults edits (v .words) (v .nulls) (v .texts))

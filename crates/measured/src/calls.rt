@@ -18,6 +18,7 @@ use bounds::ATTRIBUTES;
 use bounds::CLUSTERS;
 use kinds::stored::signed_of;
 use replies::MAX_MESSAGE;
+use schema::TEXTS;
 use schema::WORDS;
 use selection::request::ROW_WORDS;
 use server::receive::receive_in;
@@ -54,14 +55,14 @@ pub extern "C" fn sign_start<'a>(
     defaults: &'a [u8],
     words: &mut [u64; ATTRIBUTES],
     nulls: &mut [bool; ATTRIBUTES],
-    edited: &mut [bool; ATTRIBUTES],
+    texts: &mut [u16; TEXTS],
     versions: &mut [u32; CLUSTERS],
     row: &mut [u64; ROW_WORDS],
     kept: &mut [u8; MAX_MESSAGE],
 ) -> u8
-    ensures { λ r. ⌜ Starts (started (now (w .entry)) (now (defaults .entry))) r (valuesOf (now (words .entry)) (now (nulls .entry)) (now (edited .entry)) (now (versions .entry))) (valuesOf (now (words .exit)) (now (nulls .exit)) (now (edited .exit)) (now (versions .exit))) (now (row .entry)) (now (row .exit)) (now (kept .entry)) (now (kept .exit)) ⌝ }
+    ensures { λ r. ⌜ Starts (started (now (w .entry)) (now (defaults .entry))) r (valuesOf (now (words .entry)) (now (nulls .entry)) (now (texts .entry)) (now (versions .entry))) (valuesOf (now (words .exit)) (now (nulls .exit)) (now (texts .exit)) (now (versions .exit))) (now (row .entry)) (now (row .exit)) (now (kept .entry)) (now (kept .exit)) ⌝ }
 {
-    start(w, defaults, words, nulls, edited, versions, row, kept)
+    start(w, defaults, words, nulls, texts, versions, row, kept)
 }
 
 #[no_mangle]
@@ -71,7 +72,7 @@ pub extern "C" fn sign_receive<'a>(
     edits: &mut [u8],
     words: &mut [u64; ATTRIBUTES],
     nulls: &mut [bool; ATTRIBUTES],
-    edited: &mut [bool; ATTRIBUTES],
+    texts: &mut [u16; TEXTS],
     versions: &mut [u32; CLUSTERS],
     row: &mut [u64; ROW_WORDS],
     kept: &mut [u8; MAX_MESSAGE],
@@ -79,7 +80,7 @@ pub extern "C" fn sign_receive<'a>(
     message: &'a [u8],
     out: &mut [u8],
 ) -> Last
-    ensures { λ r. ⌜ Reacted (received (now (w .entry)) (now (defaults .entry)) (now (edits .entry)) (stateIn (valuesOf (now (words .entry)) (now (nulls .entry)) (now (edited .entry)) (now (versions .entry))) (now (row .entry)) (now (kept .entry))) (tableRight 1 openEntries) (grantsOf (take 1 openEntries) subject (now (w .entry))) subject (now (message .entry)) (length (now (out .entry)))) (outcomeOf r) (heldOf (now (words .exit)) (now (nulls .exit)) (now (edited .exit)) (now (versions .exit)) (now (edits .exit))) (now (row .entry)) (now (row .exit)) (now (kept .exit)) (now (out .entry)) (now (out .exit)) ⌝ }
+    ensures { λ r. ⌜ Reacted (received (now (w .entry)) (now (defaults .entry)) (now (edits .entry)) (stateIn (valuesOf (now (words .entry)) (now (nulls .entry)) (now (texts .entry)) (now (versions .entry))) (now (row .entry)) (now (kept .entry))) (tableRight 1 openEntries) (grantsOf (take 1 openEntries) subject (now (w .entry))) subject (now (message .entry)) (length (now (out .entry)))) (outcomeOf r) (heldOf (now (words .exit)) (now (nulls .exit)) (now (texts .exit)) (now (versions .exit)) (now (edits .exit))) (now (row .entry)) (now (row .exit)) (now (kept .exit)) (now (out .entry)) (now (out .exit)) ⌝ }
 {
     let t = open_entries();
     let o = receive_in(
@@ -88,7 +89,7 @@ pub extern "C" fn sign_receive<'a>(
         edits,
         words,
         nulls,
-        edited,
+        texts,
         versions,
         row,
         kept,
@@ -133,7 +134,7 @@ pub extern "C" fn sign_change<'a>(
     edits: &mut [u8],
     words: &mut [u64; ATTRIBUTES],
     nulls: &mut [bool; ATTRIBUTES],
-    edited: &mut [bool; ATTRIBUTES],
+    texts: &mut [u16; TEXTS],
     versions: &mut [u32; CLUSTERS],
     row: &'a [u64; ROW_WORDS],
     endpoint: u16,
@@ -143,7 +144,7 @@ pub extern "C" fn sign_change<'a>(
     word: u64,
     text: &'a [u8],
 ) -> u8
-    ensures { λ r. ⌜ ((kept : List ℕ) → Alters (alteredBy (now (w .entry)) (now (defaults .entry)) (now (edits .entry)) (stateIn (valuesOf (now (words .entry)) (now (nulls .entry)) (now (edited .entry)) (now (versions .entry))) (now (row .entry)) kept) endpoint cluster attribute (now (text .entry)) (givenValue code word (length (now (text .entry))))) r (heldOf (now (words .exit)) (now (nulls .exit)) (now (edited .exit)) (now (versions .exit)) (now (edits .exit)))) ⌝ }
+    ensures { λ r. ⌜ ((kept : List ℕ) → Alters (alteredBy (now (w .entry)) (now (defaults .entry)) (now (edits .entry)) (stateIn (valuesOf (now (words .entry)) (now (nulls .entry)) (now (texts .entry)) (now (versions .entry))) (now (row .entry)) kept) endpoint cluster attribute (now (text .entry)) (givenValue code word (length (now (text .entry))))) r (heldOf (now (words .exit)) (now (nulls .exit)) (now (texts .exit)) (now (versions .exit)) (now (edits .exit)))) ⌝ }
 {
     let new = given_value(code, word, text.len());
     change(
@@ -152,7 +153,7 @@ pub extern "C" fn sign_change<'a>(
         edits,
         words,
         nulls,
-        edited,
+        texts,
         versions,
         row,
         endpoint,

@@ -17,6 +17,7 @@ use bounds::CLUSTERS;
 use report::ATTRIBUTE_PHASE;
 use report::Place;
 use report::part::make_part;
+use schema::TEXTS;
 use schema::WORDS;
 use schema::check::columns_right;
 use selection::request::ROW_WORDS;
@@ -40,17 +41,17 @@ pub extern "C" fn sign_valid<'a>(
     w: &'a [u64; WORDS],
     words: &'a [u64; ATTRIBUTES],
     nulls: &'a [bool; ATTRIBUTES],
-    edited: &'a [bool; ATTRIBUTES],
+    texts: &'a [u16; TEXTS],
     versions: &'a [u32; CLUSTERS],
     defaults: &'a [u8],
     edits: &'a [u8],
 ) -> bool
-    ensures { λ r. ⌜ r ≡ signRight (now (w .entry)) (now (defaults .entry)) (now (edits .entry)) (valuesOf (now (words .entry)) (now (nulls .entry)) (now (edited .entry)) (now (versions .entry))) ⌝ }
+    ensures { λ r. ⌜ r ≡ signRight (now (w .entry)) (now (defaults .entry)) (now (edits .entry)) (valuesOf (now (words .entry)) (now (nulls .entry)) (now (texts .entry)) (now (versions .entry))) ⌝ }
 {
     if !columns_right(w) {
         return false;
     }
-    values_ok(w, defaults, edits, words, nulls, edited)
+    values_ok(w, defaults, edits, words, nulls, texts)
 }
 
 // One part of the read that a row's words keep, every privilege granted: from a place on, into the buffer from its start on.
@@ -59,7 +60,7 @@ pub extern "C" fn sign_part<'a>(
     w: &'a [u64; WORDS],
     words: &'a [u64; ATTRIBUTES],
     nulls: &'a [bool; ATTRIBUTES],
-    edited: &'a [bool; ATTRIBUTES],
+    texts: &'a [u16; TEXTS],
     versions: &'a [u32; CLUSTERS],
     defaults: &'a [u8],
     edits: &'a [u8],
@@ -70,7 +71,7 @@ pub extern "C" fn sign_part<'a>(
     out: &mut [u8],
 ) -> Part
     requires { ⌜ (wellFormed (now w) ≡ true) × ((asked ≤ maxPaths) × (maxPayload ≤ length (now out))) ⌝ }
-    ensures { λ r. ⌜ Made (now (out .entry)) 0 (startOf path index) (blocksFrom (viewOf (now (w .entry)) (valuesOf (now (words .entry)) (now (nulls .entry)) (now (edited .entry)) (now (versions .entry))) (now (defaults .entry)) (now (edits .entry)) allGranted (filtersIn (now (row .entry)))) (askedPaths (now (row .entry)) asked) (startOf path index)) (now (out .exit)) (record { end = r .end; place = startOf (r .path) (r .index); more = r .more }) ⌝ }
+    ensures { λ r. ⌜ Made (now (out .entry)) 0 (startOf path index) (blocksFrom (viewOf (now (w .entry)) (valuesOf (now (words .entry)) (now (nulls .entry)) (now (texts .entry)) (now (versions .entry))) (now (defaults .entry)) (now (edits .entry)) allGranted (filtersIn (now (row .entry)))) (askedPaths (now (row .entry)) asked) (startOf path index)) (now (out .exit)) (record { end = r .end; place = startOf (r .path) (r .index); more = r .more }) ⌝ }
 {
     let g = Grants {
         level: [ADMINISTER; CLUSTERS],
@@ -79,7 +80,7 @@ pub extern "C" fn sign_part<'a>(
         w,
         words,
         nulls,
-        edited,
+        texts,
         versions,
         defaults,
         edits,

@@ -1,6 +1,6 @@
 -- Laws of the two pages: a stored text is shown, and every other shown text stays as it was.
-use mathlib.Core.Path.{_≡_, refl, sym, ap, _∙_}
-use mathlib.Core.Bool.{Bool, true, false}
+use mathlib.Core.Path.{_≡_, sym, ap, _∙_}
+use mathlib.Core.Bool.{true, false}
 use mathlib.Core.List.{List, []}
 use Prim.Native.Nat.{ℕ, _+_, _-_, _≤_, min}
 use native.Mathlib.Omega.{arith}
@@ -37,21 +37,20 @@ part-whole n start l =
     (λ t. t ∙ sym (ne-eqb _ n (λ q. omega (arith, e, q, leb-false n _ t))))
 
 module _ (defaults edits : List ℕ) (rank : ℕ) (text : List ℕ) where
-  pub stored-shown : place rank + length text ≤ length edits → (start : ℕ) → shownText defaults (store edits (place rank) text) start rank (length text) true ≡ text
+  -- a stored text is shown, with the mark of its length
+  pub stored-shown : place rank + length text ≤ length edits → (start len : ℕ) → shownText defaults (store edits (place rank) text) start len rank (length text + 1) ≡ text
   unfolding shownText
-  stored-shown fits start = store-back edits (place rank) text fits
+  stored-shown fits start len =
+      let c : eqb (length text + 1) 0 ≡ false = ne-eqb (length text + 1) 0 (λ q. omega (arith, q)) in
+      let n : length text + 1 - 1 ≡ length text = omega arith in
+      rw (c, n) (store-back edits (place rank) text fits)
 
-  -- a factory text, also the stored one's own
-  pub factory-stays : (start other len : ℕ) → shownText defaults (store edits (place rank) text) start other len false ≡ shownText defaults edits start other len false
+  part-stays : length text ≤ textSize → (other n : ℕ) → (other ≡ rank → ⊥) → n ≤ textSize → take n (drop (place other) (store edits (place rank) text)) ≡ take n (drop (place other) edits)
+  part-stays size other n apart short =
+      by-test (ltb other rank) (λ t. part-before edits (place rank) text (place other) n (omega (arith, ltb-true other rank t)))
+      (λ t. part-after edits (place rank) text (place other) n (omega (arith, ltb-false other rank t, apart)))
+
+  pub others-stay : length text ≤ textSize → (start len other mark : ℕ) → (other ≡ rank → ⊥) → mark ≤ textSize + 1 → shownText defaults (store edits (place rank) text) start len other mark ≡ shownText defaults edits start len other mark
   unfolding shownText
-  factory-stays start other len = refl
-
-  edited-stays : length text ≤ textSize → (start other len : ℕ) → (other ≡ rank → ⊥) → len ≤ textSize → shownText defaults (store edits (place rank) text) start other len true ≡ shownText defaults edits start other len true
-  unfolding shownText
-  edited-stays size start other len apart short =
-      by-test (ltb other rank) (λ t. part-before edits (place rank) text (place other) len (omega (arith, ltb-true other rank t)))
-      (λ t. part-after edits (place rank) text (place other) len (omega (arith, ltb-false other rank t, apart)))
-
-  pub others-stay : length text ≤ textSize → (start other len : ℕ) (edited : Bool) → (other ≡ rank → ⊥) → len ≤ textSize → shownText defaults (store edits (place rank) text) start other len edited ≡ shownText defaults edits start other len edited
-  others-stay size start other len true apart short = edited-stays size start other len apart short
-  others-stay size start other len false apart short = factory-stays start other len
+  others-stay size start len other mark apart short =
+      by-test (eqb mark 0) (λ t. rw t) (λ t. rw t (part-stays size other (mark - 1) apart (omega (arith, short))))

@@ -1,4 +1,4 @@
--- The texts of an accepted schema: each has a place of its own, what is shown lies inside its page, and what was judged fits.
+-- The texts of an accepted schema: each has a place of its own, and what was judged fits.
 use mathlib.Core.Path.{_≡_, refl, sym, _∙_}
 use mathlib.Core.Bool.{Bool, true, false}
 use mathlib.Core.List.{List}
@@ -24,7 +24,7 @@ use Rattle.schema.specs.Rules.{Rules}
 use Rattle.schema.proofs.BoolLaws.{both, left, right, by-test}
 use Rattle.schema.proofs.TextLaws.{text-inside, texts-apart}
 use Rattle.node.specs.Attributes.{typed, attributeOf}
-use Rattle.node.specs.Pages.{place, shownFrom, shownIn, shownText}
+use Rattle.node.specs.Pages.{place, shownText}
 use Rattle.node.specs.Rules.{SchemaRules}
 use Rattle.node.proofs.KindLaws.{kind-text}
 use Rattle.node.proofs.FirstLaws.{text-code}
@@ -67,7 +67,7 @@ abbrev pub rankOf : List ℕ → ℕ → ℕ
 rankOf w i = attributeRow w i .first
 
 module _ (w : List ℕ) (rules : Rules w) where
-  ranks-apart : (i j : ℕ) → TextAt w i → TextAt w j → (i ≡ j → ⊥) → rankOf w i ≡ rankOf w j → ⊥
+  pub ranks-apart : (i j : ℕ) → TextAt w i → TextAt w j → (i ≡ j → ⊥) → rankOf w i ≡ rankOf w j → ⊥
   ranks-apart i j ti tj n e =
       by-test (ltb i j) (λ t. omega (arith, e, texts-apart w rules i j (ltb-true i j t) (tj .0) (ti .1) (tj .1)))
       (λ t. omega (arith, e, texts-apart w rules j i (omega (arith, ltb-false i j t, n)) (ti .0) (tj .1) (ti .1)))
@@ -81,22 +81,16 @@ module _ (w : List ℕ) (rules : Rules w) where
   judged-fits s nullable a n i t h = place-fits i n t (judged-text s nullable a n h .size)
 
   -- storing the text of one attribute leaves every other attribute's shown text as it was
-  pub text-stays : (defaults edits text : List ℕ) (i j start len : ℕ) (edited : Bool) → TextAt w i → TextAt w j → (j ≡ i → ⊥) → length text ≤ textSize → len ≤ textSize → shownText defaults (store edits (place (rankOf w i)) text) start (rankOf w j) len edited ≡ shownText defaults edits start (rankOf w j) len edited
-  text-stays defaults edits text i j start len edited ti tj n size short =
-      others-stay defaults edits (rankOf w i) text size start (rankOf w j) len edited (ranks-apart j i tj ti n) short
+  pub text-stays : (defaults edits text : List ℕ) (i j start len mark : ℕ) → TextAt w i → TextAt w j → (j ≡ i → ⊥) → length text ≤ textSize → mark ≤ textSize + 1 → shownText defaults (store edits (place (rankOf w i)) text) start len (rankOf w j) mark ≡ shownText defaults edits start len (rankOf w j) mark
+  text-stays defaults edits text i j start len mark ti tj n size short =
+      others-stay defaults edits (rankOf w i) text size start len (rankOf w j) mark (ranks-apart j i tj ti n) short
 
--- ---- an accepted schema: what `shown` requires, and that a first value passes the verdict on a new value
+-- ---- an accepted schema: a first value passes the verdict on a new value
 
 module _ (w page : List ℕ) (rules : SchemaRules w page) (i : ℕ) where
   typed-text : TextAt w i → (attributeOf w i .kind ≡ Kinds.Text) × (attributeOf w i .first ≡ attributeOf w i .len)
   unfolding typed
   typed-text t = let e : attributeRow w i .kind ≡ 4 = eqb-true _ _ (t .1) in (kind-text (attributeRow w i) e, rw e)
-
-  pub factory-inside : (edits : List ℕ) → TextAt w i → shownFrom (attributeOf w i .text) (rankOf w i) false + attributeOf w i .len ≤ length (shownIn page edits false)
-  factory-inside edits t = factory-rules w page rules i (t .0) (typed-text t .0) .inside
-
-  pub edited-inside : (edits : List ℕ) → length edits ≡ textSize * textCount w → (start n : ℕ) → TextAt w i → n ≤ textSize → shownFrom start (rankOf w i) true + n ≤ length (shownIn page edits true)
-  edited-inside edits size start n t short = omega (arith, size, place-fits w (rules .structure) i n t short)
 
   text-at : i < attributeCount w → attributeOf w i .kind ≡ Kinds.Text → TextAt w i
   unfolding typed

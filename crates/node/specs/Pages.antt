@@ -2,7 +2,8 @@
 -- page: the shown text is that very part of one page or the other."
 use mathlib.Core.Bool.{Bool, cond}
 use mathlib.Core.List.{List}
-use Prim.Native.Nat.{ℕ, _*_}
+use Prim.Native.Nat.{ℕ, _*_, _-_}
+use lib.Dec.{eqb}
 use lib.ListN.{take, drop}
 use Rattle.schema.specs.Layout.{textSize}
 
@@ -10,13 +11,14 @@ use Rattle.schema.specs.Layout.{textSize}
 abbrev pub place : ℕ → ℕ
 place rank = textSize * rank
 
--- where a text starts, and in which page
-abbrev pub shownFrom : ℕ → ℕ → Bool → ℕ
-shownFrom start rank edited = cond edited (place rank) start
+-- a text's mark: 0 never changed, n + 1 changed, and n bytes long
+abbrev pub unchanged : ℕ → Bool
+unchanged mark = eqb mark 0
 
-abbrev pub shownIn : List ℕ → List ℕ → Bool → List ℕ
-shownIn defaults edits edited = cond edited edits defaults
+-- the length that a text is shown with, where its factory text has len bytes
+abbrev pub shownLength : ℕ → ℕ → ℕ
+shownLength len mark = cond (unchanged mark) len (mark - 1)
 
--- the shown text of len bytes: its factory text starts at start of the page of defaults, its place in the page of edits goes by its rank
-unfoldable pub shownText : List ℕ → List ℕ → ℕ → ℕ → ℕ → Bool → List ℕ
-shownText defaults edits start rank len edited = take len (drop (shownFrom start rank edited) (shownIn defaults edits edited))
+-- the shown text: the factory text, of len bytes at start of the page of defaults, or the first bytes of its place in the page of edits
+unfoldable pub shownText : List ℕ → List ℕ → ℕ → ℕ → ℕ → ℕ → List ℕ
+shownText defaults edits start len rank mark = cond (unchanged mark) (take len (drop start defaults)) (take (mark - 1) (drop (place rank) edits))

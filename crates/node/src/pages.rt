@@ -29,24 +29,25 @@ pub fn part(page: &[u8], start: usize, len: usize) -> &[u8]
     &page[start..start + len]
 }
 
-// The shown text: that very part of one page or the other.
+// The shown text, by its mark: that very part of one page or the other.
 pub fn shown<'a>(
     defaults: &'a [u8],
     edits: &'a [u8],
     start: usize,
-    rank: usize,
     len: usize,
-    edited: bool,
+    rank: usize,
+    mark: u16,
 ) -> &'a [u8]
-    ensures { λ r. ⌜ now r ≡ shownText (now (defaults .entry)) (now (edits .entry)) start rank len edited ⌝ }
+    ensures { λ r. ⌜ now r ≡ shownText (now (defaults .entry)) (now (edits .entry)) start len rank mark ⌝ }
 {
-    if !edited {
+    if mark == 0 {
         return part(defaults, start, len);
     }
+    let n = (mark - 1) as usize;
     if edits.len() / TEXT_SIZE < rank {
-        return part(edits, edits.len(), len);
+        return part(edits, edits.len(), n);
     }
-    part(edits, place_of(rank), len)
+    part(edits, place_of(rank), n)
 }
 
 // Stores a text in its place: exactly its bytes, the rest of the page as it was.

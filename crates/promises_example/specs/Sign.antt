@@ -1,12 +1,12 @@
 -- What the sign holds in the run: fresh, after part 1, after the change, and after part 2.
-use mathlib.Core.Bool.{true, false}
+use mathlib.Core.Bool.{false}
 use mathlib.Core.List.{List, _∷_, _++_}
 use Prim.Native.Nat.{ℕ, _-_, _*_}
 use lib.ListN.{length, replicate}
 use Rattle.bounds.specs.Bounds.{clusterLimit, attributeLimit}
 use Rattle.members.specs.Scalar.{ABSENT}
 use Rattle.envelope.specs.Envelope.{maxMessage}
-use Rattle.schema.specs.Layout.{textSize}
+use Rattle.schema.specs.Layout.{textLimit, textSize}
 use Rattle.selection.specs.Request.{pathSize, filtersAt}
 use Rattle.selection.specs.Filters.{unfiltered}
 use Rattle.exchange.specs.Rules.{nothing, part}
@@ -47,9 +47,9 @@ row2 = rowAfter (row1 .kept) 2 nothing 5 part2
 unfoldable pub changedValues : Values
 changedValues =
     record {
-      words = 200 ∷ 200 ∷ 200 ∷ 200 ∷ 3 ∷ replicate (attributeLimit - 5) 0;
+      words = replicate attributeLimit 0;
       nulls = replicate attributeLimit false;
-      edited = false ∷ false ∷ false ∷ false ∷ true ∷ replicate (attributeLimit - 5) false;
+      texts = 0 ∷ 0 ∷ 0 ∷ 0 ∷ 4 ∷ replicate (textLimit - 5) 0;
       versions = 5 ∷ 0 ∷ replicate (clusterLimit - 2) 0;
     }
 

@@ -5,7 +5,7 @@ use Prim.Native.Nat.{ℕ, _*_, _^_, _≤_, _<_}
 use native.Mathlib.Omega.{arith}
 use borrow.Author.Tests.{eq-eqb, ne-eqb}
 use lib.ListN.{length, getD, take, length-take}
-use Rattle.bounds.specs.Bounds.{maxPaths, maxFilters, maxWrites}
+use Rattle.bounds.specs.Bounds.{maxPaths, maxWrites}
 use Rattle.octets.specs.Store.{store, Stored}
 use Rattle.tlv.specs.Decode.{Opt}
 use Rattle.tlv.specs.Decode.Opt.{just, nothing}

@@ -33,6 +33,7 @@ use interaction_write::write_request;
 use interaction_writer::envelope::PANEL_EDITION;
 use report::ATTRIBUTE_PHASE;
 use report::Place;
+use schema::TEXTS;
 use schema::WORDS;
 use selection::filters::put_filters;
 use selection::request::ROW_WORDS;
@@ -80,7 +81,7 @@ pub fn begin_read<'a>(
     w: &'a [u64; WORDS],
     words: &'a [u64; ATTRIBUTES],
     nulls: &'a [bool; ATTRIBUTES],
-    edited: &'a [bool; ATTRIBUTES],
+    texts: &'a [u16; TEXTS],
     versions: &'a [u32; CLUSTERS],
     defaults: &'a [u8],
     edits: &'a [u8],
@@ -93,7 +94,7 @@ pub fn begin_read<'a>(
     out: &mut [u8],
 ) -> Standing
     requires { ⌜ (wellFormed (now w) ≡ true) × ((exchange < exchangeLimit) × (maxMessage ≤ length (now out))) ⌝ }
-    ensures { λ r. ⌜ Begins (readBegun (now (w .entry)) (valuesOf (now (words .entry)) (now (nulls .entry)) (now (edited .entry)) (now (versions .entry))) (now (defaults .entry)) (now (edits .entry)) g (rowIn (now (row .entry)) t (now (kept .entry))) exchange (now (payload .entry))) r (now (row .entry)) (now (row .exit)) (now (kept .exit)) (now (out .entry)) (now (out .exit)) ⌝ }
+    ensures { λ r. ⌜ Begins (readBegun (now (w .entry)) (valuesOf (now (words .entry)) (now (nulls .entry)) (now (texts .entry)) (now (versions .entry))) (now (defaults .entry)) (now (edits .entry)) g (rowIn (now (row .entry)) t (now (kept .entry))) exchange (now (payload .entry))) r (now (row .entry)) (now (row .exit)) (now (kept .exit)) (now (out .entry)) (now (out .exit)) ⌝ }
 {
     let r = read_request(payload);
     let paths = r.paths;
@@ -117,7 +118,7 @@ pub fn begin_read<'a>(
         w,
         words,
         nulls,
-        edited,
+        texts,
         versions,
         defaults,
         edits,
@@ -159,7 +160,7 @@ pub fn begin_write<'a>(
     edits: &mut [u8],
     words: &mut [u64; ATTRIBUTES],
     nulls: &mut [bool; ATTRIBUTES],
-    edited: &mut [bool; ATTRIBUTES],
+    texts: &mut [u16; TEXTS],
     versions: &mut [u32; CLUSTERS],
     kept: &mut [u8; MAX_MESSAGE],
     t: Standing,
@@ -168,7 +169,7 @@ pub fn begin_write<'a>(
     out: &mut [u8],
 ) -> Standing
     requires { ⌜ (wellFormed (now w) ≡ true) × ((length (now edits) ≡ textSize * textCount (now w)) × ((exchange < exchangeLimit) × (maxMessage ≤ length (now out)))) ⌝ }
-    ensures { λ r. ⌜ ((row : List ℕ) → Wrote (writeBegun (now (w .entry)) g (now (defaults .entry)) (heldOf (now (words .entry)) (now (nulls .entry)) (now (edited .entry)) (now (versions .entry)) (now (edits .entry))) (rowIn row t (now (kept .entry))) exchange (now (payload .entry))) r (heldOf (now (words .exit)) (now (nulls .exit)) (now (edited .exit)) (now (versions .exit)) (now (edits .exit))) row row (now (kept .exit)) (now (out .entry)) (now (out .exit))) ⌝ }
+    ensures { λ r. ⌜ ((row : List ℕ) → Wrote (writeBegun (now (w .entry)) g (now (defaults .entry)) (heldOf (now (words .entry)) (now (nulls .entry)) (now (texts .entry)) (now (versions .entry)) (now (edits .entry))) (rowIn row t (now (kept .entry))) exchange (now (payload .entry))) r (heldOf (now (words .exit)) (now (nulls .exit)) (now (texts .exit)) (now (versions .exit)) (now (edits .exit))) row row (now (kept .exit)) (now (out .entry)) (now (out .exit))) ⌝ }
 {
     let r = write_request(payload);
     let entries = r.entries;
@@ -191,7 +192,7 @@ pub fn begin_write<'a>(
         edits,
         words,
         nulls,
-        edited,
+        texts,
         versions,
         all,
         n,

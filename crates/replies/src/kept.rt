@@ -21,6 +21,7 @@ use exchange::PART;
 use exchange::Progress;
 use interaction_writer::envelope::PANEL_EDITION;
 use octets::put_bytes;
+use schema::TEXTS;
 use schema::WORDS;
 use selection::request::ROW_WORDS;
 
@@ -58,7 +59,7 @@ pub fn next_part<'a>(
     w: &'a [u64; WORDS],
     words: &'a [u64; ATTRIBUTES],
     nulls: &'a [bool; ATTRIBUTES],
-    edited: &'a [bool; ATTRIBUTES],
+    texts: &'a [u16; TEXTS],
     versions: &'a [u32; CLUSTERS],
     defaults: &'a [u8],
     edits: &'a [u8],
@@ -69,7 +70,7 @@ pub fn next_part<'a>(
     out: &mut [u8],
 ) -> Standing
     requires { ⌜ (wellFormed (now w) ≡ true) × ((rowRight (rowIn (now row) t (now kept)) ≡ true) × ((t .progress .turn < maxTurn) × (maxMessage ≤ length (now out)))) ⌝ }
-    ensures { λ r. ⌜ Begins (nextPart (now (w .entry)) (valuesOf (now (words .entry)) (now (nulls .entry)) (now (edited .entry)) (now (versions .entry))) (now (defaults .entry)) (now (edits .entry)) g (rowIn (now (row .entry)) t (now (kept .entry)))) r (now (row .entry)) (now (row .entry)) (now (kept .exit)) (now (out .entry)) (now (out .exit)) ⌝ }
+    ensures { λ r. ⌜ Begins (nextPart (now (w .entry)) (valuesOf (now (words .entry)) (now (nulls .entry)) (now (texts .entry)) (now (versions .entry))) (now (defaults .entry)) (now (edits .entry)) g (rowIn (now (row .entry)) t (now (kept .entry)))) r (now (row .entry)) (now (row .entry)) (now (kept .exit)) (now (out .entry)) (now (out .exit)) ⌝ }
 {
     let was = t.progress;
     let from = t.place;
@@ -78,7 +79,7 @@ pub fn next_part<'a>(
         w,
         words,
         nulls,
-        edited,
+        texts,
         versions,
         defaults,
         edits,

@@ -27,6 +27,7 @@ use interaction_writer::response::put_status_response;
 use report::Filled;
 use report::Place;
 use report::part::make_part;
+use schema::TEXTS;
 use schema::WORDS;
 use selection::request::ROW_WORDS;
 use writes::response::put_response;
@@ -62,7 +63,7 @@ pub fn put_part<'a>(
     w: &'a [u64; WORDS],
     words: &'a [u64; ATTRIBUTES],
     nulls: &'a [bool; ATTRIBUTES],
-    edited: &'a [bool; ATTRIBUTES],
+    texts: &'a [u16; TEXTS],
     versions: &'a [u32; CLUSTERS],
     defaults: &'a [u8],
     edits: &'a [u8],
@@ -76,14 +77,14 @@ pub fn put_part<'a>(
     turn: u16,
 ) -> Filled
     requires { ⌜ (wellFormed (now w) ≡ true) × ((asked ≤ maxPaths) × ((edition < 16) × ((exchange < exchangeLimit) × (maxMessage ≤ length (now out))))) ⌝ }
-    ensures { λ r. ⌜ Sent (now (out .entry)) edition exchange turn from (blocksOf (now (w .entry)) (valuesOf (now (words .entry)) (now (nulls .entry)) (now (edited .entry)) (now (versions .entry))) (now (defaults .entry)) (now (edits .entry)) g (requestIn (now (row .entry)) asked) from) (now (out .exit)) r ⌝ }
+    ensures { λ r. ⌜ Sent (now (out .entry)) edition exchange turn from (blocksOf (now (w .entry)) (valuesOf (now (words .entry)) (now (nulls .entry)) (now (texts .entry)) (now (versions .entry))) (now (defaults .entry)) (now (edits .entry)) g (requestIn (now (row .entry)) asked) from) (now (out .exit)) r ⌝ }
 {
     let p = put_envelope(out, 0, edition, REPORT as u8, exchange, turn);
     make_part(
         w,
         words,
         nulls,
-        edited,
+        texts,
         versions,
         defaults,
         edits,

@@ -4,11 +4,9 @@ use mathlib.Core.Bool.{Bool, true, false}
 use mathlib.Core.List.{List, [], _∷_, _++_, map, append-assoc}
 use Prim.Native.Nat.{ℕ, zero, suc, _+_, _-_, _^_, _≤_, _<_}
 use native.Mathlib.Omega.{arith}
-use borrow.Author.Tests.{leb-true, eqb-true}
 use lib.Dec.{eqb}
 use lib.ListN.{length, getD, drop}
 use Rattle.bounds.specs.Bounds.{textMax}
-use Rattle.utf8.specs.WellFormed as utf8
 use Rattle.tlv.specs.Octet.{pick}
 use Rattle.tlv.specs.Decode.{Opt}
 use Rattle.tlv.specs.Decode.Opt.{just, nothing}
@@ -18,18 +16,16 @@ use Rattle.interaction_writer.specs.Block.{Block, ShortText}
 use Rattle.interaction_writer.specs.Meaning.{PathFits}
 use Rattle.kinds.specs.declared.Kind.{Kind}
 use Rattle.kinds.specs.declared.Kind.the-variants as Kinds
-use Rattle.kinds.specs.Stored.{held}
-use Rattle.schema.specs.Rows.{attributeRow, attributeCount, isText}
+use Rattle.schema.specs.Rows.{attributeRow, attributeCount}
 use Rattle.schema.specs.Rules.{Path, pathAt}
 use Rattle.schema.specs.Check.{wellFormed}
-use Rattle.schema.proofs.BoolLaws.{left, right}
 use Rattle.schema.proofs.RulesLaws.{well-formed-rules, cluster-rules, attribute-rules}
 use Rattle.node.specs.Attributes.{kindOf}
 use Rattle.values.specs.declared.Values.{Values}
 use Rattle.values.specs.Values.{heldDatum, datumAt, shownOf}
-use Rattle.values.specs.Valid.{shownRight, valueRight, valuesRight}
+use Rattle.values.specs.Valid.{valuesRight}
 use Rattle.values.proofs.ValueLaws.{textual, text-row}
-use Rattle.values.proofs.ValidLaws.{right-at}
+use Rattle.values.proofs.ValidLaws.{right-at, shown-fits}
 use Rattle.selection.specs.declared.asked.Asked.{Asked}
 use Rattle.selection.specs.declared.items.Item.{Item}
 use Rattle.selection.specs.declared.items.Item.the-variants as item
@@ -43,26 +39,23 @@ use Rattle.report.specs.Part.{partsFrom, together}
 use Rattle.report.proofs.BlockLaws.{value-index}
 use Rattle.report.proofs.ChunkLaws.{block-small, all-parts, few-parts, same-parts}
 
--- a value that its limits allow, and that is shown whole if it is a text, is short
-short-held : (k : Kind) (nullable : Bool) (word : ℕ) (isNull : Bool) (shown : List ℕ) → held k nullable word isNull ≡ true → pick isNull true (pick (textual k) (shownRight shown word) true) ≡ true → ShortText (heldDatum k word isNull shown)
-unfolding held heldDatum ShortText shownRight
-short-held k nullable word true shown h s = tt
-short-held Kinds.Boolean nullable word false shown h s = tt
-short-held (Kinds.Unsigned l u) nullable word false shown h s = tt
-short-held (Kinds.Signed l u) nullable word false shown h s = tt
-short-held (Kinds.Float r) nullable word false shown h s = tt
-short-held Kinds.Text nullable word false shown h s = omega (arith, leb-true word textMax h, eqb-true (length shown) word (left (eqb (length shown) word) (utf8.wellFormed shown) s))
+-- a value whose text, if it is one, is short
+short-held : (k : Kind) (word : ℕ) (isNull : Bool) (shown : List ℕ) → (isNull ≡ false → textual k ≡ true → length shown ≤ textMax) → ShortText (heldDatum k word isNull shown)
+unfolding heldDatum ShortText
+short-held k word true shown s = tt
+short-held Kinds.Boolean word false shown s = tt
+short-held (Kinds.Unsigned l u) word false shown s = tt
+short-held (Kinds.Signed l u) word false shown s = tt
+short-held (Kinds.Float r) word false shown s = tt
+short-held Kinds.Text word false shown s = s refl refl
 
 module _ (w defaults edits : List ℕ) (v : Values) (right-values : valuesRight w defaults edits v ≡ true) (i : ℕ) (l : i < attributeCount w) where
   short-datum : ShortText (datumAt w defaults edits v i)
-  unfolding datumAt valueRight
+  unfolding datumAt
   short-datum =
       let a = attributeRow w i in
-      let word = getD (v .words) i 0 in
-      let isNull = getD (v .nulls) i false in
-      let h = right-at w defaults edits v right-values i l in
-      let s : pick isNull true (pick (isText a) (shownRight (shownOf w defaults edits v i) word) true) ≡ true = right (held (kindOf a) (eqb (a .nullable) 1) word isNull) _ h in
-      short-held (kindOf a) (eqb (a .nullable) 1) word isNull (shownOf w defaults edits v i) (left (held (kindOf a) (eqb (a .nullable) 1) word isNull) _ h) (rw (text-row a) at s)
+      short-held (kindOf a) (getD (v .words) i 0) (getD (v .nulls) i false) (shownOf w defaults edits v i)
+      (λ n t. shown-fits w defaults edits v i (text-row a ∙ t) n (right-at w defaults edits v right-values i l) .0)
 
 -- the path of an attribute has its widths
 path-fits : (w : List ℕ) → wellFormed w ≡ true → (i : ℕ) → i < attributeCount w → PathFits (pathAt w i .endpoint) (pathAt w i .cluster) (pathAt w i .attribute)

@@ -16,7 +16,7 @@ use Rattle.schema.specs.Check.{wellFormed}
 use Rattle.schema.proofs.IndexLaws.{to-index}
 use Rattle.node.specs.Attributes.{kindOf}
 use Rattle.values.specs.declared.Values.{Values}
-use Rattle.values.specs.Values.{textAt, valueAt, heldDatum, datumAt, versionAt}
+use Rattle.values.specs.Values.{markAt, textAt, valueAt, heldDatum, datumAt, versionAt}
 use Rattle.values.proofs.ValueLaws.{value-shown, value-in-page}
 use Rattle.selection.proofs.AskedLaws.{cluster-of, path-of}
 use Rattle.report.specs.Blocks.{valueBlock}
@@ -37,7 +37,7 @@ module _ (w : List ℕ) (right : wellFormed w ≡ true) (i : ℕ) (l : i < attri
   module _ (v : Values) (defaults edits : List ℕ) where
     pub value-block : {k version e c a : ℕ} {shown : List ℕ} {x : Value} →
         k ≡ attributeRow w i .clusterIndex → version ≡ getD (v .versions) k 0 → e ≡ clusterRow w k .endpoint → c ≡ clusterRow w k .cluster → a ≡ attributeRow w i .id →
-        shown ≡ textAt w defaults edits i (getD (v .words) i 0) (getD (v .edited) i false) → x ≡ valueAt w i (getD (v .words) i 0) (getD (v .nulls) i false) (length shown) →
+        shown ≡ textAt w defaults edits i (markAt w (v .texts) i) → x ≡ valueAt w i (getD (v .words) i 0) (getD (v .nulls) i false) (length shown) →
         Block.value version e c a (datumIn shown x) ≡ valueBlock w v defaults edits i
     unfolding valueBlock datumAt
     value-block {k} {version} {e} {c} {a} {shown} {x} q n r s t u y =

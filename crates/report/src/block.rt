@@ -18,6 +18,7 @@ use interaction_writer::block::put_data_block;
 use interaction_writer::block::put_status_block;
 use interaction_writer::lengths::data_block_len;
 use interaction_writer::lengths::status_block_len;
+use schema::TEXTS;
 use schema::WORDS;
 use selection::asked::Asked;
 use selection::items::Item;
@@ -68,7 +69,7 @@ fn offer_value<'a>(
     w: &'a [u64; WORDS],
     words: &'a [u64; ATTRIBUTES],
     nulls: &'a [bool; ATTRIBUTES],
-    edited: &'a [bool; ATTRIBUTES],
+    texts: &'a [u16; TEXTS],
     versions: &'a [u32; CLUSTERS],
     defaults: &'a [u8],
     edits: &'a [u8],
@@ -78,10 +79,10 @@ fn offer_value<'a>(
     room: usize,
 ) -> usize
     requires { ⌜ (wellFormed (now w) ≡ true) × ((i < attributeCount (now w)) × (at + room ≤ length (now out))) ⌝ }
-    ensures { λ r. ⌜ Offered (now (out .entry)) at room (valueBlock (now (w .entry)) (valuesOf (now (words .entry)) (now (nulls .entry)) (now (edited .entry)) (now (versions .entry))) (now (defaults .entry)) (now (edits .entry)) i) (now (out .exit)) r ⌝ }
+    ensures { λ r. ⌜ Offered (now (out .entry)) at room (valueBlock (now (w .entry)) (valuesOf (now (words .entry)) (now (nulls .entry)) (now (texts .entry)) (now (versions .entry))) (now (defaults .entry)) (now (edits .entry)) i) (now (out .exit)) r ⌝ }
 {
     let k = schema::attribute_cluster(w, i);
-    let text = text_at(w, defaults, edits, i, words[i], edited[i]);
+    let text = text_at(w, defaults, edits, i, texts);
     let v = value_at(w, i, words[i], nulls[i], text.len());
     offer_data(
         versions[k],
@@ -101,7 +102,7 @@ pub fn offer_item<'a>(
     w: &'a [u64; WORDS],
     words: &'a [u64; ATTRIBUTES],
     nulls: &'a [bool; ATTRIBUTES],
-    edited: &'a [bool; ATTRIBUTES],
+    texts: &'a [u16; TEXTS],
     versions: &'a [u32; CLUSTERS],
     defaults: &'a [u8],
     edits: &'a [u8],
@@ -112,14 +113,14 @@ pub fn offer_item<'a>(
     room: usize,
 ) -> usize
     requires { ⌜ (wellFormed (now w) ≡ true) × (((i : ℕ) → x ≡ variants.Value i → i < attributeCount (now w)) × (at + room ≤ length (now out))) ⌝ }
-    ensures { λ r. ⌜ OfferedIf (now (out .entry)) at room (blockOf (now (w .entry)) (valuesOf (now (words .entry)) (now (nulls .entry)) (now (edited .entry)) (now (versions .entry))) (now (defaults .entry)) (now (edits .entry)) p x) (now (out .exit)) r ⌝ }
+    ensures { λ r. ⌜ OfferedIf (now (out .entry)) at room (blockOf (now (w .entry)) (valuesOf (now (words .entry)) (now (nulls .entry)) (now (texts .entry)) (now (versions .entry))) (now (defaults .entry)) (now (edits .entry)) p x) (now (out .exit)) r ⌝ }
 {
     match x {
         Item::Value(i) => offer_value(
             w,
             words,
             nulls,
-            edited,
+            texts,
             versions,
             defaults,
             edits,

@@ -21,6 +21,7 @@ use bounds::CLUSTERS;
 use interaction_writer::report::put_report_close;
 use interaction_writer::report::put_report_empty;
 use interaction_writer::report::put_report_open;
+use schema::TEXTS;
 use schema::WORDS;
 use selection::asked::Asked;
 use selection::filters::skipped;
@@ -53,7 +54,7 @@ fn fill_path<'a>(
     w: &'a [u64; WORDS],
     words: &'a [u64; ATTRIBUTES],
     nulls: &'a [bool; ATTRIBUTES],
-    edited: &'a [bool; ATTRIBUTES],
+    texts: &'a [u16; TEXTS],
     versions: &'a [u32; CLUSTERS],
     defaults: &'a [u8],
     edits: &'a [u8],
@@ -68,7 +69,7 @@ fn fill_path<'a>(
     room: usize,
 ) -> Filled
     requires { ⌜ (wellFormed (now w) ≡ true) × (start + room ≤ length (now out)) ⌝ }
-    ensures { λ r. ⌜ Filling (now (out .entry)) start room from (pathBlocks (record { schema = now (w .entry); values = valuesOf (now (words .entry)) (now (nulls .entry)) (now (edited .entry)) (now (versions .entry)); defaults = now (defaults .entry); edits = now (edits .entry); grants = g; skips = skips }) path p first) (now (out .exit)) r ⌝ }
+    ensures { λ r. ⌜ Filling (now (out .entry)) start room from (pathBlocks (record { schema = now (w .entry); values = valuesOf (now (words .entry)) (now (nulls .entry)) (now (texts .entry)) (now (versions .entry)); defaults = now (defaults .entry); edits = now (edits .entry); grants = g; skips = skips }) path p first) (now (out .exit)) r ⌝ }
 {
     let span = span_of(w, p);
     let mut place = from;
@@ -84,7 +85,7 @@ fn fill_path<'a>(
                 w,
                 words,
                 nulls,
-                edited,
+                texts,
                 versions,
                 defaults,
                 edits,
@@ -124,7 +125,7 @@ fn fill<'a>(
     w: &'a [u64; WORDS],
     words: &'a [u64; ATTRIBUTES],
     nulls: &'a [bool; ATTRIBUTES],
-    edited: &'a [bool; ATTRIBUTES],
+    texts: &'a [u16; TEXTS],
     versions: &'a [u32; CLUSTERS],
     defaults: &'a [u8],
     edits: &'a [u8],
@@ -137,7 +138,7 @@ fn fill<'a>(
     start: usize,
 ) -> Filled
     requires { ⌜ (wellFormed (now w) ≡ true) × ((asked ≤ maxPaths) × (start + blockRoom ≤ length (now out))) ⌝ }
-    ensures { λ r. ⌜ Filling (now (out .entry)) start blockRoom from (blocksFrom (record { schema = now (w .entry); values = valuesOf (now (words .entry)) (now (nulls .entry)) (now (edited .entry)) (now (versions .entry)); defaults = now (defaults .entry); edits = now (edits .entry); grants = g; skips = skips }) (askedPaths (now (row .entry)) asked) from) (now (out .exit)) r ⌝ }
+    ensures { λ r. ⌜ Filling (now (out .entry)) start blockRoom from (blocksFrom (record { schema = now (w .entry); values = valuesOf (now (words .entry)) (now (nulls .entry)) (now (texts .entry)) (now (versions .entry)); defaults = now (defaults .entry); edits = now (edits .entry); grants = g; skips = skips }) (askedPaths (now (row .entry)) asked) from) (now (out .exit)) r ⌝ }
 {
     let mut place = from;
     let mut path = from.path;
@@ -150,7 +151,7 @@ fn fill<'a>(
             w,
             words,
             nulls,
-            edited,
+            texts,
             versions,
             defaults,
             edits,
@@ -185,7 +186,7 @@ pub fn make_part<'a>(
     w: &'a [u64; WORDS],
     words: &'a [u64; ATTRIBUTES],
     nulls: &'a [bool; ATTRIBUTES],
-    edited: &'a [bool; ATTRIBUTES],
+    texts: &'a [u16; TEXTS],
     versions: &'a [u32; CLUSTERS],
     defaults: &'a [u8],
     edits: &'a [u8],
@@ -197,7 +198,7 @@ pub fn make_part<'a>(
     start: usize,
 ) -> Filled
     requires { ⌜ (wellFormed (now w) ≡ true) × ((asked ≤ maxPaths) × (start + maxPayload ≤ length (now out))) ⌝ }
-    ensures { λ r. ⌜ Made (now (out .entry)) start from (blocksFrom (viewOf (now (w .entry)) (valuesOf (now (words .entry)) (now (nulls .entry)) (now (edited .entry)) (now (versions .entry))) (now (defaults .entry)) (now (edits .entry)) g (filtersIn (now (row .entry)))) (askedPaths (now (row .entry)) asked) from) (now (out .exit)) r ⌝ }
+    ensures { λ r. ⌜ Made (now (out .entry)) start from (blocksFrom (viewOf (now (w .entry)) (valuesOf (now (words .entry)) (now (nulls .entry)) (now (texts .entry)) (now (versions .entry))) (now (defaults .entry)) (now (edits .entry)) g (filtersIn (now (row .entry)))) (askedPaths (now (row .entry)) asked) from) (now (out .exit)) r ⌝ }
 {
     let skips = skipped(w, row, versions);
     let p = put_report_open(out, start);
@@ -205,7 +206,7 @@ pub fn make_part<'a>(
         w,
         words,
         nulls,
-        edited,
+        texts,
         versions,
         defaults,
         edits,

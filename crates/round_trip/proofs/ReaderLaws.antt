@@ -6,7 +6,6 @@ use Prim.Native.Nat.{ℕ, _^_, _<_, _≤_}
 use native.Mathlib.Omega.{arith}
 use borrow.Author.Tests.{le-ltb}
 use lib.ListN.{length, length-map}
-use Rattle.bounds.specs.Bounds.{maxFilters}
 use Rattle.tlv.specs.Octet.{pick}
 use Rattle.tlv.specs.Tree.{Tree}
 use Rattle.tlv.specs.Tree.Tag.{context}

@@ -3,6 +3,7 @@ use bounds::ATTRIBUTES;
 use bounds::CLUSTERS;
 use envelope::MAX_MESSAGE;
 use kinds::stored::same_bytes;
+use schema::TEXTS;
 use schema::WORDS;
 use schema::subject_served;
 use schema::texts::edits_size;
@@ -30,7 +31,7 @@ use tlv::Value;
 pub struct Sign {
     pub words: [u64; ATTRIBUTES],
     pub nulls: [bool; ATTRIBUTES],
-    pub edited: [bool; ATTRIBUTES],
+    pub texts: [u16; TEXTS],
     pub versions: [u32; CLUSTERS],
     pub row: [u64; ROW_WORDS],
     pub kept: [u8; MAX_MESSAGE],
@@ -53,7 +54,7 @@ pub fn no_sign() -> Sign {
     Sign {
         words: [0u64; ATTRIBUTES],
         nulls: [false; ATTRIBUTES],
-        edited: [false; ATTRIBUTES],
+        texts: [0u16; TEXTS],
         versions: [0u32; CLUSTERS],
         row: [0u64; ROW_WORDS],
         kept: [0u8; MAX_MESSAGE],
@@ -64,7 +65,7 @@ pub fn no_sign() -> Sign {
 pub fn start<'a>(w: &'a [u64; WORDS], defaults: &'a [u8; PAGE], sign: Sign) -> Answered {
     let mut words = sign.words;
     let mut nulls = sign.nulls;
-    let mut edited = sign.edited;
+    let mut texts = sign.texts;
     let mut versions = sign.versions;
     let mut row = sign.row;
     let mut kept = sign.kept;
@@ -73,7 +74,7 @@ pub fn start<'a>(w: &'a [u64; WORDS], defaults: &'a [u8; PAGE], sign: Sign) -> A
         defaults,
         &mut words,
         &mut nulls,
-        &mut edited,
+        &mut texts,
         &mut versions,
         &mut row,
         &mut kept,
@@ -82,7 +83,7 @@ pub fn start<'a>(w: &'a [u64; WORDS], defaults: &'a [u8; PAGE], sign: Sign) -> A
         sign: Sign {
             words,
             nulls,
-            edited,
+            texts,
             versions,
             row,
             kept,
@@ -143,7 +144,7 @@ fn hand<'a>(
     let entries = table.entries;
     let mut words = sign.words;
     let mut nulls = sign.nulls;
-    let mut edited = sign.edited;
+    let mut texts = sign.texts;
     let mut versions = sign.versions;
     let mut row = sign.row;
     let mut kept = sign.kept;
@@ -153,7 +154,7 @@ fn hand<'a>(
         edits,
         &mut words,
         &mut nulls,
-        &mut edited,
+        &mut texts,
         &mut versions,
         &mut row,
         &mut kept,
@@ -167,7 +168,7 @@ fn hand<'a>(
         sign: Sign {
             words,
             nulls,
-            edited,
+            texts,
             versions,
             row,
             kept,
@@ -216,7 +217,7 @@ fn alter<'a>(
 ) -> Answered {
     let mut words = sign.words;
     let mut nulls = sign.nulls;
-    let mut edited = sign.edited;
+    let mut texts = sign.texts;
     let mut versions = sign.versions;
     let row = sign.row;
     let kept = sign.kept;
@@ -226,7 +227,7 @@ fn alter<'a>(
         edits,
         &mut words,
         &mut nulls,
-        &mut edited,
+        &mut texts,
         &mut versions,
         &row,
         a.endpoint,
@@ -239,7 +240,7 @@ fn alter<'a>(
         sign: Sign {
             words,
             nulls,
-            edited,
+            texts,
             versions,
             row,
             kept,

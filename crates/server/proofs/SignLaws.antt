@@ -37,10 +37,10 @@ module _ (w defaults edits : List ℕ) (s : State) where
       record { schema = left t₀ (t₁ && (t₂ && t₃)) h; numbers = left t₁ (t₂ && t₃) h₁; values = left t₂ t₃ h₂; row = right t₂ t₃ h₂ }
 
   -- as the code tests it: ranks, first values and values together
-  pub as-tested : signRight w defaults edits s ≡ (Schema.columnsRight w && ((Schema.ranksRight w && (numbersRight w && heldRight w defaults edits (s .values .words) (s .values .nulls) (s .values .edited))) && rowRight (s .row)))
+  pub as-tested : signRight w defaults edits s ≡ (Schema.columnsRight w && ((Schema.ranksRight w && (numbersRight w && heldRight w defaults edits (s .values .words) (s .values .nulls) (s .values .texts))) && rowRight (s .row)))
   unfolding signRight Schema.wellFormed valuesRight
   as-tested =
-      grouped (Schema.columnsRight w) (Schema.ranksRight w) (numbersRight w) (heldRight w defaults edits (s .values .words) (s .values .nulls) (s .values .edited)) (rowRight (s .row))
+      grouped (Schema.columnsRight w) (Schema.ranksRight w) (numbersRight w) (heldRight w defaults edits (s .values .words) (s .values .nulls) (s .values .texts)) (rowRight (s .row))
 
   pub right-sign : RightSign w defaults edits s → signRight w defaults edits s ≡ true
   unfolding signRight

@@ -9,6 +9,7 @@ use Rattle.bounds.specs.Bounds.{clusterLimit, attributeLimit}
 use Rattle.tlv.specs.declared.Value.{Value}
 use Rattle.tlv.specs.Octet.{pick}
 use Rattle.node.specs.Check.{accepted}
+use Rattle.schema.specs.Layout.{textLimit}
 use Rattle.values.specs.declared.Values.{Values}
 use Rattle.values.specs.Fresh.{freshValues}
 use Rattle.selection.specs.Request.{rowLength}
@@ -36,7 +37,7 @@ noValues =
     record {
       words = replicate attributeLimit 0;
       nulls = replicate attributeLimit false;
-      edited = replicate attributeLimit false;
+      texts = replicate textLimit 0;
       versions = replicate clusterLimit 0;
     }
 

@@ -9,6 +9,7 @@ use bounds::ATTRIBUTES;
 use replies::Row;
 use replies::Standing;
 use replies::words::row_ok;
+use schema::TEXTS;
 use schema::WORDS;
 use schema::check::columns_right;
 use values::Values;
@@ -49,15 +50,15 @@ pub fn sign_ok<'a>(
     edits: &'a [u8],
     words: &'a [u64; ATTRIBUTES],
     nulls: &'a [bool; ATTRIBUTES],
-    edited: &'a [bool; ATTRIBUTES],
+    texts: &'a [u16; TEXTS],
     t: Standing,
 ) -> bool
-    ensures { λ r. ⌜ ((versions row kept : List ℕ) → r ≡ signRight (now (w .entry)) (now (defaults .entry)) (now (edits .entry)) (record { values = valuesOf (now (words .entry)) (now (nulls .entry)) (now (edited .entry)) versions; row = rowIn row t kept })) ⌝ }
+    ensures { λ r. ⌜ ((versions row kept : List ℕ) → r ≡ signRight (now (w .entry)) (now (defaults .entry)) (now (edits .entry)) (record { values = valuesOf (now (words .entry)) (now (nulls .entry)) (now (texts .entry)) versions; row = rowIn row t kept })) ⌝ }
 {
     if !columns_right(w) {
         return false;
     }
-    if !values_ok(w, defaults, edits, words, nulls, edited) {
+    if !values_ok(w, defaults, edits, words, nulls, texts) {
         return false;
     }
     row_ok(t)

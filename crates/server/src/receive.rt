@@ -52,6 +52,7 @@ use replies::kept::next_part;
 use replies::kept::resend;
 use replies::words::put_standing;
 use replies::words::read_standing;
+use schema::TEXTS;
 use schema::WORDS;
 use schema::subject_served;
 use selection::request::ROW_WORDS;
@@ -114,7 +115,7 @@ fn begin<'a>(
     edits: &mut [u8],
     words: &mut [u64; ATTRIBUTES],
     nulls: &mut [bool; ATTRIBUTES],
-    edited: &mut [bool; ATTRIBUTES],
+    texts: &mut [u16; TEXTS],
     versions: &mut [u32; CLUSTERS],
     row: &mut [u64; ROW_WORDS],
     kept: &mut [u8; MAX_MESSAGE],
@@ -125,8 +126,8 @@ fn begin<'a>(
     payload: &'a [u8],
     out: &mut [u8],
 ) -> Outcome
-    requires { ⌜ (t ≡ standingIn (now row)) × ((signRight (now w) (now defaults) (now edits) (stateIn (valuesOf (now words) (now nulls) (now edited) (now versions)) (now row) (now kept)) ≡ true) × ((e .exchange < exchangeLimit) × (maxMessage ≤ length (now out)))) ⌝ }
-    ensures { λ r. ⌜ Reacted (begun (now (w .entry)) (now (defaults .entry)) g (stateIn (valuesOf (now (words .entry)) (now (nulls .entry)) (now (edited .entry)) (now (versions .entry))) (now (row .entry)) (now (kept .entry))) (now (edits .entry)) e (now (payload .entry)) action) r (heldOf (now (words .exit)) (now (nulls .exit)) (now (edited .exit)) (now (versions .exit)) (now (edits .exit))) (now (row .entry)) (now (row .exit)) (now (kept .exit)) (now (out .entry)) (now (out .exit)) ⌝ }
+    requires { ⌜ (t ≡ standingIn (now row)) × ((signRight (now w) (now defaults) (now edits) (stateIn (valuesOf (now words) (now nulls) (now texts) (now versions)) (now row) (now kept)) ≡ true) × ((e .exchange < exchangeLimit) × (maxMessage ≤ length (now out)))) ⌝ }
+    ensures { λ r. ⌜ Reacted (begun (now (w .entry)) (now (defaults .entry)) g (stateIn (valuesOf (now (words .entry)) (now (nulls .entry)) (now (texts .entry)) (now (versions .entry))) (now (row .entry)) (now (kept .entry))) (now (edits .entry)) e (now (payload .entry)) action) r (heldOf (now (words .exit)) (now (nulls .exit)) (now (texts .exit)) (now (versions .exit)) (now (edits .exit))) (now (row .entry)) (now (row .exit)) (now (kept .exit)) (now (out .entry)) (now (out .exit)) ⌝ }
 {
     match action {
         Action::Read => {
@@ -134,7 +135,7 @@ fn begin<'a>(
                 w,
                 words,
                 nulls,
-                edited,
+                texts,
                 versions,
                 defaults,
                 edits,
@@ -157,7 +158,7 @@ fn begin<'a>(
                 edits,
                 words,
                 nulls,
-                edited,
+                texts,
                 versions,
                 kept,
                 t,
@@ -180,7 +181,7 @@ fn react<'a>(
     edits: &mut [u8],
     words: &mut [u64; ATTRIBUTES],
     nulls: &mut [bool; ATTRIBUTES],
-    edited: &mut [bool; ATTRIBUTES],
+    texts: &mut [u16; TEXTS],
     versions: &mut [u32; CLUSTERS],
     row: &mut [u64; ROW_WORDS],
     kept: &mut [u8; MAX_MESSAGE],
@@ -192,8 +193,8 @@ fn react<'a>(
     step: Step,
     out: &mut [u8],
 ) -> Outcome
-    requires { ⌜ (t ≡ standingIn (now row)) × ((signRight (now w) (now defaults) (now edits) (stateIn (valuesOf (now words) (now nulls) (now edited) (now versions)) (now row) (now kept)) ≡ true) × ((e .exchange < exchangeLimit) × ((step ≡ steps.Next → t .progress .turn < maxTurn) × (maxMessage ≤ length (now out))))) ⌝ }
-    ensures { λ r. ⌜ Reacted (reacted (now (w .entry)) (now (defaults .entry)) g (stateIn (valuesOf (now (words .entry)) (now (nulls .entry)) (now (edited .entry)) (now (versions .entry))) (now (row .entry)) (now (kept .entry))) (now (edits .entry)) e (now (payload .entry)) action step) r (heldOf (now (words .exit)) (now (nulls .exit)) (now (edited .exit)) (now (versions .exit)) (now (edits .exit))) (now (row .entry)) (now (row .exit)) (now (kept .exit)) (now (out .entry)) (now (out .exit)) ⌝ }
+    requires { ⌜ (t ≡ standingIn (now row)) × ((signRight (now w) (now defaults) (now edits) (stateIn (valuesOf (now words) (now nulls) (now texts) (now versions)) (now row) (now kept)) ≡ true) × ((e .exchange < exchangeLimit) × ((step ≡ steps.Next → t .progress .turn < maxTurn) × (maxMessage ≤ length (now out))))) ⌝ }
+    ensures { λ r. ⌜ Reacted (reacted (now (w .entry)) (now (defaults .entry)) g (stateIn (valuesOf (now (words .entry)) (now (nulls .entry)) (now (texts .entry)) (now (versions .entry))) (now (row .entry)) (now (kept .entry))) (now (edits .entry)) e (now (payload .entry)) action step) r (heldOf (now (words .exit)) (now (nulls .exit)) (now (texts .exit)) (now (versions .exit)) (now (edits .exit))) (now (row .entry)) (now (row .exit)) (now (kept .exit)) (now (out .entry)) (now (out .exit)) ⌝ }
 {
     match step {
         Step::Silence => answer(0),
@@ -203,7 +204,7 @@ fn react<'a>(
             edits,
             words,
             nulls,
-            edited,
+            texts,
             versions,
             row,
             kept,
@@ -223,7 +224,7 @@ fn react<'a>(
                 w,
                 words,
                 nulls,
-                edited,
+                texts,
                 versions,
                 defaults,
                 edits,
@@ -260,7 +261,7 @@ pub fn serve<'a>(
     edits: &mut [u8],
     words: &mut [u64; ATTRIBUTES],
     nulls: &mut [bool; ATTRIBUTES],
-    edited: &mut [bool; ATTRIBUTES],
+    texts: &mut [u16; TEXTS],
     versions: &mut [u32; CLUSTERS],
     row: &mut [u64; ROW_WORDS],
     kept: &mut [u8; MAX_MESSAGE],
@@ -270,10 +271,10 @@ pub fn serve<'a>(
     message: &'a [u8],
     out: &mut [u8],
 ) -> Outcome
-    ensures { λ r. ⌜ Reacted (received (now (w .entry)) (now (defaults .entry)) (now (edits .entry)) (stateIn (valuesOf (now (words .entry)) (now (nulls .entry)) (now (edited .entry)) (now (versions .entry))) (now (row .entry)) (now (kept .entry))) table g subject (now (message .entry)) (length (now (out .entry)))) r (heldOf (now (words .exit)) (now (nulls .exit)) (now (edited .exit)) (now (versions .exit)) (now (edits .exit))) (now (row .entry)) (now (row .exit)) (now (kept .exit)) (now (out .entry)) (now (out .exit)) ⌝ }
+    ensures { λ r. ⌜ Reacted (received (now (w .entry)) (now (defaults .entry)) (now (edits .entry)) (stateIn (valuesOf (now (words .entry)) (now (nulls .entry)) (now (texts .entry)) (now (versions .entry))) (now (row .entry)) (now (kept .entry))) table g subject (now (message .entry)) (length (now (out .entry)))) r (heldOf (now (words .exit)) (now (nulls .exit)) (now (texts .exit)) (now (versions .exit)) (now (edits .exit))) (now (row .entry)) (now (row .exit)) (now (kept .exit)) (now (out .entry)) (now (out .exit)) ⌝ }
 {
     let t = read_standing(row);
-    if !sign_ok(w, defaults, edits, words, nulls, edited, t) {
+    if !sign_ok(w, defaults, edits, words, nulls, texts, t) {
         return refuse(BROKEN);
     }
     if !table {
@@ -303,7 +304,7 @@ pub fn serve<'a>(
         edits,
         words,
         nulls,
-        edited,
+        texts,
         versions,
         row,
         kept,
@@ -324,7 +325,7 @@ pub fn receive<'a>(
     edits: &mut [u8],
     words: &mut [u64; ATTRIBUTES],
     nulls: &mut [bool; ATTRIBUTES],
-    edited: &mut [bool; ATTRIBUTES],
+    texts: &mut [u16; TEXTS],
     versions: &mut [u32; CLUSTERS],
     row: &mut [u64; ROW_WORDS],
     kept: &mut [u8; MAX_MESSAGE],
@@ -333,7 +334,7 @@ pub fn receive<'a>(
     message: &'a [u8],
     out: &mut [u8],
 ) -> Outcome
-    ensures { λ r. ⌜ Reacted (received (now (w .entry)) (now (defaults .entry)) (now (edits .entry)) (stateIn (valuesOf (now (words .entry)) (now (nulls .entry)) (now (edited .entry)) (now (versions .entry))) (now (row .entry)) (now (kept .entry))) (tableOk (now (table .entry))) (grantsOf (now (table .entry)) subject (now (w .entry))) subject (now (message .entry)) (length (now (out .entry)))) r (heldOf (now (words .exit)) (now (nulls .exit)) (now (edited .exit)) (now (versions .exit)) (now (edits .exit))) (now (row .entry)) (now (row .exit)) (now (kept .exit)) (now (out .entry)) (now (out .exit)) ⌝ }
+    ensures { λ r. ⌜ Reacted (received (now (w .entry)) (now (defaults .entry)) (now (edits .entry)) (stateIn (valuesOf (now (words .entry)) (now (nulls .entry)) (now (texts .entry)) (now (versions .entry))) (now (row .entry)) (now (kept .entry))) (tableOk (now (table .entry))) (grantsOf (now (table .entry)) subject (now (w .entry))) subject (now (message .entry)) (length (now (out .entry)))) r (heldOf (now (words .exit)) (now (nulls .exit)) (now (texts .exit)) (now (versions .exit)) (now (edits .exit))) (now (row .entry)) (now (row .exit)) (now (kept .exit)) (now (out .entry)) (now (out .exit)) ⌝ }
 {
     let access = search(table, table.len(), subject, w);
     serve(
@@ -342,7 +343,7 @@ pub fn receive<'a>(
         edits,
         words,
         nulls,
-        edited,
+        texts,
         versions,
         row,
         kept,
@@ -361,7 +362,7 @@ pub fn receive_in<'a>(
     edits: &mut [u8],
     words: &mut [u64; ATTRIBUTES],
     nulls: &mut [bool; ATTRIBUTES],
-    edited: &mut [bool; ATTRIBUTES],
+    texts: &mut [u16; TEXTS],
     versions: &mut [u32; CLUSTERS],
     row: &mut [u64; ROW_WORDS],
     kept: &mut [u8; MAX_MESSAGE],
@@ -371,7 +372,7 @@ pub fn receive_in<'a>(
     message: &'a [u8],
     out: &mut [u8],
 ) -> Outcome
-    ensures { λ r. ⌜ Reacted (received (now (w .entry)) (now (defaults .entry)) (now (edits .entry)) (stateIn (valuesOf (now (words .entry)) (now (nulls .entry)) (now (edited .entry)) (now (versions .entry))) (now (row .entry)) (now (kept .entry))) (tableRight count entries) (grantsOf (take count entries) subject (now (w .entry))) subject (now (message .entry)) (length (now (out .entry)))) r (heldOf (now (words .exit)) (now (nulls .exit)) (now (edited .exit)) (now (versions .exit)) (now (edits .exit))) (now (row .entry)) (now (row .exit)) (now (kept .exit)) (now (out .entry)) (now (out .exit)) ⌝ }
+    ensures { λ r. ⌜ Reacted (received (now (w .entry)) (now (defaults .entry)) (now (edits .entry)) (stateIn (valuesOf (now (words .entry)) (now (nulls .entry)) (now (texts .entry)) (now (versions .entry))) (now (row .entry)) (now (kept .entry))) (tableRight count entries) (grantsOf (take count entries) subject (now (w .entry))) subject (now (message .entry)) (length (now (out .entry)))) r (heldOf (now (words .exit)) (now (nulls .exit)) (now (texts .exit)) (now (versions .exit)) (now (edits .exit))) (now (row .entry)) (now (row .exit)) (now (kept .exit)) (now (out .entry)) (now (out .exit)) ⌝ }
 {
     let access = search_in(entries, count, subject, w);
     let grants = access.grants;
@@ -381,7 +382,7 @@ pub fn receive_in<'a>(
         edits,
         words,
         nulls,
-        edited,
+        texts,
         versions,
         row,
         kept,

@@ -15,6 +15,7 @@ use bounds::ATTRIBUTES;
 use bounds::CLUSTERS;
 use replies::MAX_MESSAGE;
 use replies::words::read_standing;
+use schema::TEXTS;
 use schema::WORDS;
 use selection::request::ROW_WORDS;
 use tlv::Value;
@@ -33,17 +34,17 @@ pub fn start<'a>(
     defaults: &'a [u8],
     words: &mut [u64; ATTRIBUTES],
     nulls: &mut [bool; ATTRIBUTES],
-    edited: &mut [bool; ATTRIBUTES],
+    texts: &mut [u16; TEXTS],
     versions: &mut [u32; CLUSTERS],
     row: &mut [u64; ROW_WORDS],
     kept: &mut [u8; MAX_MESSAGE],
 ) -> u8
-    ensures { λ r. ⌜ Starts (started (now (w .entry)) (now (defaults .entry))) r (valuesOf (now (words .entry)) (now (nulls .entry)) (now (edited .entry)) (now (versions .entry))) (valuesOf (now (words .exit)) (now (nulls .exit)) (now (edited .exit)) (now (versions .exit))) (now (row .entry)) (now (row .exit)) (now (kept .entry)) (now (kept .exit)) ⌝ }
+    ensures { λ r. ⌜ Starts (started (now (w .entry)) (now (defaults .entry))) r (valuesOf (now (words .entry)) (now (nulls .entry)) (now (texts .entry)) (now (versions .entry))) (valuesOf (now (words .exit)) (now (nulls .exit)) (now (texts .exit)) (now (versions .exit))) (now (row .entry)) (now (row .exit)) (now (kept .entry)) (now (kept .exit)) ⌝ }
 {
     if node::check(w, defaults) != 0 {
         return SCHEMA_REFUSED;
     }
-    fresh(w, words, nulls, edited, versions);
+    fresh(w, words, nulls, texts, versions);
     *row = [0u64; ROW_WORDS];
     *kept = [0u8; MAX_MESSAGE];
     DONE
@@ -56,7 +57,7 @@ pub fn change<'a>(
     edits: &mut [u8],
     words: &mut [u64; ATTRIBUTES],
     nulls: &mut [bool; ATTRIBUTES],
-    edited: &mut [bool; ATTRIBUTES],
+    texts: &mut [u16; TEXTS],
     versions: &mut [u32; CLUSTERS],
     row: &'a [u64; ROW_WORDS],
     endpoint: u16,
@@ -65,10 +66,10 @@ pub fn change<'a>(
     new: Value,
     src: &'a [u8],
 ) -> u8
-    ensures { λ r. ⌜ ((kept : List ℕ) → Alters (alteredBy (now (w .entry)) (now (defaults .entry)) (now (edits .entry)) (stateIn (valuesOf (now (words .entry)) (now (nulls .entry)) (now (edited .entry)) (now (versions .entry))) (now (row .entry)) kept) endpoint cluster attribute (now (src .entry)) new) r (heldOf (now (words .exit)) (now (nulls .exit)) (now (edited .exit)) (now (versions .exit)) (now (edits .exit)))) ⌝ }
+    ensures { λ r. ⌜ ((kept : List ℕ) → Alters (alteredBy (now (w .entry)) (now (defaults .entry)) (now (edits .entry)) (stateIn (valuesOf (now (words .entry)) (now (nulls .entry)) (now (texts .entry)) (now (versions .entry))) (now (row .entry)) kept) endpoint cluster attribute (now (src .entry)) new) r (heldOf (now (words .exit)) (now (nulls .exit)) (now (texts .exit)) (now (versions .exit)) (now (edits .exit)))) ⌝ }
 {
     let t = read_standing(row);
-    if !sign_ok(w, defaults, edits, words, nulls, edited, t) {
+    if !sign_ok(w, defaults, edits, words, nulls, texts, t) {
         return BROKEN;
     }
     writes::change(
@@ -77,7 +78,7 @@ pub fn change<'a>(
         edits,
         words,
         nulls,
-        edited,
+        texts,
         versions,
         endpoint,
         cluster,

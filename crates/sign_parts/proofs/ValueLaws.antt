@@ -1,10 +1,10 @@
 -- What a sign holds can be written in a report, and a panel can take it.
-use mathlib.Core.Path.{_≡_}
+use mathlib.Core.Path.{_≡_, refl, _∙_}
 use mathlib.Core.Bool.{Bool, true, false}
 use mathlib.Core.List.{List}
-use Prim.Native.Nat.{ℕ, zero, suc, _%_, _^_, _<_}
+use Prim.Native.Nat.{ℕ, zero, suc, _%_, _^_, _≤_, _<_}
 use native.Mathlib.Omega.{arith}
-use borrow.Author.Tests.{leb-true, ltb-true, ltb-false, eqb-true}
+use borrow.Author.Tests.{leb-true, ltb-true, ltb-false}
 use lib.Dec.{eqb, leb, ltb}
 use lib.ListN.{length, getD}
 use lib.Signed.{mag}
@@ -12,7 +12,6 @@ use mir.Syntax.{w64}
 use mir.Val.{toZ}
 use Rattle.bounds.specs.Bounds.{textMax}
 use Rattle.utf8.specs.WellFormed as utf8
-use Rattle.tlv.specs.Octet.{pick}
 use Rattle.tlv_writer.specs.Meaning.{Writable}
 use Rattle.interaction_writer.specs.Spelling.{primitiveD}
 use Rattle.kinds.specs.declared.Kind.{Kind}
@@ -20,14 +19,14 @@ use Rattle.kinds.specs.declared.Kind.the-variants as Kinds
 use Rattle.kinds.specs.Float.{rangeOf}
 use Rattle.kinds.specs.Stored.{held}
 use Rattle.schema.specs.Layout.{half}
-use Rattle.schema.specs.Rows.{AttributeRow, attributeRow, attributeCount, isText}
-use Rattle.schema.proofs.BoolLaws.{left, right, by-test}
+use Rattle.schema.specs.Rows.{AttributeRow, attributeRow, attributeCount}
+use Rattle.schema.proofs.BoolLaws.{right, by-test}
 use Rattle.node.specs.Attributes.{byCode, kindOf}
 use Rattle.values.specs.declared.Values.{Values}
 use Rattle.values.specs.Values.{heldDatum, datumAt, shownOf}
-use Rattle.values.specs.Valid.{shownRight, valueRight, valuesRight}
+use Rattle.values.specs.Valid.{valuesRight}
 use Rattle.values.proofs.ValueLaws.{textual, text-row}
-use Rattle.values.proofs.ValidLaws.{right-at}
+use Rattle.values.proofs.ValidLaws.{right-at, limits-at, shown-fits}
 use Rattle.cache_trip.specs.Taken.{Takable}
 
 -- a highest value of 64 bits, where a kind's values are unsigned
@@ -55,29 +54,27 @@ signed-fits : (n : ℕ) → mag (toZ w64 n) < 2 ^ 63
 signed-fits n = by-test (ltb n (2 ^ 63)) (λ t. rw t (omega (arith, ltb-true n (2 ^ 63) t))) (λ t. rw t (omega (arith, ltb-false n (2 ^ 63) t)))
 
 module _ (nullable : Bool) (word : ℕ) (shown : List ℕ) where
-  -- a text is shown whole
+  -- a text is short and valid
   abbrev ShownIf : Kind → Bool → Type 0
-  ShownIf k isNull = pick isNull true (pick (textual k) (shownRight shown word) true) ≡ true
+  ShownIf k isNull = isNull ≡ false → textual k ≡ true → (length shown ≤ textMax) × (utf8.wellFormed shown ≡ true)
 
   kind-takable : (k : Kind) (isNull : Bool) → held k nullable word isNull ≡ true → ShownIf k isNull → Takable (heldDatum k word isNull shown)
-  unfolding held heldDatum Takable shownRight
+  unfolding heldDatum Takable
   kind-takable k true h s = tt
   kind-takable Kinds.Boolean false h s = tt
   kind-takable (Kinds.Unsigned l u) false h s = tt
   kind-takable (Kinds.Signed l u) false h s = tt
   kind-takable (Kinds.Float r) false h s = tt
-  kind-takable Kinds.Text false h s =
-      (right (eqb (length shown) word) _ s, omega (arith, leb-true word textMax h, eqb-true (length shown) word (left _ (utf8.wellFormed shown) s)))
+  kind-takable Kinds.Text false h s = (s refl refl .1, omega (arith, s refl refl .0))
 
   kind-writable : (k : Kind) → HighFits k → (isNull : Bool) → held k nullable word isNull ≡ true → ShownIf k isNull → Writable (primitiveD (heldDatum k word isNull shown))
-  unfolding held heldDatum Writable primitiveD shownRight
+  unfolding held heldDatum Writable primitiveD
   kind-writable k f true h s = tt
   kind-writable Kinds.Boolean f false h s = tt
   kind-writable (Kinds.Unsigned l u) f false h s = omega (arith, f, leb-true word u (right (leb l word) _ h))
   kind-writable (Kinds.Signed l u) f false h s = signed-fits word
   kind-writable (Kinds.Float r) f false h s = omega arith
-  kind-writable Kinds.Text f false h s =
-      omega (arith, leb-true word textMax h, eqb-true (length shown) word (left _ (utf8.wellFormed shown) s))
+  kind-writable Kinds.Text f false h s = omega (arith, s refl refl .0)
 
 -- the value of attribute i
 module _ (w defaults edits : List ℕ) (v : Values) (sound : valuesRight w defaults edits v ≡ true) (i : ℕ) (row : i < attributeCount w) where
@@ -97,14 +94,10 @@ module _ (w defaults edits : List ℕ) (v : Values) (sound : valuesRight w defau
   shown = shownOf w defaults edits v i
 
   within : held kind nullable word isNull ≡ true
-  unfolding valueRight
-  within = left (held kind nullable word isNull) _ (right-at w defaults edits v sound i row)
+  within = limits-at w defaults edits v i (right-at w defaults edits v sound i row)
 
-  shown-right : pick isNull true (pick (textual kind) (shownRight shown word) true) ≡ true
-  unfolding valueRight
-  shown-right =
-      let s : pick isNull true (pick (isText (attributeRow w i)) (shownRight shown word) true) ≡ true = right (held kind nullable word isNull) _ (right-at w defaults edits v sound i row) in
-      rw (text-row (attributeRow w i)) at s
+  shown-right : isNull ≡ false → textual kind ≡ true → (length shown ≤ textMax) × (utf8.wellFormed shown ≡ true)
+  shown-right n t = shown-fits w defaults edits v i (text-row (attributeRow w i) ∙ t) n (right-at w defaults edits v sound i row)
 
   pub value-takable : Takable (datumAt w defaults edits v i)
   unfolding datumAt

@@ -15,7 +15,7 @@ use Rattle.kinds.specs.declared.Kind.{Kind}
 use Rattle.kinds.specs.declared.Kind.the-variants as Kinds
 use Rattle.kinds.specs.declared.Verdict.the-variants.{Success}
 use Rattle.kinds.specs.Limits.{isNull, inside, against, againstIn, judgedIn}
-use Rattle.kinds.specs.Stored.{wordOf, held}
+use Rattle.kinds.specs.Stored.{held}
 use Rattle.kinds.proofs.LimitLaws.{Fit, fit, also-wrong}
 use Rattle.kinds.proofs.LimitLaws.Fit.{boolean, unsigned, signed, float, text, apart}
 use Rattle.kinds.proofs.StoredLaws.{Sized, accepted-held}
@@ -23,7 +23,7 @@ use Rattle.schema.specs.Layout.{textSize}
 use Rattle.node.proofs.TextLaws.{Judged, judged-text}
 use Rattle.values.specs.Values.{heldDatum}
 use Rattle.values.specs.Change.{textOf, isText, wordFor}
-use Rattle.values.proofs.ChangeLaws.{null-in}
+use Rattle.values.proofs.ChangeLaws.{plain-word, null-in}
 use Rattle.values.proofs.ValueLaws.{part-length, textual}
 
 pub record Accepted (k : Kind) (nullable : Bool) (d : Datum) : Type 0 where
@@ -47,16 +47,19 @@ module _ (s : List ℕ) (nullable : Bool) where
   judged : (k : Kind) (a n : ℕ) → judgedIn s k nullable (Parsed.Text a n) ≡ Success → Judged s a n
   judged k a n h = judged-text s nullable a n (rw (text-kind k a n h) at h)
 
-  -- a value's word is that of what it means
-  judged-word : (k : Kind) (v : Value) → judgedIn s k nullable v ≡ Success → wordOf v ≡ wordFor (datumIn s v)
-  unfolding wordOf wordFor
-  judged-word k Parsed.Null h = refl
-  judged-word k (Parsed.Boolean b) h = refl
-  judged-word k (Parsed.Unsigned n) h = refl
-  judged-word k (Parsed.Signed z) h = refl
-  judged-word k (Parsed.Float n) h = refl
-  judged-word k (Parsed.Text a n) h = sym (part-length s a n (judged k a n h .inside))
-  judged-word k Parsed.Other h = refl
+  -- what it is stored as is within the limits: a number's word is that of what it means, a text's is 0
+  plain-held : (k : Kind) (v : Value) → isText (datumIn s v) ≡ false → Sized v → judgedIn s k nullable v ≡ Success → held k nullable (wordFor (datumIn s v)) (isNull (datumIn s v)) ≡ true
+  plain-held k v t f h = sym (ap₂ (held k nullable) (plain-word s v t) (null-in s v)) ∙ accepted-held s nullable k v f h
+
+  judged-held : (k : Kind) (v : Value) → Sized v → judgedIn s k nullable v ≡ Success → held k nullable (wordFor (datumIn s v)) (isNull (datumIn s v)) ≡ true
+  unfolding held wordFor
+  judged-held k Parsed.Null f h = plain-held k Parsed.Null refl f h
+  judged-held k (Parsed.Boolean b) f h = plain-held k (Parsed.Boolean b) refl f h
+  judged-held k (Parsed.Unsigned n) f h = plain-held k (Parsed.Unsigned n) refl f h
+  judged-held k (Parsed.Signed z) f h = plain-held k (Parsed.Signed z) refl f h
+  judged-held k (Parsed.Float n) f h = plain-held k (Parsed.Float n) refl f h
+  judged-held k (Parsed.Text a n) f h = rw (text-kind k a n h)
+  judged-held k Parsed.Other f h = plain-held k Parsed.Other refl f h
 
   pub bytes-judged : (k : Kind) (v : Value) → judgedIn s k nullable v ≡ Success → (length (textOf (datumIn s v)) ≤ textSize) × (wellFormed (textOf (datumIn s v)) ≡ true)
   unfolding wellFormed completes
@@ -92,7 +95,7 @@ module _ (s : List ℕ) (nullable : Bool) where
   pub accepted : (k : Kind) (v : Value) → Sized v → judgedIn s k nullable v ≡ Success → Accepted k nullable (datumIn s v)
   accepted k v f h =
       record {
-        within = sym (ap₂ (held k nullable) (judged-word k v h) (null-in s v)) ∙ accepted-held s nullable k v f h;
+        within = judged-held k v f h;
         back = means-back k v f h;
         size = bytes-judged k v h .0;
         valid = bytes-judged k v h .1;

@@ -3,6 +3,8 @@ use mathlib.Core.Path.{_≡_, refl}
 use mathlib.Core.List.{List, []}
 use mathlib.Core.Bool.{Bool, true, false, not}
 use Prim.Native.Nat.{ℕ}
+use native.Mathlib.Omega.{arith}
+use borrow.Author.Tests.{ne-eqb}
 use lib.Dec.{eqb}
 use lib.ListN.{length, getD, set}
 use types.Run.{OneOf, miss}
@@ -16,8 +18,9 @@ use Rattle.kinds.specs.Limits.{isNull, nullOf}
 use Rattle.kinds.specs.Stored.{wordOf, equal, nextVersion}
 use Rattle.kinds.proofs.LimitLaws.{allBut, variants}
 use Rattle.schema.specs.Rows.{attributeRow}
+use Rattle.node.specs.Pages.{shownLength}
 use Rattle.values.specs.declared.Values.{Values}
-use Rattle.values.specs.Change.{textOf, isText, wordFor, differsFrom, changes, setAt, editsSet, storedValues, storedEdits}
+use Rattle.values.specs.Change.{textOf, isText, wordFor, markFor, differsFrom, changes, setAt, editsSet, storedValues, storedEdits}
 
 -- a value of another variant than Text is no text
 pub no-text : (v : Value) → OneOf (allBut 5 variants) (tagOf the-type v) → (s : List ℕ) → false ≡ isText (datumIn s v)
@@ -39,8 +42,8 @@ no-bytes (float n) h = refl
 no-bytes (text b) h = cc
 no-bytes other h = refl
 
--- a text is stored as its length
-pub text-word : (d : Datum) → isText d ≡ true → length (textOf d) ≡ wordFor d
+-- a text's word is 0
+pub text-word : (d : Datum) → isText d ≡ true → 0 ≡ wordFor d
 unfolding wordFor
 text-word null h = cc
 text-word (boolean b) h = cc
@@ -49,6 +52,32 @@ text-word (signed z) h = cc
 text-word (float n) h = cc
 text-word (text b) h = refl
 text-word other h = cc
+
+-- null is no text, and its word is 0
+pub null-no-text : (d : Datum) → isNull d ≡ true → isText d ≡ false
+null-no-text null h = refl
+null-no-text (boolean b) h = refl
+null-no-text (unsigned n) h = refl
+null-no-text (signed z) h = refl
+null-no-text (float n) h = refl
+null-no-text (text b) h = cc
+null-no-text other h = refl
+
+pub null-word : (d : Datum) → isNull d ≡ true → wordFor d ≡ 0
+unfolding wordFor
+null-word null h = refl
+null-word (boolean b) h = cc
+null-word (unsigned n) h = cc
+null-word (signed z) h = cc
+null-word (float n) h = cc
+null-word (text b) h = cc
+null-word other h = cc
+
+-- the length that a stored text is shown with, whatever its factory text has
+pub mark-length : (d : Datum) (len : ℕ) → shownLength len (markFor d) ≡ length (textOf d)
+mark-length d len =
+    let c : eqb (markFor d) 0 ≡ false = ne-eqb (markFor d) 0 (λ q. omega (arith, q)) in
+    rw c (omega arith)
 
 -- any other value as the word that it is
 pub plain-word : (s : List ℕ) (v : Value) → isText (datumIn s v) ≡ false → wordOf v ≡ wordFor (datumIn s v)
@@ -90,29 +119,17 @@ module _ (word : ℕ) (held : Bool) (shown : List ℕ) (d : Datum) where
   unfolding differsFrom
   word-differs h n t = rw (h, n, t)
 
--- ---- the new values, step by step
+-- ---- the new values
 
--- all but the version is set
-abbrev pub marked : Values → ℕ → Datum → Values
-marked v i d =
-    record {
-      words = set (v .words) i (wordFor d);
-      nulls = set (v .nulls) i (isNull d);
-      edited = pick (isText d) (set (v .edited) i true) (v .edited);
-      versions = v .versions;
-    }
+-- the marks, a text's mark set
+abbrev pub marksSet : List ℕ → ℕ → Datum → List ℕ
+marksSet texts r d = pick (isText d) (set texts r (markFor d)) texts
 
-module _ (v : Values) (i : ℕ) (d : Datum) (word : ℕ) (n : Bool) (same-word : word ≡ wordFor d) (same-null : n ≡ isNull d) where
-  pub marked-text : isText d ≡ true → record { words = set (v .words) i word; nulls = set (v .nulls) i n; edited = set (v .edited) i true; versions = v .versions } ≡ marked v i d
-  marked-text t = rw (same-word, same-null, t)
-
-  pub marked-plain : isText d ≡ false → record { words = set (v .words) i word; nulls = set (v .nulls) i n; edited = v .edited; versions = v .versions } ≡ marked v i d
-  marked-plain t = rw (same-word, same-null, t)
-
--- and with the version raised, the value is set
-pub set-whole : (w : List ℕ) (v : Values) (i : ℕ) (d : Datum) (x : Values) → x ≡ marked v i d → (k : ℕ) → k ≡ attributeRow w i .clusterIndex → (n : ℕ) → n ≡ nextVersion (getD (x .versions) k 0) → record { words = x .words; nulls = x .nulls; edited = x .edited; versions = set (x .versions) k n } ≡ setAt w v i d
+pub set-whole : (w : List ℕ) (v : Values) (i : ℕ) (d : Datum) {word k r next : ℕ} {n : Bool} {texts : List ℕ} →
+    word ≡ wordFor d → n ≡ isNull d → r ≡ attributeRow w i .first → texts ≡ marksSet (v .texts) r d → k ≡ attributeRow w i .clusterIndex → next ≡ nextVersion (getD (v .versions) k 0) →
+    record { words = set (v .words) i word; nulls = set (v .nulls) i n; texts = texts; versions = set (v .versions) k next } ≡ setAt w v i d
 unfolding setAt
-set-whole w v i d x e k f n g = rw (g, f, e)
+set-whole w v i d {word} {k} {r} {next} {n} {texts} a b c e f g = rw (a, b, e, c, g, f)
 
 -- ---- storing
 

@@ -7,21 +7,20 @@ use native.Mathlib.Omega.{arith}
 use borrow.Author.Tests.{eq-eqb}
 use lib.ListN.{length, getD, set, take, drop, getD-replicate, replicate, length-replicate, length-append}
 use Rattle.bounds.specs.Bounds.{clusterLimit, attributeLimit}
-use Rattle.schema.specs.Layout.{textSize}
+use Rattle.schema.specs.Layout.{textLimit, textSize}
 use Rattle.schema.specs.Rows.{clusterRow, attributeRow, clusterCount, attributeCount, isText, factoryStart, factoryLength, rowsFrom, filled}
 use Rattle.schema.specs.Check.{textCount}
-use Rattle.schema.proofs.BoolLaws.{both, by-test}
+use Rattle.schema.proofs.BoolLaws.{by-test}
 use Rattle.schema.proofs.RowLaws.{rows-length, fill-step, filled-at}
 use Rattle.schema.proofs.TextLaws.{text-inside}
-use Rattle.node.specs.Attributes.{firstWord, typed}
-use Rattle.node.specs.Pages.{shownText}
+use Rattle.node.specs.Attributes.{typed}
 use Rattle.node.specs.Rules.{FactoryRules, SchemaRules}
 use Rattle.node.proofs.RulesLaws.{first-held}
-use Rattle.values.specs.Values.{textAt}
-use Rattle.values.specs.Fresh.{freshValues}
-use Rattle.values.specs.Valid.{shownRight, valuesRight}
-use Rattle.values.proofs.ValueLaws.{part-length}
-use Rattle.values.proofs.ValidLaws.{withinLimits, number-right, text-right, rightAt, right-all, Whole}
+use Rattle.values.specs.Values.{markAt}
+use Rattle.values.specs.Fresh.{startWord, freshValues}
+use Rattle.values.specs.Valid.{textRight, valuesRight}
+use Rattle.values.proofs.ValueLaws.{mark-there, part-length}
+use Rattle.values.proofs.ValidLaws.{withinLimits, whole-text, rank-cut, text-there, number-right, text-within, text-right, rightAt, right-all, Whole}
 
 module _ (f : ℕ → ℕ) (n : ℕ) (l : List ℕ) (i : ℕ) (filling : l ≡ filled 0 f n i) where
   -- a turn of the loop
@@ -34,38 +33,47 @@ module _ (f : ℕ → ℕ) (n : ℕ) (l : List ℕ) (i : ℕ) (filling : l ≡ f
 
 module _ (w page : List ℕ) (rules : SchemaRules w page) (edits : List ℕ) where
   module _ (i : ℕ) (below : i < attributeCount w) where
-    fresh-word : getD (freshValues w .words) i 0 ≡ firstWord w (attributeRow w i)
+    fresh-word : getD (freshValues w .words) i 0 ≡ startWord (attributeRow w i)
     unfolding freshValues
-    fresh-word = filled-at 0 (λ k. firstWord w (attributeRow w k)) attributeLimit (attributeCount w) i 0 below
+    fresh-word = filled-at 0 (λ k. startWord (attributeRow w k)) attributeLimit (attributeCount w) i 0 below
 
     fresh-null : getD (freshValues w .nulls) i false ≡ false
     unfolding freshValues
     fresh-null = getD-replicate attributeLimit i false false (omega (arith, below))
 
-    fresh-edited : getD (freshValues w .edited) i false ≡ false
-    unfolding freshValues
-    fresh-edited = getD-replicate attributeLimit i false false (omega (arith, below))
-
-    first-within : withinLimits w i (firstWord w (attributeRow w i)) false ≡ true
+    number-within : isText (attributeRow w i) ≡ false → withinLimits w i (attributeRow w i .first) false ≡ true
     unfolding typed
-    first-within = first-held w page rules i below
+    number-within t = let h = first-held w page rules i below in rw t at h
 
-    -- a factory text is shown whole
-    factory-right : isText (attributeRow w i) ≡ true → shownRight (textAt w page edits i (firstWord w (attributeRow w i)) false) (firstWord w (attributeRow w i)) ≡ true
-    unfolding textAt shownText shownRight
-    factory-right t =
-        let a = attributeRow w i in
-        let start = factoryStart w (a .first) in
-        let len = factoryLength w (a .first) in
-        let r : FactoryRules page start len = rules .texts (a .first) (text-inside w (rules .structure) i below t) in
-        rw t (both _ _ (eq-eqb (length (take len (drop start page))) len (part-length page start len (r .inside))) (r .valid))
+    module _ (t : isText (attributeRow w i) ≡ true) where
+      fresh-mark : markAt w (freshValues w .texts) i ≡ 0
+      unfolding freshValues
+      fresh-mark =
+          let l : attributeRow w i .first < textLimit = omega (arith, text-inside w (rules .structure) i below t, rules .structure .textNumber) in
+          mark-there (replicate textLimit 0) (attributeRow w i .first) l ∙ getD-replicate textLimit (attributeRow w i .first) 0 0 l
+
+      -- a factory text is shown whole
+      factory-right : textRight w page edits (attributeRow w i .first) false 0 ≡ true
+      factory-right =
+          let k = attributeRow w i .first in
+          let start = factoryStart w k in
+          let len = factoryLength w k in
+          let r : FactoryRules page start len = rules .texts k (text-inside w (rules .structure) i below t) in
+          sym (text-there w page edits k 0 false (omega arith) refl) ∙ sym (rank-cut w page edits k 0 refl)
+          ∙ sym (whole-text (take len (drop start page)) len (r .size) (eq-eqb (length (take len (drop start page))) len (part-length page start len (r .inside)))) ∙ r .valid
+
+      text-fresh : rightAt w page edits (freshValues w) i ≡ true
+      text-fresh =
+          rw (fresh-word, fresh-null, fresh-mark, t)
+          (sym (text-right w page edits i 0 false 0 t (text-within w page edits i 0 false 0 t refl refl) refl) ∙ factory-right)
+
+    number-fresh : isText (attributeRow w i) ≡ false → rightAt w page edits (freshValues w) i ≡ true
+    number-fresh t =
+        rw (fresh-word, fresh-null, t)
+        (sym (number-right w page edits i (attributeRow w i .first) false (markAt w (freshValues w .texts) i) t) ∙ number-within t)
 
     fresh-right-at : rightAt w page edits (freshValues w) i ≡ true
-    fresh-right-at =
-        rw (fresh-word, fresh-null, fresh-edited)
-        (by-test (isText (attributeRow w i))
-        (λ t. sym (text-right w page edits i (firstWord w (attributeRow w i)) false false first-within refl t) ∙ factory-right t)
-        (λ t. sym (number-right w page edits i (firstWord w (attributeRow w i)) false false first-within refl t)))
+    fresh-right-at = by-test (isText (attributeRow w i)) text-fresh number-fresh
 
   -- a fresh sign keeps the rules, whatever its page of edits has
   pub fresh-right : length edits ≡ textSize * textCount w → valuesRight w page edits (freshValues w) ≡ true
@@ -79,9 +87,9 @@ pub fresh-whole : (w : List ℕ) → Whole (freshValues w)
 unfolding freshValues
 fresh-whole w =
     record {
-      words = filled-length (λ i. firstWord w (attributeRow w i)) attributeLimit (attributeCount w) (omega arith);
+      words = filled-length (λ i. startWord (attributeRow w i)) attributeLimit (attributeCount w) (omega arith);
       nulls = length-replicate attributeLimit false;
-      edited = length-replicate attributeLimit false;
+      texts = length-replicate {A = ℕ} textLimit 0;
       versions = filled-length (λ i. clusterRow w i .version) clusterLimit (clusterCount w) (omega arith);
     }
 

@@ -52,7 +52,7 @@ module _ (w defaults edits : List ℕ) (v : Values) (i : ℕ) (d : Datum) where
     datum-set =
         let e = shown-set w defaults edits v i d s in
         rw (word-set w defaults edits v i d s, null-set w defaults edits v i d s)
-        (means (kindOf (attributeRow w i)) (eqb (attributeRow w i .nullable) 1) d (s .accepted) _ (λ t. rw (sym (word-set w defaults edits v i d s)) (e t)))
+        (means (kindOf (attributeRow w i)) (eqb (attributeRow w i .nullable) 1) d (s .accepted) _ e)
 
     datum-same : changes w defaults edits v i d ≡ false → datumAt w defaults edits v i ≡ d
     unfolding changes datumAt

@@ -1,44 +1,43 @@
 -- Storing a value moves exactly one attribute, and keeps the rules.
-use mathlib.Core.Path.{_≡_, sym, _∙_}
+use mathlib.Core.Path.{_≡_, refl, sym, _∙_}
 use mathlib.Core.List.{List}
-use mathlib.Core.Bool.{Bool, true, false}
+use mathlib.Core.Bool.{true, false}
 use Prim.Native.Nat.{ℕ, _+_, _≤_, _<_}
 use native.Mathlib.Omega.{arith}
-use borrow.Author.Tests.{eqb-true, eqb-false, eq-eqb, leb-true}
+use borrow.Author.Tests.{eqb-true, eqb-false, eq-eqb, ne-eqb}
 use lib.Dec.{eqb}
 use lib.ListN.{length, getD, length-set}
 use lib.Seq.{getD-set-same, getD-set-other}
-use Rattle.bounds.specs.Bounds.{clusterLimit, textMax}
+use Rattle.bounds.specs.Bounds.{clusterLimit}
 use Rattle.octets.specs.Store.{store}
 use Rattle.octets.proofs.StoreLaws.{length-store}
 use Rattle.tlv.specs.Value.{Datum}
 use Rattle.kinds.specs.Limits.{isNull}
-use Rattle.kinds.specs.Stored.{held, nextVersion}
-use Rattle.schema.specs.Layout.{textSize}
-use Rattle.schema.specs.Rows.{AttributeRow, attributeRow, attributeCount, factoryStart}
+use Rattle.kinds.specs.Stored.{nextVersion}
+use Rattle.schema.specs.Layout.{textLimit}
+use Rattle.schema.specs.Rows.{attributeRow, attributeCount, factoryStart, factoryLength}
 use Rattle.schema.specs.Rows as rows
 use Rattle.schema.specs.Rules.{Rules}
-use Rattle.schema.proofs.BoolLaws.{both, right, by-test}
+use Rattle.schema.proofs.BoolLaws.{by-test}
 use Rattle.schema.proofs.PathLaws.{cluster-there}
+use Rattle.schema.proofs.TextLaws.{text-inside}
 use Rattle.node.specs.Attributes.{kindOf}
 use Rattle.node.specs.Pages.{place}
-use Rattle.node.proofs.KindLaws.{kind-text}
 use Rattle.node.proofs.PageLaws.{stored-shown}
-use Rattle.node.proofs.TextLaws.{place-fits, text-stays}
+use Rattle.node.proofs.TextLaws.{place-fits, ranks-apart, text-stays}
 use Rattle.values.specs.declared.Values.{Values}
-use Rattle.values.specs.Values.{textAt, shownOf, datumAt}
-use Rattle.values.specs.Change.{textOf, isText, wordFor, changes, setAt, editsSet, storedValues, storedEdits}
-use Rattle.values.specs.Valid.{shownRight, valueRight, valuesRight}
-use Rattle.values.proofs.ChangeLaws.{no-bytes, text-word}
-use Rattle.values.proofs.ValueLaws.{text-row}
+use Rattle.values.specs.Values.{rankText, rankLength, markAt, textAt, shownOf, datumAt}
+use Rattle.values.specs.Change.{textOf, isText, wordFor, markFor, changes, setAt, editsSet, storedValues, storedEdits}
+use Rattle.values.specs.Valid.{markMax, textRight, valueRight, valuesRight}
+use Rattle.values.proofs.ChangeLaws.{no-bytes, null-no-text, null-word, text-word, mark-length}
+use Rattle.values.proofs.ValueLaws.{mark-there, text-row}
 use Rattle.values.proofs.AcceptedLaws.{Accepted, own-kind, text-present}
-use Rattle.values.proofs.ValidLaws.{withinLimits, null-right, number-right, text-right, rightAt, edits-size, right-at, right-all, limits-at, Whole}
+use Rattle.values.proofs.ValidLaws.{whole-text, text-null, text-there, mark-right, number-right, text-right, rightAt, edits-size, right-at, right-all, text-here, Whole}
 
--- a text that is held is no longer than its place
-held-short : (a : AttributeRow) (nullable : Bool) (word : ℕ) (isNull : Bool) → rows.isText a ≡ true → held (kindOf a) nullable word isNull ≡ true → word ≤ textSize
-unfolding held
-held-short a nullable word true t h = omega (arith, eqb-true word 0 (right nullable _ h))
-held-short a nullable word false t h = leb-true word textMax (rw (kind-text a (eqb-true _ _ t)) at h)
+-- the page of edits keeps its length
+pub edits-length : (w edits : List ℕ) (i : ℕ) (d : Datum) → length (editsSet w edits i d) ≡ length edits
+unfolding editsSet
+edits-length w edits i d = length-store edits (place (attributeRow w i .first)) (textOf d)
 
 -- ---- what is to be stored, and where
 
@@ -53,9 +52,12 @@ module _ (w defaults edits : List ℕ) (v : Values) (i : ℕ) (d : Datum) (s : S
   text-goes : isText d ≡ true → rows.isText (attributeRow w i) ≡ true
   text-goes t = text-row (attributeRow w i) ∙ sym (own-kind (s .accepted) (text-present d t)) ∙ t
 
-  -- what `store` requires: there is room for the text, and a version to raise
-  pub store-room : isText d ≡ true → place (attributeRow w i .first) + length (textOf d) ≤ length edits
+  -- there is room for the text and its mark, and a version to raise
+  store-room : isText d ≡ true → place (attributeRow w i .first) + length (textOf d) ≤ length edits
   store-room t = omega (arith, place-fits w (s .rules) i (length (textOf d)) (s .there, text-goes t) (s .accepted .size), edits-size w defaults edits v (s .right))
+
+  mark-room : isText d ≡ true → attributeRow w i .first < textLimit
+  mark-room t = omega (arith, text-inside w (s .rules) i (s .there) (text-goes t), s .rules .textNumber)
 
   pub cluster-room : attributeRow w i .clusterIndex < clusterLimit
   cluster-room = omega (arith, cluster-there w (s .rules) i (s .there))
@@ -70,14 +72,24 @@ module _ (w defaults edits : List ℕ) (v : Values) (i : ℕ) (d : Datum) (s : S
   unfolding setAt
   null-set = getD-set-same (v .nulls) i (isNull d) false (omega (arith, s .whole .nulls, s .there))
 
-  edited-set : isText d ≡ true → getD (setAt w v i d .edited) i false ≡ true
+  mark-set : isText d ≡ true → markAt w (setAt w v i d .texts) i ≡ markFor d
   unfolding setAt
-  edited-set t = rw t (getD-set-same (v .edited) i true false (omega (arith, s .whole .edited, s .there)))
+  mark-set t =
+      mark-there (setAt w v i d .texts) (attributeRow w i .first) (mark-room t)
+      ∙ rw t (getD-set-same (v .texts) (attributeRow w i .first) (markFor d) 0 (omega (arith, mark-room t, s .whole .texts)))
+
+  rank-set : isText d ≡ true → rankText w defaults (editsSet w edits i d) (attributeRow w i .first) (markFor d) ≡ textOf d
+  unfolding editsSet
+  rank-set t = stored-shown defaults edits (attributeRow w i .first) (textOf d) (store-room t) (factoryStart w (attributeRow w i .first)) (factoryLength w (attributeRow w i .first))
+
+  -- a text's word is 0, and null's
+  no-word : rows.isText (attributeRow w i) ≡ true → wordFor d ≡ 0
+  no-word t =
+      by-test (isNull d) (null-word d) (λ n. sym (text-word d (own-kind (s .accepted) n ∙ sym (text-row (attributeRow w i)) ∙ t)))
 
   pub shown-set : isText d ≡ true → shownOf w defaults (editsSet w edits i d) (setAt w v i d) i ≡ textOf d
-  unfolding textAt editsSet
-  shown-set t =
-      rw (word-set, edited-set t, text-goes t, sym (text-word d t)) (stored-shown defaults edits (attributeRow w i .first) (textOf d) (store-room t) (factoryStart w (attributeRow w i .first)))
+  unfolding textAt
+  shown-set t = rw (mark-set t, text-goes t) (rank-set t)
 
   -- ---- every other attribute
 
@@ -90,58 +102,80 @@ module _ (w defaults edits : List ℕ) (v : Values) (i : ℕ) (d : Datum) (s : S
     unfolding setAt
     null-stays = getD-set-other (v .nulls) i j (isNull d) false other
 
-    edited-stays : getD (setAt w v i d .edited) j false ≡ getD (v .edited) j false
-    unfolding setAt
-    edited-stays = by-test (isText d) (λ t. rw t (getD-set-other (v .edited) i j true false other)) (λ t. rw t)
+    module _ (l : j < attributeCount w) where
+      here : rightAt w defaults edits v j ≡ true
+      here = right-at w defaults edits v (s .right) j l
 
-    -- what is shown of it
-    text-kept : (word : ℕ) (edited : Bool) → j < attributeCount w → (rows.isText (attributeRow w j) ≡ true → word ≤ textSize) → textAt w defaults (editsSet w edits i d) j word edited ≡ textAt w defaults edits j word edited
-    unfolding textAt editsSet store
-    text-kept word edited l short =
-        by-test (rows.isText (attributeRow w j))
-        (λ t. by-test (isText d)
-        (λ u. rw t (text-stays w (s .rules) defaults edits (textOf d) i j (factoryStart w (attributeRow w j .first)) word edited (s .there, text-goes u) (l, t) other (s .accepted .size) (short t)))
-        (λ u. rw (no-bytes d u)))
-        (λ t. rw t)
+      module _ (t : rows.isText (attributeRow w j) ≡ true) where
+        mark-stays : markAt w (setAt w v i d .texts) j ≡ markAt w (v .texts) j
+        unfolding setAt
+        mark-stays =
+            by-test (isText d)
+            (λ u. rw (u, getD-set-other (v .texts) (attributeRow w i .first) (attributeRow w j .first) (markFor d) 0 (ranks-apart w (s .rules) j i (l, t) (s .there, text-goes u) other)))
+            (λ u. rw u)
 
-    shown-stays : j < attributeCount w → shownOf w defaults (editsSet w edits i d) (setAt w v i d) j ≡ shownOf w defaults edits v j
-    shown-stays l =
-        rw (word-stays, edited-stays)
-        (text-kept (getD (v .words) j 0) (getD (v .edited) j false) l
-        (λ t. held-short (attributeRow w j) _ _ _ t (limits-at w defaults edits v j (right-at w defaults edits v (s .right) j l))))
+        -- what is shown of it
+        text-kept : rankText w defaults (editsSet w edits i d) (attributeRow w j .first) (markAt w (v .texts) j) ≡ rankText w defaults edits (attributeRow w j .first) (markAt w (v .texts) j)
+        unfolding editsSet store
+        text-kept =
+            by-test (isText d)
+            (λ u.
+            text-stays w (s .rules) defaults edits (textOf d) i j (factoryStart w (attributeRow w j .first)) (factoryLength w (attributeRow w j .first)) (markAt w (v .texts) j) (s .there, text-goes u) (l, t) other (s .accepted .size)
+            (mark-right w defaults edits (attributeRow w j .first) (markAt w (v .texts) j) (getD (v .nulls) j false) (text-here w defaults edits v j t here)))
+            (λ u. rw (no-bytes d u))
 
-    right-stays : j < attributeCount w → rightAt w defaults (editsSet w edits i d) (setAt w v i d) j ≡ true
-    unfolding valueRight
-    right-stays l = rw (shown-stays l, word-stays, null-stays) (right-at w defaults edits v (s .right) j l)
+      shown-stays : shownOf w defaults (editsSet w edits i d) (setAt w v i d) j ≡ shownOf w defaults edits v j
+      unfolding textAt
+      shown-stays = by-test (rows.isText (attributeRow w j)) (λ t. rw (t, mark-stays t) (text-kept t)) (λ t. rw t)
 
-    pub datum-stays : j < attributeCount w → datumAt w defaults (editsSet w edits i d) (setAt w v i d) j ≡ datumAt w defaults edits v j
-    unfolding datumAt
-    datum-stays l = rw (shown-stays l, word-stays, null-stays)
+      right-stays : rightAt w defaults (editsSet w edits i d) (setAt w v i d) j ≡ true
+      unfolding valueRight textRight
+      right-stays =
+          by-test (rows.isText (attributeRow w j)) (λ t. rw (word-stays, null-stays, mark-stays t, text-kept t) here)
+          (λ t. rw (word-stays, null-stays, t) (rw t at here))
+
+      pub datum-stays : datumAt w defaults (editsSet w edits i d) (setAt w v i d) j ≡ datumAt w defaults edits v j
+      unfolding datumAt
+      datum-stays = rw (shown-stays, word-stays, null-stays)
 
   -- ---- the rules are kept
 
-  bytes-right : isText d ≡ true → shownRight (textOf d) (wordFor d) ≡ true
-  unfolding shownRight
-  bytes-right t = both _ _ (eq-eqb (length (textOf d)) (wordFor d) (text-word d t)) (s .accepted .valid)
+  -- a stored text is right
+  text-set : isText d ≡ true → textRight w defaults (editsSet w edits i d) (attributeRow w i .first) (isNull d) (markFor d) ≡ true
+  text-set t =
+      let e = editsSet w edits i d in
+      let r = attributeRow w i .first in
+      let shown = rankText w defaults e r (markFor d) in
+      let q : shown ≡ textOf d = rank-set t in
+      let n : rankLength w r (markFor d) ≡ length (textOf d) = mark-length d (factoryLength w r) in
+      sym (text-there w defaults e r (markFor d) (isNull d) (omega (arith, s .accepted .size)) (text-present d t))
+      ∙ rw (n, q) (sym (whole-text (textOf d) (length (textOf d)) (s .accepted .size) (eq-eqb (length (textOf d)) (length (textOf d)) refl)) ∙ s .accepted .valid)
+
+  -- null leaves the mark of a text as it is
+  null-mark : isNull d ≡ true → rows.isText (attributeRow w i) ≡ true → markAt w (setAt w v i d .texts) i ≤ markMax
+  unfolding setAt
+  null-mark n t =
+      let here = right-at w defaults edits v (s .right) i (s .there) in
+      rw (null-no-text d n) (mark-right w defaults edits (attributeRow w i .first) (markAt w (v .texts) i) (getD (v .nulls) i false) (text-here w defaults edits v i t here))
+
+  text-row-set : rows.isText (attributeRow w i) ≡ true → textRight w defaults (editsSet w edits i d) (attributeRow w i .first) (isNull d) (markAt w (setAt w v i d .texts) i) ≡ true
+  text-row-set t =
+      by-test (isNull d) (λ n. sym (text-null w defaults (editsSet w edits i d) (attributeRow w i .first) (markAt w (setAt w v i d .texts) i) (isNull d) (null-mark n t) n))
+      (λ n. let u = own-kind (s .accepted) n ∙ sym (text-row (attributeRow w i)) ∙ t in rw (mark-set u) (text-set u))
 
   right-set : rightAt w defaults (editsSet w edits i d) (setAt w v i d) i ≡ true
   right-set =
       let e = editsSet w edits i d in
-      let x = setAt w v i d in
-      let word = getD (x .words) i 0 in
-      let isnull = getD (x .nulls) i false in
-      let edited = getD (x .edited) i false in
-      let l : withinLimits w i word isnull ≡ true = rw (word-set, null-set) (s .accepted .within) in
-      by-test (isNull d) (λ n. sym (null-right w defaults e i word isnull edited l (null-set ∙ n)))
-      (λ n. by-test (isText d)
-      (λ t. sym (text-right w defaults e i word isnull edited l (null-set ∙ n) (text-goes t)) ∙ rw (shown-set t, word-set) (bytes-right t))
-      (λ t. sym (number-right w defaults e i word isnull edited l (null-set ∙ n) (text-row (attributeRow w i) ∙ sym (own-kind (s .accepted) n) ∙ t))))
+      let mark = markAt w (setAt w v i d .texts) i in
+      rw (word-set, null-set)
+      (by-test (rows.isText (attributeRow w i))
+      (λ t. sym (text-right w defaults e i (wordFor d) (isNull d) mark t (s .accepted .within) (no-word t)) ∙ text-row-set t)
+      (λ t. sym (number-right w defaults e i (wordFor d) (isNull d) mark t) ∙ s .accepted .within))
 
   all-right : valuesRight w defaults (editsSet w edits i d) (setAt w v i d) ≡ true
-  unfolding editsSet
   all-right =
       right-all w defaults (editsSet w edits i d) (setAt w v i d)
-      (length-store edits (place (attributeRow w i .first)) (textOf d) ∙ edits-size w defaults edits v (s .right))
+      (edits-length w edits i d ∙ edits-size w defaults edits v (s .right))
       (λ j l. by-test (eqb j i) (λ t. rw (eqb-true j i t) right-set) (λ t. right-stays j (eqb-false j i t) l))
 
   -- storing a value that the verdict allows keeps the rules
@@ -156,7 +190,7 @@ module _ (w defaults edits : List ℕ) (v : Values) (i : ℕ) (d : Datum) (s : S
       record {
         words = length-set (v .words) i (wordFor d) ∙ s .whole .words;
         nulls = length-set (v .nulls) i (isNull d) ∙ s .whole .nulls;
-        edited = by-test (isText d) (λ t. rw t (length-set (v .edited) i true ∙ s .whole .edited)) (λ t. rw t (s .whole .edited));
+        texts = by-test (isText d) (λ t. rw t (length-set (v .texts) (attributeRow w i .first) (markFor d) ∙ s .whole .texts)) (λ t. rw t (s .whole .texts));
         versions = length-set (v .versions) (attributeRow w i .clusterIndex) (nextVersion (getD (v .versions) (attributeRow w i .clusterIndex) 0)) ∙ s .whole .versions;
       }
 

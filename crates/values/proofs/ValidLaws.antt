@@ -1,17 +1,18 @@
 -- The check of a sign's values, test by test.
-use mathlib.Core.Path.{_≡_, refl, sym, ap}
+use mathlib.Core.Path.{_≡_, refl, sym, ap, _∙_}
 use mathlib.Core.Bool.{Bool, true, false, _&&_}
 use mathlib.Core.List.{List, []}
-use Prim.Native.Nat.{ℕ, _*_, _≤_, _<_}
-use borrow.Author.Tests.{eqb-true, eq-eqb, le-leb}
+use Prim.Native.Nat.{ℕ, _*_, _-_, _≤_, _<_}
+use native.Mathlib.Omega.{arith}
+use borrow.Author.Tests.{eqb-true, eq-eqb, ne-eqb, le-leb, lt-leb, leb-true}
 use lib.Dec.{eqb, leb}
 use lib.ListN.{length, getD, take, drop}
 use Rattle.bounds.specs.Bounds.{clusterLimit, attributeLimit, textMax}
 use Rattle.utf8.specs.WellFormed.{wellFormed}
 use Rattle.utf8.specs.Boundary.{cutWell}
 use Rattle.utf8.proofs.Cuts.{cut-exactly}
-use Rattle.schema.specs.Layout.{textSize}
-use Rattle.schema.specs.Rows.{attributeRow, attributeCount, isText, factoryStart}
+use Rattle.schema.specs.Layout.{textLimit, textSize}
+use Rattle.schema.specs.Rows.{attributeRow, attributeCount, isText, factoryStart, factoryLength}
 use Rattle.schema.specs.Check.{every, textCount}
 use Rattle.schema.proofs.BoolLaws.{both, left, right}
 use Rattle.schema.proofs.CheckLaws.{every-at, every-all}
@@ -23,78 +24,108 @@ use Rattle.node.specs.Check.{numberRight, numbersRight}
 use Rattle.node.specs.Pages.{shownText}
 use Rattle.node.proofs.KindLaws.{kind-text}
 use Rattle.values.specs.declared.Values.{Values}
-use Rattle.values.specs.Values.{textAt}
-use Rattle.values.specs.Valid.{shownRight, shownAt, valueRight, valuesRight}
+use Rattle.values.specs.Values.{rankText, rankLength, markAt, textAt, shownOf}
+use Rattle.values.specs.Valid.{markMax, shownRight, textRight, shownAt, valueRight, valuesRight}
 
 -- the limits of attribute i allow what is held
 abbrev pub withinLimits : List ℕ → ℕ → ℕ → Bool → Bool
 withinLimits w i word isNull = held (kindOf (attributeRow w i)) (eqb (attributeRow w i .nullable) 1) word isNull
 
-module _ (w defaults edits : List ℕ) (i word : ℕ) (isNull edited : Bool) where
-  pub null-right : withinLimits w i word isNull ≡ true → isNull ≡ true → true ≡ valueRight w defaults edits i word isNull edited
-  unfolding valueRight
-  null-right h n = rw (h, n)
-
-  pub number-right : withinLimits w i word isNull ≡ true → isNull ≡ false → isText (attributeRow w i) ≡ false → true ≡ valueRight w defaults edits i word isNull edited
-  unfolding valueRight
-  number-right h n t = rw (h, n, t)
-
-  pub text-right : withinLimits w i word isNull ≡ true → isNull ≡ false → isText (attributeRow w i) ≡ true → shownRight (textAt w defaults edits i word edited) word ≡ valueRight w defaults edits i word isNull edited
-  unfolding valueRight
-  text-right h n t = rw (h, n, t)
-
--- ---- the code's tests
-
-and-false : (x : Bool) → (x && false) ≡ false
-and-false true = refl
-and-false false = refl
-
 pub and-true : (x : Bool) → x ≡ (x && true)
 and-true true = refl
 and-true false = refl
 
--- the tests of a shown text
-module _ (w defaults edits : List ℕ) (i word : ℕ) (isNull edited : Bool) where
-  pub shown-null : isNull ≡ true → true ≡ shownAt w defaults edits i word isNull edited
-  shown-null n = rw n
+-- ---- a shown text
 
-  module _ (n : isNull ≡ false) where
-    pub shown-none : isText (attributeRow w i) ≡ false → true ≡ shownAt w defaults edits i word isNull edited
-    shown-none t = rw (n, t)
+module _ (shown : List ℕ) (n : ℕ) where
+  pub too-long : textMax < n → false ≡ shownRight shown n
+  unfolding shownRight
+  too-long l = rw (lt-leb n textMax l)
 
-    pub shown-text : isText (attributeRow w i) ≡ true → shownRight (textAt w defaults edits i word edited) word ≡ shownAt w defaults edits i word isNull edited
-    shown-text t = rw (n, t)
+  module _ (l : n ≤ textMax) where
+    pub not-whole : eqb (length shown) n ≡ false → false ≡ shownRight shown n
+    unfolding shownRight
+    not-whole h = rw (le-leb n textMax l, h)
 
-    -- a factory text is a part of the page of defaults
-    pub shown-factory : isText (attributeRow w i) ≡ true → edited ≡ false → shownRight (take word (drop (factoryStart w (attributeRow w i .first)) defaults)) word ≡ shownAt w defaults edits i word isNull edited
-    unfolding textAt shownText
-    shown-factory t e = rw (n, t, e)
+    pub whole-text : eqb (length shown) n ≡ true → wellFormed shown ≡ shownRight shown n
+    unfolding shownRight
+    whole-text h = rw (le-leb n textMax l, h)
+
+  -- what is right is short, and valid
+  pub right-short : shownRight shown n ≡ true → length shown ≤ textMax
+  unfolding shownRight
+  right-short h =
+      let r = right (leb n textMax) _ h in
+      omega (arith, leb-true n textMax (left _ _ h), eqb-true (length shown) n (left _ _ r))
+
+  pub right-formed : shownRight shown n ≡ true → wellFormed shown ≡ true
+  unfolding shownRight
+  right-formed h = right (eqb (length shown) n) _ (right (leb n textMax) _ h)
 
 -- the part of a well-formed page is right exactly if the page has it and it is cut at boundaries
-module _ (page : List ℕ) (start len : ℕ) where
-  abbrev cutPart : List ℕ
-  cutPart = take len (drop start page)
+pub cut-right : (page : List ℕ) (start len : ℕ) → wellFormed page ≡ true → len ≤ textMax → eqb (length (take len (drop start page))) len ≡ true → cutWell page start len ≡ shownRight (take len (drop start page)) len
+cut-right page start len p l h = sym (cut-exactly page start len p) ∙ whole-text (take len (drop start page)) len l h
 
-  pub cut-short : eqb (length cutPart) len ≡ false → false ≡ shownRight cutPart len
-  unfolding shownRight
-  cut-short h = rw h
+-- ---- the text of a rank
 
-  pub cut-right : wellFormed page ≡ true → eqb (length cutPart) len ≡ true → cutWell page start len ≡ shownRight cutPart len
-  unfolding shownRight
-  cut-right p h = rw h (sym (cut-exactly page start len p))
+module _ (w defaults edits : List ℕ) (r mark : ℕ) where
+  abbrev rankShown : Bool
+  rankShown = shownRight (rankText w defaults edits r mark) (rankLength w r mark)
 
--- the limits alone decide where there is no text
-limits-alone : (b n t x : Bool) → t ≡ false → b ≡ (b && pick n true (pick t x true))
-limits-alone true true t x e = refl
-limits-alone true false t x e = rw e
-limits-alone false n t x e = refl
+  -- a changed text has its length by its mark
+  pub rank-changed : (mark ≡ 0 → ⊥) → shownRight (rankText w defaults edits r mark) (mark - 1) ≡ rankShown
+  rank-changed n = rw (ne-eqb mark 0 n)
 
-module _ (w defaults edits : List ℕ) (i word : ℕ) (isNull edited : Bool) where
-  pub number-row : isText (attributeRow w i) ≡ false → (numberRight (attributeRow w i) && withinLimits w i word isNull) ≡ (numberRight (attributeRow w i) && valueRight w defaults edits i word isNull edited)
-  unfolding valueRight
-  number-row t =
-      ap (λ (b : Bool). numberRight (attributeRow w i) && b)
-      (limits-alone (withinLimits w i word isNull) isNull (isText (attributeRow w i)) (shownRight (textAt w defaults edits i word edited) word) t)
+  module _ (e : mark ≡ 0) where
+    pub rank-factory : shownRight (rankText w defaults edits r mark) (factoryLength w r) ≡ rankShown
+    rank-factory = rw (eq-eqb mark 0 e)
+
+    -- and is a part of the page of defaults
+    pub rank-cut : shownRight (take (factoryLength w r) (drop (factoryStart w r) defaults)) (factoryLength w r) ≡ rankShown
+    unfolding shownText
+    rank-cut = rw (eq-eqb mark 0 e)
+
+  module _ (isNull : Bool) where
+    pub mark-large : markMax < mark → false ≡ textRight w defaults edits r isNull mark
+    unfolding textRight
+    mark-large l = rw (lt-leb mark markMax l)
+
+    module _ (l : mark ≤ markMax) where
+      pub text-null : isNull ≡ true → true ≡ textRight w defaults edits r isNull mark
+      unfolding textRight
+      text-null n = rw (le-leb mark markMax l, n)
+
+      pub text-there : isNull ≡ false → rankShown ≡ textRight w defaults edits r isNull mark
+      unfolding textRight
+      text-there n = rw (le-leb mark markMax l, n)
+
+    pub mark-right : textRight w defaults edits r isNull mark ≡ true → mark ≤ markMax
+    unfolding textRight
+    mark-right h = leb-true mark markMax (left _ _ h)
+
+    -- so one that is not null is shown
+    pub shown-here : textRight w defaults edits r isNull mark ≡ true → isNull ≡ false → rankShown ≡ true
+    unfolding textRight
+    shown-here h n = let s = right (leb mark markMax) _ h in rw n at s
+
+-- ---- attribute i
+
+module _ (w defaults edits : List ℕ) (i : ℕ) (isNull : Bool) (mark : ℕ) where
+  pub shown-none : isText (attributeRow w i) ≡ false → true ≡ shownAt w defaults edits i isNull mark
+  shown-none t = rw t
+
+  pub shown-text : isText (attributeRow w i) ≡ true → textRight w defaults edits (attributeRow w i .first) isNull mark ≡ shownAt w defaults edits i isNull mark
+  shown-text t = rw t
+
+module _ (w defaults edits : List ℕ) (i word : ℕ) (isNull : Bool) (mark : ℕ) where
+  module _ (t : isText (attributeRow w i) ≡ false) where
+    -- the limits alone decide where there is no text
+    pub number-right : withinLimits w i word isNull ≡ valueRight w defaults edits i word isNull mark
+    unfolding valueRight
+    number-right = rw t (and-true (withinLimits w i word isNull) ∙ and-true (withinLimits w i word isNull && true))
+
+    pub number-row : (numberRight (attributeRow w i) && withinLimits w i word isNull) ≡ (numberRight (attributeRow w i) && valueRight w defaults edits i word isNull mark)
+    number-row = ap (λ (b : Bool). numberRight (attributeRow w i) && b) number-right
 
   module _ (t : isText (attributeRow w i) ≡ true) where
     -- a text has no first number
@@ -105,27 +136,31 @@ module _ (w defaults edits : List ℕ) (i word : ℕ) (isNull edited : Bool) whe
     text-kind : kindOf (attributeRow w i) ≡ Text
     text-kind = kind-text (attributeRow w i) (eqb-true (attributeRow w i .kind) 4 t)
 
-    pub text-limits : withinLimits w i word isNull ≡ pick isNull (eqb (attributeRow w i .nullable) 1 && eqb word 0) (leb word textMax)
+    text-limits : withinLimits w i word isNull ≡ pick isNull (eqb (attributeRow w i .nullable) 1 && eqb word 0) (leb word textMax)
     unfolding held
     text-limits = rw text-kind
 
-    pub null-text : isNull ≡ true → (eqb (attributeRow w i .nullable) 1 && eqb word 0) ≡ valueRight w defaults edits i word isNull edited
-    unfolding valueRight held
-    null-text n = rw (text-kind, n) (and-true (eqb (attributeRow w i .nullable) 1 && eqb word 0))
+    -- its word is 0, and a null one is allowed
+    pub text-within : pick isNull (eqb (attributeRow w i .nullable) 1 && eqb word 0) true ≡ true → word ≡ 0 → withinLimits w i word isNull ≡ true
+    text-within n z = text-limits ∙ go isNull n
+      where
+        go : (b : Bool) → pick b (eqb (attributeRow w i .nullable) 1 && eqb word 0) true ≡ true → pick b (eqb (attributeRow w i .nullable) 1 && eqb word 0) (leb word textMax) ≡ true
+        go true h = h
+        go false h = le-leb word textMax (omega (arith, z))
 
-    pub shown-right : isNull ≡ false → word ≤ textMax → shownRight (textAt w defaults edits i word edited) word ≡ valueRight w defaults edits i word isNull edited
-    unfolding valueRight held
-    shown-right n l = rw (text-kind, n, le-leb word textMax l, t)
+    pub text-right : withinLimits w i word isNull ≡ true → word ≡ 0 → textRight w defaults edits (attributeRow w i .first) isNull mark ≡ valueRight w defaults edits i word isNull mark
+    unfolding valueRight
+    text-right h z = rw (h, eq-eqb word 0 z, t)
 
 -- ---- the check by index
 
 -- what is held, as the code is lent it: the versions are judged by nothing here
-abbrev pub heldOf : List ℕ → List Bool → List Bool → Values
-heldOf words nulls edited = record { words = words; nulls = nulls; edited = edited; versions = [] }
+abbrev pub heldOf : List ℕ → List Bool → List ℕ → Values
+heldOf words nulls texts = record { words = words; nulls = nulls; texts = texts; versions = [] }
 
 -- attribute i holds what it may
 abbrev pub rightAt : List ℕ → List ℕ → List ℕ → Values → ℕ → Bool
-rightAt w defaults edits v i = valueRight w defaults edits i (getD (v .words) i 0) (getD (v .nulls) i false) (getD (v .edited) i false)
+rightAt w defaults edits v i = valueRight w defaults edits i (getD (v .words) i 0) (getD (v .nulls) i false) (markAt w (v .texts) i)
 
 module _ (w defaults edits : List ℕ) (v : Values) where
   pub edits-size : valuesRight w defaults edits v ≡ true → length edits ≡ textSize * textCount w
@@ -165,11 +200,34 @@ module _ (w defaults edits : List ℕ) (v : Values) where
   -- what is held is within its limits
   pub limits-at : (i : ℕ) → rightAt w defaults edits v i ≡ true → withinLimits w i (getD (v .words) i 0) (getD (v .nulls) i false) ≡ true
   unfolding valueRight
-  limits-at i h = left (withinLimits w i (getD (v .words) i 0) (getD (v .nulls) i false)) _ h
+  limits-at i h = left (withinLimits w i (getD (v .words) i 0) (getD (v .nulls) i false)) _ (left _ _ h)
+
+  -- a text's word is 0, and it shows a right one
+  module _ (i : ℕ) (t : isText (attributeRow w i) ≡ true) (h : rightAt w defaults edits v i ≡ true) where
+    pub word-none : getD (v .words) i 0 ≡ 0
+    unfolding valueRight
+    word-none =
+        let e = right (withinLimits w i (getD (v .words) i 0) (getD (v .nulls) i false)) _ (left _ _ h) in
+        eqb-true (getD (v .words) i 0) 0 (rw t at e)
+
+    pub text-here : textRight w defaults edits (attributeRow w i .first) (getD (v .nulls) i false) (markAt w (v .texts) i) ≡ true
+    unfolding valueRight
+    text-here =
+        let s = right (withinLimits w i (getD (v .words) i 0) (getD (v .nulls) i false) && pick (isText (attributeRow w i)) (eqb (getD (v .words) i 0) 0) true) _ h in
+        rw t at s
+
+  -- so a text that is not null is shown short and valid
+  pub shown-fits : (i : ℕ) → isText (attributeRow w i) ≡ true → getD (v .nulls) i false ≡ false → rightAt w defaults edits v i ≡ true → (length (shownOf w defaults edits v i) ≤ textMax) × (wellFormed (shownOf w defaults edits v i) ≡ true)
+  unfolding textAt
+  shown-fits i t n h =
+      let r = attributeRow w i .first in
+      let mark = markAt w (v .texts) i in
+      let s = shown-here w defaults edits r mark (getD (v .nulls) i false) (text-here i t h) n in
+      rw t (right-short (rankText w defaults edits r mark) (rankLength w r mark) s, right-formed (rankText w defaults edits r mark) (rankLength w r mark) s)
 
 -- the arrays of what is held have their lengths, as those of the code do
 pub record Whole (v : Values) : Type 0 where
   pub words : length (v .words) ≡ attributeLimit
   pub nulls : length (v .nulls) ≡ attributeLimit
-  pub edited : length (v .edited) ≡ attributeLimit
+  pub texts : length (v .texts) ≡ textLimit
   pub versions : length (v .versions) ≡ clusterLimit

@@ -2,10 +2,10 @@
 use mathlib.Core.Path.{_≡_, refl, sym, ap, _∙_}
 use mathlib.Core.List.{List}
 use mathlib.Core.Bool.{Bool, true, false}
-use Prim.Native.Nat.{ℕ, _+_, _≤_}
+use Prim.Native.Nat.{ℕ, _+_, _≤_, _<_}
 use native.Mathlib.Omega.{arith}
-use borrow.Author.Tests.{eqb-true, eq-eqb}
-use lib.ListN.{length, take, drop, length-take, length-drop}
+use borrow.Author.Tests.{eqb-true, eq-eqb, lt-ltb}
+use lib.ListN.{length, getD, take, drop, length-take, length-drop}
 use lib.Seq.{take-length}
 use Rattle.tlv.specs.Octet.{pick}
 use Rattle.tlv.specs.Value.{Datum, datumIn}
@@ -14,12 +14,17 @@ use Rattle.kinds.specs.declared.Kind.{Kind}
 use Rattle.kinds.specs.declared.Kind.the-variants as Kinds
 use Rattle.kinds.specs.Limits.{byKind}
 use Rattle.kinds.specs.Stored.{valueFrom}
+use Rattle.schema.specs.Layout.{textLimit}
 use Rattle.schema.specs.Rows.{AttributeRow, attributeRow, isText}
 use Rattle.schema.proofs.BoolLaws.{by-test}
 use Rattle.node.specs.Attributes.{kindOf}
 use Rattle.node.proofs.KindLaws.{kind-text}
 use Rattle.node.proofs.FirstLaws.{text-code}
-use Rattle.values.specs.Values.{heldDatum, valueAt}
+use Rattle.values.specs.Values.{markOf, heldDatum, valueAt}
+
+-- a rank that there is has its mark
+pub mark-there : (texts : List ℕ) (r : ℕ) → r < textLimit → markOf texts r ≡ getD texts r 0
+mark-there texts r l = rw (lt-ltb r textLimit l)
 
 -- a part that lies in its page is whole
 pub part-length : (page : List ℕ) (start n : ℕ) → start + n ≤ length page → length (take n (drop start page)) ≡ n

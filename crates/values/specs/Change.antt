@@ -1,8 +1,9 @@
 -- A change of an attribute (document 01, A sign's plan): "A change means that the stored value differs afterwards (null differs from every value; floats by
 -- their bits). Each change adds one to the cluster's version".
+use mathlib.Core.Path.{_≡_}
 use mathlib.Core.Bool.{Bool, true, false, not}
 use mathlib.Core.List.{List, []}
-use Prim.Native.Nat.{ℕ}
+use Prim.Native.Nat.{ℕ, _+_, _≤_, _<_}
 use lib.Dec.{eqb}
 use lib.ListN.{length, getD, set}
 use mir.Syntax.{w64}
@@ -13,6 +14,7 @@ use Rattle.tlv.specs.Octet.{pick}
 use Rattle.tlv.specs.Value.{Datum, null, boolean, unsigned, signed, float, text, other}
 use Rattle.kinds.specs.Limits.{isNull}
 use Rattle.kinds.specs.Stored.{equal, nextVersion}
+use Rattle.schema.specs.Layout.{textLimit, textSize}
 use Rattle.schema.specs.Rows.{attributeRow}
 use Rattle.node.specs.Pages.{place}
 use Rattle.values.specs.declared.Values.{Values}
@@ -37,14 +39,14 @@ isText (float n) = false
 isText (text b) = true
 isText other = false
 
--- the 64 bits that a value is stored as; a text's are its length
+-- the 64 bits that a value is stored as; a text's are 0
 unfoldable pub wordFor : Datum → ℕ
 wordFor null = 0
 wordFor (boolean b) = cond b 1 0
 wordFor (unsigned n) = n
 wordFor (signed z) = ofZ w64 z
 wordFor (float n) = n
-wordFor (text b) = length b
+wordFor (text b) = 0
 wordFor other = 0
 
 -- whether a value differs from what is held as 64 bits and a null mark, a text from what is shown
@@ -56,19 +58,30 @@ unfoldable pub changes : List ℕ → List ℕ → List ℕ → Values → ℕ �
 unfolding differsFrom
 changes w defaults edits v i d = differsFrom (getD (v .words) i 0) (getD (v .nulls) i false) (shownOf w defaults edits v i) d
 
+-- a stored text's mark has its length
+abbrev pub markFor : Datum → ℕ
+markFor d = length (textOf d) + 1
+
 -- attribute i holds another value from now on; a changed text is shown from the page of edits
 unfoldable pub setAt : List ℕ → Values → ℕ → Datum → Values
 setAt w v i d =
     record {
       words = set (v .words) i (wordFor d);
       nulls = set (v .nulls) i (isNull d);
-      edited = pick (isText d) (set (v .edited) i true) (v .edited);
+      texts = pick (isText d) (set (v .texts) (attributeRow w i .first) (markFor d)) (v .texts);
       versions = set (v .versions) (attributeRow w i .clusterIndex) (nextVersion (getD (v .versions) (attributeRow w i .clusterIndex) 0));
     }
 
 -- the page of edits then: exactly the text's bytes at its place; null writes nothing
 unfoldable pub editsSet : List ℕ → List ℕ → ℕ → Datum → List ℕ
 editsSet w edits i d = store edits (place (attributeRow w i .first)) (textOf d)
+
+-- what storing a text needs: a rank that there is, at most 200 bytes, and a place that the page has
+abbrev pub MarkFits : ℕ → Datum → Type 0
+MarkFits r d = isText d ≡ true → (r < textLimit) × (length (textOf d) ≤ textSize)
+
+abbrev pub TextFits : List ℕ → ℕ → Datum → Type 0
+TextFits edits r d = MarkFits r d × (isText d ≡ true → place r + textSize ≤ length edits)
 
 -- STORING a value: nothing moves unless it is a change
 unfoldable pub storedValues : List ℕ → List ℕ → List ℕ → Values → ℕ → Datum → Values

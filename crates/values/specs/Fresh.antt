@@ -4,12 +4,17 @@ use mathlib.Core.List.{List}
 use Prim.Native.Nat.{ℕ}
 use lib.ListN.{replicate}
 use Rattle.bounds.specs.Bounds.{clusterLimit, attributeLimit}
-use Rattle.schema.specs.Rows.{clusterRow, attributeRow, clusterCount, attributeCount, filled}
-use Rattle.node.specs.Attributes.{firstWord}
+use Rattle.schema.specs.Layout.{textLimit}
+use Rattle.tlv.specs.Octet.{pick}
+use Rattle.schema.specs.Rows.{AttributeRow, clusterRow, attributeRow, clusterCount, attributeCount, isText, filled}
 use Rattle.values.specs.declared.Values.{Values}
 
+-- a text's word is 0
+abbrev pub startWord : AttributeRow → ℕ
+startWord a = pick (isText a) 0 (a .first)
+
 abbrev pub firstWords : List ℕ → List ℕ
-firstWords w = filled 0 (λ i. firstWord w (attributeRow w i)) attributeLimit (attributeCount w)
+firstWords w = filled 0 (λ i. startWord (attributeRow w i)) attributeLimit (attributeCount w)
 
 abbrev pub firstVersions : List ℕ → List ℕ
 firstVersions w = filled 0 (λ i. clusterRow w i .version) clusterLimit (clusterCount w)
@@ -19,6 +24,6 @@ freshValues w =
     record {
       words = firstWords w;
       nulls = replicate attributeLimit false;
-      edited = replicate attributeLimit false;
+      texts = replicate textLimit 0;
       versions = firstVersions w;
     }

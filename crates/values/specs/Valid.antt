@@ -2,45 +2,56 @@
 -- their page and are valid UTF-8, a page of edits of its size.
 use mathlib.Core.Bool.{Bool, true, false, _&&_}
 use mathlib.Core.List.{List}
-use Prim.Native.Nat.{ℕ, _*_}
-use lib.Dec.{eqb}
+use Prim.Native.Nat.{ℕ, _+_, _*_}
+use lib.Dec.{eqb, leb}
 use lib.ListN.{length, getD}
+use Rattle.bounds.specs.Bounds.{textMax}
 use Rattle.tlv.specs.Octet.{pick}
 use Rattle.utf8.specs.WellFormed.{wellFormed}
 use Rattle.kinds.specs.Stored.{held}
 use Rattle.schema.specs.Layout.{textSize}
-use Rattle.schema.specs.Rows.{attributeRow, attributeCount, isText}
+use Rattle.schema.specs.Rows.{AttributeRow, attributeRow, attributeCount, isText}
 use Rattle.schema.specs.Check.{every, textCount}
 use Rattle.node.specs.Attributes.{kindOf}
 use Rattle.values.specs.declared.Values.{Values}
-use Rattle.values.specs.Values.{textAt}
+use Rattle.values.specs.Values.{rankText, rankLength, markAt}
 
--- a shown text lies in its page, whole, and is valid UTF-8
+-- the highest mark: that of a text of 200 bytes
+abbrev pub markMax : ℕ
+markMax = textMax + 1
+
+-- a shown text of n bytes, at most 200, lies in its page, whole, and is valid UTF-8
 unfoldable pub shownRight : List ℕ → ℕ → Bool
-shownRight shown word = eqb (length shown) word && wellFormed shown
+shownRight shown n = leb n textMax && (eqb (length shown) n && wellFormed shown)
 
--- attribute i, if it is a text and not null, shows a right one
-abbrev pub shownAt : List ℕ → List ℕ → List ℕ → ℕ → ℕ → Bool → Bool → Bool
-shownAt w defaults edits i word isNull edited =
-    pick isNull true (pick (isText (attributeRow w i)) (shownRight (textAt w defaults edits i word edited) word) true)
-
-unfoldable pub valueRight : List ℕ → List ℕ → List ℕ → ℕ → ℕ → Bool → Bool → Bool
+-- the text of a rank: its mark, and unless it is null what is shown
+unfoldable pub textRight : List ℕ → List ℕ → List ℕ → ℕ → Bool → ℕ → Bool
 unfolding shownRight
-valueRight w defaults edits i word isNull edited =
-    held (kindOf (attributeRow w i)) (eqb (attributeRow w i .nullable) 1) word isNull && shownAt w defaults edits i word isNull edited
+textRight w defaults edits r isNull mark = leb mark markMax && pick isNull true (shownRight (rankText w defaults edits r mark) (rankLength w r mark))
+
+-- attribute i, if it is a text, shows a right one
+abbrev pub shownAt : List ℕ → List ℕ → List ℕ → ℕ → Bool → ℕ → Bool
+shownAt w defaults edits i isNull mark = pick (isText (attributeRow w i)) (textRight w defaults edits (attributeRow w i .first) isNull mark) true
+
+-- the 64 bits of a value are such as its limits allow, and 0 of a text
+abbrev pub wordRight : AttributeRow → ℕ → Bool → Bool
+wordRight a word isNull = held (kindOf a) (eqb (a .nullable) 1) word isNull && pick (isText a) (eqb word 0) true
+
+unfoldable pub valueRight : List ℕ → List ℕ → List ℕ → ℕ → ℕ → Bool → ℕ → Bool
+unfolding textRight
+valueRight w defaults edits i word isNull mark = wordRight (attributeRow w i) word isNull && shownAt w defaults edits i isNull mark
 
 -- what is held by index, whatever the versions are
-abbrev pub heldRight : List ℕ → List ℕ → List ℕ → List ℕ → List Bool → List Bool → Bool
+abbrev pub heldRight : List ℕ → List ℕ → List ℕ → List ℕ → List Bool → List ℕ → Bool
 unfolding valueRight
-heldRight w defaults edits words nulls edited =
+heldRight w defaults edits words nulls texts =
     eqb (length edits) (textSize * textCount w)
-    && every (λ i. valueRight w defaults edits i (getD words i 0) (getD nulls i false) (getD edited i false)) (attributeCount w)
+    && every (λ i. valueRight w defaults edits i (getD words i 0) (getD nulls i false) (markAt w texts i)) (attributeCount w)
 
 -- the texts alone
-abbrev pub allShown : List ℕ → List ℕ → List ℕ → List ℕ → List Bool → List Bool → Bool
-allShown w defaults edits words nulls edited =
-    every (λ i. shownAt w defaults edits i (getD words i 0) (getD nulls i false) (getD edited i false)) (attributeCount w)
+abbrev pub allShown : List ℕ → List ℕ → List ℕ → List Bool → List ℕ → Bool
+allShown w defaults edits nulls texts = every (λ i. shownAt w defaults edits i (getD nulls i false) (markAt w texts i)) (attributeCount w)
 
 unfoldable pub valuesRight : List ℕ → List ℕ → List ℕ → Values → Bool
 unfolding valueRight
-valuesRight w defaults edits v = heldRight w defaults edits (v .words) (v .nulls) (v .edited)
+valuesRight w defaults edits v = heldRight w defaults edits (v .words) (v .nulls) (v .texts)

@@ -1,8 +1,8 @@
 -- What a sign holds (document 01, A sign's plan): the values of its attributes, read off the arrays.
-use mathlib.Core.Bool.{Bool, false, not}
+use mathlib.Core.Bool.{Bool, false, not, cond}
 use mathlib.Core.List.{List, []}
 use Prim.Native.Nat.{ℕ, _%_}
-use lib.Dec.{eqb}
+use lib.Dec.{eqb, ltb}
 use lib.ListN.{getD}
 use mir.Syntax.{w64}
 use mir.Val.{toZ}
@@ -12,20 +12,34 @@ use Rattle.tlv.specs.Value.{Datum, null, boolean, unsigned, signed, float, text
 use Rattle.kinds.specs.declared.Kind.{Kind}
 use Rattle.kinds.specs.Limits.{byKind}
 use Rattle.kinds.specs.Stored.{valueFrom}
-use Rattle.schema.specs.Layout.{half}
-use Rattle.schema.specs.Rows.{attributeRow, isText, factoryStart}
+use Rattle.schema.specs.Layout.{textLimit, half}
+use Rattle.schema.specs.Rows.{attributeRow, isText, factoryStart, factoryLength}
 use Rattle.node.specs.Attributes.{kindOf}
-use Rattle.node.specs.Pages.{shownText}
+use Rattle.node.specs.Pages.{shownLength, shownText}
 use Rattle.values.specs.declared.Values.{Values}
 
 -- the values, of arrays that are lent
-abbrev pub valuesOf : List ℕ → List Bool → List Bool → List ℕ → Values
-valuesOf words nulls edited versions = record { words = words; nulls = nulls; edited = edited; versions = versions }
+abbrev pub valuesOf : List ℕ → List Bool → List ℕ → List ℕ → Values
+valuesOf words nulls texts versions = record { words = words; nulls = nulls; texts = texts; versions = versions }
 
--- the shown text of attribute i, with the length and the mark that it is stored with: "that very part of one page or the other"
-unfoldable pub textAt : List ℕ → List ℕ → List ℕ → ℕ → ℕ → Bool → List ℕ
-textAt w defaults edits i word edited =
-    pick (isText (attributeRow w i)) (shownText defaults edits (factoryStart w (attributeRow w i .first)) (attributeRow w i .first) word edited) []
+-- the shown text of a rank, by its mark: "that very part of one page or the other"
+abbrev pub rankText : List ℕ → List ℕ → List ℕ → ℕ → ℕ → List ℕ
+rankText w defaults edits r mark = shownText defaults edits (factoryStart w r) (factoryLength w r) r mark
+
+abbrev pub rankLength : List ℕ → ℕ → ℕ → ℕ
+rankLength w r mark = shownLength (factoryLength w r) mark
+
+-- the mark of a rank; 0 where no text has the rank by the limit
+abbrev pub markOf : List ℕ → ℕ → ℕ
+markOf texts r = cond (ltb r textLimit) (getD texts r 0) 0
+
+-- that of attribute i, if it is a text, is its rank's
+abbrev pub markAt : List ℕ → List ℕ → ℕ → ℕ
+markAt w texts i = markOf texts (attributeRow w i .first)
+
+-- the shown text of attribute i with its mark; no other attribute has one
+unfoldable pub textAt : List ℕ → List ℕ → List ℕ → ℕ → ℕ → List ℕ
+textAt w defaults edits i mark = pick (isText (attributeRow w i)) (rankText w defaults edits (attributeRow w i .first) mark) []
 
 -- the value that 64 bits and a null mark are, of a kind; a text is what is shown
 unfoldable pub heldDatum : Kind → ℕ → Bool → List ℕ → Datum
@@ -35,7 +49,7 @@ heldDatum kind word isNull shown =
 
 -- what is shown of attribute i
 abbrev pub shownOf : List ℕ → List ℕ → List ℕ → Values → ℕ → List ℕ
-shownOf w defaults edits v i = textAt w defaults edits i (getD (v .words) i 0) (getD (v .edited) i false)
+shownOf w defaults edits v i = textAt w defaults edits i (markAt w (v .texts) i)
 
 -- THE VALUE of attribute i
 unfoldable pub datumAt : List ℕ → List ℕ → List ℕ → Values → ℕ → Datum

@@ -1,15 +1,14 @@
 // Storing a value: it moves nothing unless it differs from the one held.
 ghost use mathlib.Core.Path.{_≡_};
-ghost use mathlib.Core.Bool.{true};
 ghost use mathlib.Core.List.{List};
-ghost use Prim.Native.Nat.{ℕ, _<_, _+_, _≤_};
-ghost use lib.ListN.{length};
+ghost use Prim.Native.Nat.{ℕ, _<_};
+ghost use lib.ListN.{set};
 ghost use Rattle.bounds.specs.Bounds.{clusterLimit, attributeLimit};
+ghost use Rattle.tlv.specs.Octet.{pick};
 ghost use Rattle.tlv.specs.Value.{datumIn};
 ghost use Rattle.schema.specs.Rows.{attributeRow};
-ghost use Rattle.node.specs.Pages.{place};
-ghost use Rattle.values.specs.Values.{valuesOf, textAt};
-ghost use Rattle.values.specs.Change.{textOf, isText, wordFor, differsFrom, setAt, editsSet, storedValues, storedEdits};
+ghost use Rattle.values.specs.Values.{valuesOf, markAt, textAt};
+ghost use Rattle.values.specs.Change.{textOf, isText, wordFor, markFor, differsFrom, setAt, editsSet, MarkFits, TextFits, storedValues, storedEdits};
 use super::text_at;
 use bounds::ATTRIBUTES;
 use bounds::CLUSTERS;
@@ -19,6 +18,7 @@ use kinds::stored::same_bytes;
 use kinds::stored::word_of;
 use node::pages::part;
 use node::pages::store_text;
+use schema::TEXTS;
 use schema::WORDS;
 use tlv::Value;
 
@@ -41,13 +41,12 @@ pub fn is_text(v: Value) -> bool
     true
 }
 
-// The 64 bits that a value is stored as; a text has the bytes given.
-pub fn stored_word(v: Value, src: &[u8]) -> u64
-    ensures { λ r. ⌜ r ≡ wordFor (datumIn (now (src .entry)) v) ⌝ }
+// The 64 bits that a value is stored as; a text's are 0.
+pub fn stored_word(v: Value) -> u64
+    ensures { λ r. ⌜ ((s : List ℕ) → r ≡ wordFor (datumIn s v)) ⌝ }
 {
     if is_text(v) {
-        let bytes = bytes_of(v, src);
-        return bytes.len() as u64;
+        return 0;
     }
     word_of(v)
 }
@@ -66,7 +65,7 @@ pub fn differs_from<'a>(word: u64, null: bool, text: &'a [u8], v: Value, src: &'
     if is_text(v) {
         return !same_bytes(text, bytes_of(v, src));
     }
-    word != stored_word(v, src)
+    word != stored_word(v)
 }
 
 // Whether a value differs from what attribute i holds and shows.
@@ -77,15 +76,26 @@ fn differs_at<'a>(
     i: usize,
     word: u64,
     null: bool,
-    edited: bool,
+    texts: &'a [u16; TEXTS],
     new: Value,
     src: &'a [u8],
 ) -> bool
     requires { ⌜ i < attributeLimit ⌝ }
-    ensures { λ r. ⌜ r ≡ differsFrom word null (textAt (now (w .entry)) (now (defaults .entry)) (now (edits .entry)) i word edited) (datumIn (now (src .entry)) new) ⌝ }
+    ensures { λ r. ⌜ r ≡ differsFrom word null (textAt (now (w .entry)) (now (defaults .entry)) (now (edits .entry)) i (markAt (now (w .entry)) (now (texts .entry)) i)) (datumIn (now (src .entry)) new) ⌝ }
 {
-    let text = text_at(w, defaults, edits, i, word, edited);
+    let text = text_at(w, defaults, edits, i, texts);
     differs_from(word, null, text, new, src)
+}
+
+// Its mark, if it is a text.
+fn set_mark(texts: &mut [u16; TEXTS], rank: usize, new: Value, src: &[u8])
+    requires { ⌜ MarkFits rank (datumIn (now src) new) ⌝ }
+    ensures { λ _. ⌜ now (texts .exit) ≡ pick (isText (datumIn (now (src .entry)) new)) (set (now (texts .entry)) rank (markFor (datumIn (now (src .entry)) new))) (now (texts .entry)) ⌝ }
+{
+    if is_text(new) {
+        let bytes = bytes_of(new, src);
+        texts[rank] = bytes.len() as u16 + 1;
+    }
 }
 
 // Attribute i holds another value from now on.
@@ -93,27 +103,25 @@ pub fn set_value(
     w: &[u64; WORDS],
     words: &mut [u64; ATTRIBUTES],
     nulls: &mut [bool; ATTRIBUTES],
-    edited: &mut [bool; ATTRIBUTES],
+    texts: &mut [u16; TEXTS],
     versions: &mut [u32; CLUSTERS],
     i: usize,
     new: Value,
     src: &[u8],
 )
-    requires { ⌜ (i < attributeLimit) × (attributeRow (now w) i .clusterIndex < clusterLimit) ⌝ }
-    ensures { λ _. ⌜ valuesOf (now (words .exit)) (now (nulls .exit)) (now (edited .exit)) (now (versions .exit)) ≡ setAt (now (w .entry)) (valuesOf (now (words .entry)) (now (nulls .entry)) (now (edited .entry)) (now (versions .entry))) i (datumIn (now (src .entry)) new) ⌝ }
+    requires { ⌜ (i < attributeLimit) × (attributeRow (now w) i .clusterIndex < clusterLimit) × MarkFits (attributeRow (now w) i .first) (datumIn (now src) new) ⌝ }
+    ensures { λ _. ⌜ valuesOf (now (words .exit)) (now (nulls .exit)) (now (texts .exit)) (now (versions .exit)) ≡ setAt (now (w .entry)) (valuesOf (now (words .entry)) (now (nulls .entry)) (now (texts .entry)) (now (versions .entry))) i (datumIn (now (src .entry)) new) ⌝ }
 {
     let k = schema::attribute_cluster(w, i);
-    words[i] = stored_word(new, src);
+    words[i] = stored_word(new);
     nulls[i] = is_null(new);
-    if is_text(new) {
-        edited[i] = true;
-    }
+    set_mark(texts, schema::first_value(w, i) as usize, new, src);
     versions[k] = next_version(versions[k]);
 }
 
 // Its text, if it is one, goes to its place in the page of edits.
 pub fn set_text(w: &[u64; WORDS], edits: &mut [u8], i: usize, new: Value, src: &[u8])
-    requires { ⌜ (i < attributeLimit) × (isText (datumIn (now src) new) ≡ true → place (attributeRow (now w) i .first) + length (textOf (datumIn (now src) new)) ≤ length (now edits)) ⌝ }
+    requires { ⌜ (i < attributeLimit) × TextFits (now edits) (attributeRow (now w) i .first) (datumIn (now src) new) ⌝ }
     ensures { λ _. ⌜ now (edits .exit) ≡ editsSet (now (w .entry)) (now (edits .entry)) i (datumIn (now (src .entry)) new) ⌝ }
 {
     if is_text(new) {
@@ -129,27 +137,17 @@ pub fn store<'a>(
     edits: &mut [u8],
     words: &mut [u64; ATTRIBUTES],
     nulls: &mut [bool; ATTRIBUTES],
-    edited: &mut [bool; ATTRIBUTES],
+    texts: &mut [u16; TEXTS],
     versions: &mut [u32; CLUSTERS],
     i: usize,
     new: Value,
     src: &'a [u8],
 )
-    requires { ⌜ (i < attributeLimit) × (attributeRow (now w) i .clusterIndex < clusterLimit) × (isText (datumIn (now src) new) ≡ true → place (attributeRow (now w) i .first) + length (textOf (datumIn (now src) new)) ≤ length (now edits)) ⌝ }
-    ensures { λ _. ⌜ (valuesOf (now (words .exit)) (now (nulls .exit)) (now (edited .exit)) (now (versions .exit)) ≡ storedValues (now (w .entry)) (now (defaults .entry)) (now (edits .entry)) (valuesOf (now (words .entry)) (now (nulls .entry)) (now (edited .entry)) (now (versions .entry))) i (datumIn (now (src .entry)) new)) × (now (edits .exit) ≡ storedEdits (now (w .entry)) (now (defaults .entry)) (now (edits .entry)) (valuesOf (now (words .entry)) (now (nulls .entry)) (now (edited .entry)) (now (versions .entry))) i (datumIn (now (src .entry)) new)) ⌝ }
+    requires { ⌜ (i < attributeLimit) × (attributeRow (now w) i .clusterIndex < clusterLimit) × TextFits (now edits) (attributeRow (now w) i .first) (datumIn (now src) new) ⌝ }
+    ensures { λ _. ⌜ (valuesOf (now (words .exit)) (now (nulls .exit)) (now (texts .exit)) (now (versions .exit)) ≡ storedValues (now (w .entry)) (now (defaults .entry)) (now (edits .entry)) (valuesOf (now (words .entry)) (now (nulls .entry)) (now (texts .entry)) (now (versions .entry))) i (datumIn (now (src .entry)) new)) × (now (edits .exit) ≡ storedEdits (now (w .entry)) (now (defaults .entry)) (now (edits .entry)) (valuesOf (now (words .entry)) (now (nulls .entry)) (now (texts .entry)) (now (versions .entry))) i (datumIn (now (src .entry)) new)) ⌝ }
 {
-    if differs_at(
-        w,
-        defaults,
-        edits,
-        i,
-        words[i],
-        nulls[i],
-        edited[i],
-        new,
-        src,
-    ) {
+    if differs_at(w, defaults, edits, i, words[i], nulls[i], texts, new, src) {
         set_text(w, edits, i, new, src);
-        set_value(w, words, nulls, edited, versions, i, new, src);
+        set_value(w, words, nulls, texts, versions, i, new, src);
     }
 }

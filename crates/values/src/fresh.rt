@@ -1,13 +1,27 @@
 // What a fresh sign holds.
 ghost use mathlib.Core.Path.{_≡_};
 ghost use mathlib.Core.Bool.{true};
+ghost use Prim.Native.Nat.{_<_};
+ghost use Rattle.bounds.specs.Bounds.{attributeLimit};
+ghost use Rattle.schema.specs.Rows.{attributeRow};
 ghost use Rattle.schema.specs.Check.{wellFormed};
 ghost use Rattle.values.specs.Values.{valuesOf};
-ghost use Rattle.values.specs.Fresh.{firstWords, firstVersions, freshValues};
+ghost use Rattle.values.specs.Fresh.{startWord, firstWords, firstVersions, freshValues};
 use bounds::ATTRIBUTES;
 use bounds::CLUSTERS;
-use node::decode::first_word;
+use schema::TEXTS;
 use schema::WORDS;
+
+// What an attribute starts with; a text's word is 0.
+fn start_word(w: &[u64; WORDS], i: usize) -> u64
+    requires { ⌜ i < attributeLimit ⌝ }
+    ensures { λ r. ⌜ r ≡ startWord (attributeRow (now (w .entry)) i) ⌝ }
+{
+    if schema::is_text(w, i) {
+        return 0;
+    }
+    schema::first_value(w, i)
+}
 
 fn first_words(w: &[u64; WORDS]) -> [u64; ATTRIBUTES]
     ensures { λ r. ⌜ r ≡ firstWords (now (w .entry)) ⌝ }
@@ -16,7 +30,7 @@ fn first_words(w: &[u64; WORDS]) -> [u64; ATTRIBUTES]
     let mut words = [0u64; ATTRIBUTES];
     let mut i = 0;
     while i < n {
-        words[i] = first_word(w, i);
+        words[i] = start_word(w, i);
         i += 1;
     }
     words
@@ -41,14 +55,14 @@ pub fn fresh(
     w: &[u64; WORDS],
     words: &mut [u64; ATTRIBUTES],
     nulls: &mut [bool; ATTRIBUTES],
-    edited: &mut [bool; ATTRIBUTES],
+    texts: &mut [u16; TEXTS],
     versions: &mut [u32; CLUSTERS],
 )
     requires { ⌜ wellFormed (now w) ≡ true ⌝ }
-    ensures { λ _. ⌜ valuesOf (now (words .exit)) (now (nulls .exit)) (now (edited .exit)) (now (versions .exit)) ≡ freshValues (now (w .entry)) ⌝ }
+    ensures { λ _. ⌜ valuesOf (now (words .exit)) (now (nulls .exit)) (now (texts .exit)) (now (versions .exit)) ≡ freshValues (now (w .entry)) ⌝ }
 {
     *words = first_words(w);
     *nulls = [false; ATTRIBUTES];
-    *edited = [false; ATTRIBUTES];
+    *texts = [0u16; TEXTS];
     *versions = first_versions(w);
 }

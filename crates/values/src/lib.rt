@@ -2,12 +2,13 @@
 ghost use mathlib.Core.Path.{_≡_};
 ghost use Prim.Native.Nat.{_<_};
 ghost use Rattle.bounds.specs.Bounds.{attributeLimit};
-ghost use Rattle.values.specs.Values.{textAt, valueAt};
+ghost use Rattle.values.specs.Values.{rankText, markOf, markAt, textAt, valueAt};
 use bounds::ATTRIBUTES;
 use bounds::CLUSTERS;
 use kinds::stored::value_of;
 use node::decode::kind_of;
 use node::pages::shown;
+use schema::TEXTS;
 use schema::WORDS;
 use tlv::Value;
 
@@ -17,33 +18,53 @@ pub mod quick; // quick.rt: a quick test of values and pages
 pub mod valid; // valid.rt: whether values and pages keep the rules
 
 pub struct Values {
-    // Each attribute's value as 64 bits; of a text its length.
+    // Each attribute's value as 64 bits; of a text 0.
     pub words: [u64; ATTRIBUTES],
     pub nulls: [bool; ATTRIBUTES],
-    // Whether a text was changed: it is shown from the page of edits then.
-    pub edited: [bool; ATTRIBUTES],
+    // A mark for each text, by its rank: 0 never changed, shown from the page of defaults; n + 1 changed, n bytes of its place in the page of edits.
+    pub texts: [u16; TEXTS],
     // Each cluster's data version.
     pub versions: [u32; CLUSTERS],
 }
 
-// The shown text of attribute i, stored with this length and mark; empty if it is no text.
+// The mark of a rank; 0 where there is none.
+pub fn mark_of(texts: &[u16; TEXTS], rank: usize) -> u16
+    ensures { λ r. ⌜ r ≡ markOf (now (texts .entry)) rank ⌝ }
+{
+    if rank < TEXTS { texts[rank] } else { 0 }
+}
+
+// The shown text of a rank, by its mark.
+pub fn rank_text<'a>(
+    w: &'a [u64; WORDS],
+    defaults: &'a [u8],
+    edits: &'a [u8],
+    rank: usize,
+    mark: u16,
+) -> &'a [u8]
+    ensures { λ r. ⌜ now r ≡ rankText (now (w .entry)) (now (defaults .entry)) (now (edits .entry)) rank mark ⌝ }
+{
+    let start = schema::factory_start(w, rank);
+    let len = schema::factory_length(w, rank);
+    shown(defaults, edits, start, len, rank, mark)
+}
+
+// The shown text of attribute i; empty if it is no text.
 pub fn text_at<'a>(
     w: &'a [u64; WORDS],
     defaults: &'a [u8],
     edits: &'a [u8],
     i: usize,
-    word: u64,
-    edited: bool,
+    texts: &'a [u16; TEXTS],
 ) -> &'a [u8]
     requires { ⌜ i < attributeLimit ⌝ }
-    ensures { λ r. ⌜ now r ≡ textAt (now (w .entry)) (now (defaults .entry)) (now (edits .entry)) i word edited ⌝ }
+    ensures { λ r. ⌜ now r ≡ textAt (now (w .entry)) (now (defaults .entry)) (now (edits .entry)) i (markAt (now (w .entry)) (now (texts .entry)) i) ⌝ }
 {
     if !schema::is_text(w, i) {
         return &defaults[0..0];
     }
     let rank = schema::first_value(w, i) as usize;
-    let start = schema::factory_start(w, rank);
-    shown(defaults, edits, start, rank, word as usize, edited)
+    rank_text(w, defaults, edits, rank, mark_of(texts, rank))
 }
 
 // The value of attribute i; a text has len bytes at the start of its shown part.

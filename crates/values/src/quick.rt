@@ -5,9 +5,10 @@ ghost use mathlib.Core.Bool.{_&&_};
 ghost use Prim.Native.Nat.{_<_, _≤_, min};
 ghost use lib.Dec.{eqb};
 ghost use Rattle.bounds.specs.Bounds.{attributeLimit, textMax};
+ghost use Rattle.schema.specs.Layout.{textLimit};
 ghost use Rattle.schema.specs.Rows.{attributeRow};
 ghost use Rattle.schema.specs.Check.{every};
-ghost use Rattle.values.specs.Quick.{someMark, plainPage, near, nullAt, allQuick, quickRight};
+ghost use Rattle.values.specs.Quick.{someNull, someText, textRoom, plainPage, near, nullAt, allQuick, quickRight};
 use bounds::ATTRIBUTES;
 use bounds::TEXT_MAX;
 use node::held::limits_hold;
@@ -16,28 +17,53 @@ use schema::TEXTS;
 use schema::WORDS;
 
 // What the texts of a schema take at most: a longer page is not looked at as a whole.
-const PAGE: usize = ATTRIBUTES * TEXT_SIZE;
+const PAGE: usize = TEXTS * TEXT_SIZE;
 
-// Whether one of the first n marks is this one. No way out of the loop, so that it becomes vector code.
-pub fn some_mark(marks: &[bool; ATTRIBUTES], n: usize, mark: bool) -> bool
+// The highest mark: that of a text of TEXT_MAX bytes.
+pub const MARK_MAX: u16 = 201;
+
+// Whether one of the first n attributes is null. No way out of the loop, so that it becomes vector code.
+fn some_null(nulls: &[bool; ATTRIBUTES], n: usize) -> bool
     requires { ⌜ n ≤ attributeLimit ⌝ }
-    ensures { λ r. ⌜ r ≡ someMark (now (marks .entry)) mark n ⌝ }
+    ensures { λ r. ⌜ r ≡ someNull (now (nulls .entry)) n ⌝ }
 {
     let mut found = false;
     let mut i = 0;
     while i < n {
-        found = found | (marks[i] == mark);
+        found = found | nulls[i];
         i += 1;
     }
     found
 }
 
-// Whether no text has to be looked at in this page: none is shown from it (has this mark), or all of it is ASCII.
-fn is_plain<'a>(page: &'a [u8], marks: &'a [bool; ATTRIBUTES], n: usize, mark: bool) -> bool
-    requires { ⌜ n ≤ attributeLimit ⌝ }
-    ensures { λ r. ⌜ r ≡ plainPage (now (page .entry)) (now (marks .entry)) mark n ⌝ }
+// Whether one of the first n texts is shown from the page of defaults (factory), or from the page of edits.
+pub fn some_text(texts: &[u16; TEXTS], n: usize, factory: bool) -> bool
+    requires { ⌜ n ≤ textLimit ⌝ }
+    ensures { λ r. ⌜ r ≡ someText (now (texts .entry)) factory n ⌝ }
 {
-    if !some_mark(marks, n, mark) {
+    let mut found = false;
+    let mut i = 0;
+    while i < n {
+        found = found | ((texts[i] == 0) == factory);
+        i += 1;
+    }
+    found
+}
+
+// How many texts a page of edits of this size has room for.
+pub fn text_room(size: usize) -> usize
+    ensures { λ r. ⌜ r ≡ textRoom size ⌝ }
+{
+    let n = size / TEXT_SIZE;
+    if n < TEXTS { n } else { TEXTS }
+}
+
+// Whether no text has to be looked at in this page: none is shown from it, or all of it is ASCII.
+fn is_plain<'a>(page: &'a [u8], texts: &'a [u16; TEXTS], n: usize, factory: bool) -> bool
+    requires { ⌜ n ≤ textLimit ⌝ }
+    ensures { λ r. ⌜ r ≡ plainPage (now (page .entry)) (now (texts .entry)) factory n ⌝ }
+{
+    if !some_text(texts, n, factory) {
         return true;
     }
     if PAGE < page.len() {
@@ -46,7 +72,7 @@ fn is_plain<'a>(page: &'a [u8], marks: &'a [bool; ATTRIBUTES], n: usize, mark: b
     utf8::ascii(page)
 }
 
-// The longest text that is not looked at closely: what a page of len bytes can have.
+// The longest factory text that is not looked at closely: what a page of len bytes can have.
 fn longest(len: u64) -> u64
     ensures { λ r. ⌜ r ≡ min len textMax ⌝ }
 {
@@ -57,16 +83,19 @@ fn longest(len: u64) -> u64
     }
 }
 
-// Whether the page that a text is shown from has it, where a factory text starts at `low` of len bytes. `cap` is the longest text: given, since it is the
-// same for every row.
-fn is_near(low: u64, word: u64, edited: bool, len: u64, cap: u64) -> bool
+// Whether the page that a text is shown from has it, where its factory text has n bytes at `low` of a page of len bytes. `cap` is the longest factory text:
+// given, since it is the same for every row.
+fn is_near(low: u64, n: u64, mark: u16, len: u64, cap: u64) -> bool
     requires { ⌜ cap ≡ min len textMax ⌝ }
-    ensures { λ r. ⌜ r ≡ near low word edited len ⌝ }
+    ensures { λ r. ⌜ r ≡ near low n mark len ⌝ }
 {
-    if cap < word {
+    if mark != 0 {
+        return mark <= MARK_MAX;
+    }
+    if cap < n {
         return false;
     }
-    edited | (low <= len - word)
+    low <= len - n
 }
 
 // Whether what is stored of a null of attribute i is right: the attribute allows it, and its word is 0.
@@ -115,7 +144,7 @@ pub fn nulls_ok<'a>(
     requires { ⌜ n ≤ attributeLimit ⌝ }
     ensures { λ r. ⌜ r ≡ every (nullAt (now (w .entry)) (now (words .entry)) (now (nulls .entry))) n ⌝ }
 {
-    if !some_mark(nulls, n, true) {
+    if !some_null(nulls, n) {
         return true;
     }
     all_nulls(w, words, nulls, n)
@@ -127,11 +156,11 @@ pub fn all_quick<'a>(
     w: &'a [u64; WORDS],
     words: &'a [u64; ATTRIBUTES],
     nulls: &'a [bool; ATTRIBUTES],
-    edited: &'a [bool; ATTRIBUTES],
+    texts: &'a [u16; TEXTS],
     len: u64,
     size: usize,
 ) -> bool
-    ensures { λ r. ⌜ r ≡ allQuick (now (w .entry)) (now (words .entry)) (now (nulls .entry)) (now (edited .entry)) len size ⌝ }
+    ensures { λ r. ⌜ r ≡ allQuick (now (w .entry)) (now (words .entry)) (now (nulls .entry)) (now (texts .entry)) len size ⌝ }
 {
     let n = schema::attribute_count(w);
     let cap = longest(len);
@@ -145,8 +174,12 @@ pub fn all_quick<'a>(
             if TEXTS <= rank {
                 return false;
             }
-            let start = schema::factory_start(w, rank) as u64;
-            if !is_near(start, words[i], edited[i], len, cap) {
+            if words[i] != 0 {
+                return false;
+            }
+            let low = schema::factory_start(w, rank) as u64;
+            let long = schema::factory_length(w, rank) as u64;
+            if !is_near(low, long, texts[rank], len, cap) {
                 return false;
             }
             rank += 1;
@@ -168,19 +201,20 @@ pub fn is_quick<'a>(
     edits: &'a [u8],
     words: &'a [u64; ATTRIBUTES],
     nulls: &'a [bool; ATTRIBUTES],
-    edited: &'a [bool; ATTRIBUTES],
+    texts: &'a [u16; TEXTS],
 ) -> bool
-    ensures { λ r. ⌜ r ≡ quickRight (now (w .entry)) (now (defaults .entry)) (now (edits .entry)) (now (words .entry)) (now (nulls .entry)) (now (edited .entry)) ⌝ }
+    ensures { λ r. ⌜ r ≡ quickRight (now (w .entry)) (now (defaults .entry)) (now (edits .entry)) (now (words .entry)) (now (nulls .entry)) (now (texts .entry)) ⌝ }
 {
     let n = schema::attribute_count(w);
     if !nulls_ok(w, words, nulls, n) {
         return false;
     }
-    if !is_plain(defaults, edited, n, false) {
+    let shown = text_room(edits.len());
+    if !is_plain(defaults, texts, shown, true) {
         return false;
     }
-    if !is_plain(edits, edited, n, true) {
+    if !is_plain(edits, texts, shown, false) {
         return false;
     }
-    all_quick(w, words, nulls, edited, defaults.len() as u64, edits.len())
+    all_quick(w, words, nulls, texts, defaults.len() as u64, edits.len())
 }

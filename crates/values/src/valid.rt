@@ -7,27 +7,33 @@ ghost use lib.Dec.{leb};
 ghost use lib.ListN.{length, take, drop};
 ghost use Rattle.bounds.specs.Bounds.{attributeLimit};
 ghost use Rattle.utf8.specs.WellFormed.{wellFormed};
+ghost use Rattle.schema.specs.Layout.{textLimit};
 ghost use Rattle.schema.specs.Check.{ranksRight};
 ghost use Rattle.node.specs.Check.{numbersRight};
+ghost use Rattle.values.specs.Values.{markAt, rankText, rankLength};
 ghost use Rattle.values.specs.Valid.{shownRight, shownAt, allShown, heldRight};
-ghost use Rattle.values.specs.Quick.{someMark};
+ghost use Rattle.values.specs.Quick.{someText};
+use super::mark_of;
+use super::quick::MARK_MAX;
 use super::quick::all_quick;
 use super::quick::is_quick;
 use super::quick::nulls_ok;
-use super::quick::some_mark;
-use super::text_at;
+use super::quick::some_text;
+use super::quick::text_room;
+use super::rank_text;
 use bounds::ATTRIBUTES;
 use bounds::TEXT_MAX;
 use node::pages::part;
+use schema::TEXTS;
 use schema::WORDS;
 
-// Whether the factory page is valid UTF-8 as a whole. It is asked only where a text is shown from it (one of the first n marks is false), and where it is no
-// longer than the limit.
-fn whole_page<'a>(page: &'a [u8], marks: &'a [bool; ATTRIBUTES], n: usize, limit: usize) -> bool
-    requires { ⌜ n ≤ attributeLimit ⌝ }
-    ensures { λ r. ⌜ r ≡ (someMark (now (marks .entry)) false n && (leb (length (now (page .entry))) limit && wellFormed (now (page .entry)))) ⌝ }
+// Whether the factory page is valid UTF-8 as a whole. It is asked only where one of the first n texts is shown from it, and where it is no longer than the
+// limit.
+fn whole_page<'a>(page: &'a [u8], texts: &'a [u16; TEXTS], n: usize, limit: usize) -> bool
+    requires { ⌜ n ≤ textLimit ⌝ }
+    ensures { λ r. ⌜ r ≡ (someText (now (texts .entry)) true n && (leb (length (now (page .entry))) limit && wellFormed (now (page .entry)))) ⌝ }
 {
-    if !some_mark(marks, n, false) {
+    if !some_text(texts, n, true) {
         return false;
     }
     if limit < page.len() {
@@ -36,11 +42,14 @@ fn whole_page<'a>(page: &'a [u8], marks: &'a [bool; ATTRIBUTES], n: usize, limit
     utf8::valid(page)
 }
 
-// A text of a valid page lies in it, whole, and is valid UTF-8 itself: it is cut at boundaries.
+// A text of a valid page, at most TEXT_MAX bytes, lies in it, whole, and is valid UTF-8 itself: it is cut at boundaries.
 fn cut_ok(page: &[u8], start: usize, len: usize) -> bool
     requires { ⌜ wellFormed (now page) ≡ true ⌝ }
     ensures { λ r. ⌜ r ≡ shownRight (take len (drop start (now (page .entry)))) len ⌝ }
 {
+    if TEXT_MAX < len {
+        return false;
+    }
     let text = part(page, start, len);
     if text.len() != len {
         return false;
@@ -48,42 +57,70 @@ fn cut_ok(page: &[u8], start: usize, len: usize) -> bool
     utf8::is_cut_well(page, start, len)
 }
 
-// A shown text lies in its page, whole, and is valid UTF-8.
-fn shown_ok(text: &[u8], word: u64) -> bool
-    ensures { λ r. ⌜ r ≡ shownRight (now (text .entry)) word ⌝ }
+// A shown text of n bytes, at most TEXT_MAX, lies in its page, whole, and is valid UTF-8.
+fn shown_ok(text: &[u8], n: usize) -> bool
+    ensures { λ r. ⌜ r ≡ shownRight (now (text .entry)) n ⌝ }
 {
-    if text.len() as u64 != word {
+    if TEXT_MAX < n {
+        return false;
+    }
+    if text.len() != n {
         return false;
     }
     utf8::valid(text)
 }
 
-// The text that attribute i shows, if it is a text and not null. `whole` says that the factory page is valid as a whole. An edited text is always judged by
-// itself: in its page what is left of an earlier, longer text may begin inside a sequence.
+// The text of a rank that is not null. `whole` says that the factory page is valid as a whole. A changed text is always judged by itself: in its page what is
+// left of an earlier, longer text may begin inside a sequence.
+fn rank_ok<'a>(
+    w: &'a [u64; WORDS],
+    defaults: &'a [u8],
+    edits: &'a [u8],
+    whole: bool,
+    rank: usize,
+    mark: u16,
+) -> bool
+    requires { ⌜ (whole ≡ true → wellFormed (now defaults) ≡ true) ⌝ }
+    ensures { λ r. ⌜ r ≡ shownRight (rankText (now (w .entry)) (now (defaults .entry)) (now (edits .entry)) rank mark) (rankLength (now (w .entry)) rank mark) ⌝ }
+{
+    if mark != 0 {
+        return shown_ok(
+            rank_text(w, defaults, edits, rank, mark),
+            (mark - 1) as usize,
+        );
+    }
+    let len = schema::factory_length(w, rank);
+    if whole {
+        return cut_ok(defaults, schema::factory_start(w, rank), len);
+    }
+    shown_ok(rank_text(w, defaults, edits, rank, mark), len)
+}
+
+// The mark of attribute i, if it is a text, and what it shows, if it is not null.
 fn text_ok<'a>(
     w: &'a [u64; WORDS],
     defaults: &'a [u8],
     edits: &'a [u8],
     whole: bool,
     i: usize,
-    word: u64,
     null: bool,
-    edited: bool,
+    texts: &'a [u16; TEXTS],
 ) -> bool
     requires { ⌜ (i < attributeLimit) × (whole ≡ true → wellFormed (now defaults) ≡ true) ⌝ }
-    ensures { λ r. ⌜ r ≡ shownAt (now (w .entry)) (now (defaults .entry)) (now (edits .entry)) i word null edited ⌝ }
+    ensures { λ r. ⌜ r ≡ shownAt (now (w .entry)) (now (defaults .entry)) (now (edits .entry)) i null (markAt (now (w .entry)) (now (texts .entry)) i) ⌝ }
 {
-    if null {
-        return true;
-    }
     if !schema::is_text(w, i) {
         return true;
     }
-    if whole & !edited {
-        let start = schema::factory_start(w, schema::first_value(w, i) as usize);
-        return cut_ok(defaults, start, word as usize);
+    let rank = schema::first_value(w, i) as usize;
+    let mark = mark_of(texts, rank);
+    if MARK_MAX < mark {
+        return false;
     }
-    shown_ok(text_at(w, defaults, edits, i, word, edited), word)
+    if null {
+        return true;
+    }
+    rank_ok(w, defaults, edits, whole, rank, mark)
 }
 
 // Every shown text.
@@ -92,17 +129,16 @@ fn all_texts<'a>(
     defaults: &'a [u8],
     edits: &'a [u8],
     whole: bool,
-    words: &'a [u64; ATTRIBUTES],
     nulls: &'a [bool; ATTRIBUTES],
-    edited: &'a [bool; ATTRIBUTES],
+    texts: &'a [u16; TEXTS],
 ) -> bool
     requires { ⌜ (whole ≡ true → wellFormed (now defaults) ≡ true) ⌝ }
-    ensures { λ r. ⌜ r ≡ allShown (now (w .entry)) (now (defaults .entry)) (now (edits .entry)) (now (words .entry)) (now (nulls .entry)) (now (edited .entry)) ⌝ }
+    ensures { λ r. ⌜ r ≡ allShown (now (w .entry)) (now (defaults .entry)) (now (edits .entry)) (now (nulls .entry)) (now (texts .entry)) ⌝ }
 {
     let n = schema::attribute_count(w);
     let mut i = 0;
     while i < n {
-        if !text_ok(w, defaults, edits, whole, i, words[i], nulls[i], edited[i]) {
+        if !text_ok(w, defaults, edits, whole, i, nulls[i], texts) {
             return false;
         }
         i += 1;
@@ -110,29 +146,29 @@ fn all_texts<'a>(
     true
 }
 
-// The same as `values_ok`, looked at closely. The rows are those of the quick test, but with every text taken for an edited one of a full page: then nothing
-// but its length is compared, and the rows are judged exactly.
+// The same as `values_ok`, looked at closely. The rows are those of the quick test, but with every text taken for a changed one of no bytes: then nothing of
+// what is shown is compared, and the rows are judged exactly.
 fn all_right<'a>(
     w: &'a [u64; WORDS],
     defaults: &'a [u8],
     edits: &'a [u8],
     words: &'a [u64; ATTRIBUTES],
     nulls: &'a [bool; ATTRIBUTES],
-    edited: &'a [bool; ATTRIBUTES],
+    texts: &'a [u16; TEXTS],
 ) -> bool
-    ensures { λ r. ⌜ r ≡ (ranksRight (now (w .entry)) && (numbersRight (now (w .entry)) && heldRight (now (w .entry)) (now (defaults .entry)) (now (edits .entry)) (now (words .entry)) (now (nulls .entry)) (now (edited .entry)))) ⌝ }
+    ensures { λ r. ⌜ r ≡ (ranksRight (now (w .entry)) && (numbersRight (now (w .entry)) && heldRight (now (w .entry)) (now (defaults .entry)) (now (edits .entry)) (now (words .entry)) (now (nulls .entry)) (now (texts .entry)))) ⌝ }
 {
     let n = schema::attribute_count(w);
     if !nulls_ok(w, words, nulls, n) {
         return false;
     }
-    let all = [true; ATTRIBUTES];
-    if !all_quick(w, words, nulls, &all, TEXT_MAX as u64, edits.len()) {
+    let all = [1u16; TEXTS];
+    if !all_quick(w, words, nulls, &all, 0, edits.len()) {
         return false;
     }
     // By now the page of edits is known to have 200 bytes for each text.
-    let whole = whole_page(defaults, edited, n, edits.len());
-    all_texts(w, defaults, edits, whole, words, nulls, edited)
+    let whole = whole_page(defaults, texts, text_room(edits.len()), edits.len());
+    all_texts(w, defaults, edits, whole, nulls, texts)
 }
 
 // The ranks of the schema's texts, its first numbers, and all that is held: what no other test of a sign looks at.
@@ -142,12 +178,12 @@ pub fn values_ok<'a>(
     edits: &'a [u8],
     words: &'a [u64; ATTRIBUTES],
     nulls: &'a [bool; ATTRIBUTES],
-    edited: &'a [bool; ATTRIBUTES],
+    texts: &'a [u16; TEXTS],
 ) -> bool
-    ensures { λ r. ⌜ r ≡ (ranksRight (now (w .entry)) && (numbersRight (now (w .entry)) && heldRight (now (w .entry)) (now (defaults .entry)) (now (edits .entry)) (now (words .entry)) (now (nulls .entry)) (now (edited .entry)))) ⌝ }
+    ensures { λ r. ⌜ r ≡ (ranksRight (now (w .entry)) && (numbersRight (now (w .entry)) && heldRight (now (w .entry)) (now (defaults .entry)) (now (edits .entry)) (now (words .entry)) (now (nulls .entry)) (now (texts .entry)))) ⌝ }
 {
-    if is_quick(w, defaults, edits, words, nulls, edited) {
+    if is_quick(w, defaults, edits, words, nulls, texts) {
         return true;
     }
-    all_right(w, defaults, edits, words, nulls, edited)
+    all_right(w, defaults, edits, words, nulls, texts)
 }

@@ -5,7 +5,6 @@ use mathlib.Core.List.{List, [], _∷_}
 use Prim.Native.Nat.{ℕ, _<_}
 use lib.Dec.{eqb}
 use lib.ListN.{length}
-use Rattle.octets.proofs.StoreLaws.{length-store}
 use Rattle.tlv.specs.declared.Value.{Value}
 use Rattle.tlv.specs.Value.{Datum, datumIn}
 use Rattle.interaction_write.specs.declared.Entry.{Entry}
@@ -17,13 +16,12 @@ use Rattle.schema.specs.Rules.{Rules}
 use Rattle.schema.proofs.BoolLaws.{by-test}
 use Rattle.acl.specs.declared.Grants.{Grants}
 use Rattle.node.specs.Attributes.{kindOf}
-use Rattle.node.specs.Pages.{place}
 use Rattle.values.specs.declared.Values.{Values}
-use Rattle.values.specs.Change.{textOf, changes, editsSet, storedEdits}
+use Rattle.values.specs.Change.{changes, storedEdits}
 use Rattle.values.specs.Valid.{valuesRight}
 use Rattle.values.proofs.AcceptedLaws.{accepted}
 use Rattle.values.proofs.ValidLaws.{Whole}
-use Rattle.values.proofs.StoreLaws.{Storing, store-keeps, whole-kept}
+use Rattle.values.proofs.StoreLaws.{Storing, edits-length, store-keeps, whole-kept}
 use Rattle.selection.specs.declared.locate.Located.{Located}
 use Rattle.selection.specs.declared.locate.Located.the-variants.{Here, Refused}
 use Rattle.selection.specs.Locate.{located}
@@ -57,9 +55,8 @@ module _ (P : Held → Type 0) (w defaults : List ℕ) where
 -- ---- the page of edits keeps its length
 
 stored-length : (w defaults edits : List ℕ) (v : Values) (i : ℕ) (d : Datum) → length (storedEdits w defaults edits v i d) ≡ length edits
-unfolding storedEdits editsSet
-stored-length w defaults edits v i d =
-    by-test (changes w defaults edits v i d) (λ c. rw c (length-store edits (place (attributeRow w i .first)) (textOf d))) (λ c. rw c)
+unfolding storedEdits
+stored-length w defaults edits v i d = by-test (changes w defaults edits v i d) (λ c. rw c (edits-length w edits i d)) (λ c. rw c)
 
 module _ (w defaults : List ℕ) where
   -- what is held has a page of this length

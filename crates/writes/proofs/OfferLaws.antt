@@ -14,15 +14,15 @@ use Rattle.kinds.specs.declared.Kind.{Kind}
 use Rattle.kinds.specs.declared.Verdict.{Verdict}
 use Rattle.kinds.specs.declared.Verdict.the-variants.{Success}
 use Rattle.kinds.specs.Limits.{judgedIn}
-use Rattle.schema.specs.Layout.{textSize}
+use Rattle.schema.specs.Layout.{textLimit, textSize}
 use Rattle.schema.specs.Rows.{attributeRow, attributeCount}
 use Rattle.schema.specs.Check.{textCount}
 use Rattle.schema.specs.Rules.{Rules}
 use Rattle.schema.proofs.PathLaws.{cluster-there}
+use Rattle.schema.proofs.TextLaws.{text-inside}
 use Rattle.node.specs.Attributes.{kindOf}
 use Rattle.node.specs.Pages.{place}
-use Rattle.node.proofs.TextLaws.{place-fits}
-use Rattle.values.specs.Change.{textOf, isText}
+use Rattle.values.specs.Change.{textOf, isText, TextFits}
 use Rattle.values.proofs.ValueLaws.{textual, text-row}
 use Rattle.values.proofs.AcceptedLaws.{text-kind, bytes-judged}
 use Rattle.writes.specs.Offer.{Held, byVerdict, storedIn, verdictOn, offered}
@@ -42,18 +42,25 @@ module _ (w : List ℕ) (rules : Rules w) (i : ℕ) (there : i < attributeCount 
   cluster-room = omega (arith, cluster-there w rules i there)
 
   module _ (src edits : List ℕ) (size : length edits ≡ textSize * textCount w) where
-    room : (a n : ℕ) → verdictOn w i src (value.Text a n) ≡ Success → place (attributeRow w i .first) + length (textOf (datumIn src (value.Text a n))) ≤ length edits
+    abbrev Room : Value → Type 0
+    Room new = ((attributeRow w i .first < textLimit) × (length (textOf (datumIn src new)) ≤ textSize)) × (place (attributeRow w i .first) + textSize ≤ length edits)
+
+    room : (a n : ℕ) → verdictOn w i src (value.Text a n) ≡ Success → Room (value.Text a n)
     room a n h =
         let k = kindOf (attributeRow w i) in
         let nullable = eqb (attributeRow w i .nullable) 1 in
         let t = text-row (attributeRow w i) ∙ ap textual (text-kind src nullable k a n h) in
-        omega (arith, size, place-fits w rules i (length (textOf (datumIn src (value.Text a n)))) (there, t) (bytes-judged src nullable k (value.Text a n) h .0))
+        let r = text-inside w rules i there t in
+        ((omega (arith, r, rules .textNumber), bytes-judged src nullable k (value.Text a n) h .0), omega (arith, size, r))
 
-    pub text-room : (new : Value) → verdictOn w i src new ≡ Success → isText (datumIn src new) ≡ true → place (attributeRow w i .first) + length (textOf (datumIn src new)) ≤ length edits
-    text-room value.Null h t = absurd (true≢false (sym t))
-    text-room (value.Boolean b) h t = absurd (true≢false (sym t))
-    text-room (value.Unsigned n) h t = absurd (true≢false (sym t))
-    text-room (value.Signed z) h t = absurd (true≢false (sym t))
-    text-room (value.Float n) h t = absurd (true≢false (sym t))
-    text-room (value.Text a n) h t = room a n h
-    text-room value.Other h t = absurd (true≢false (sym t))
+    some-room : (new : Value) → verdictOn w i src new ≡ Success → isText (datumIn src new) ≡ true → Room new
+    some-room value.Null h t = absurd (true≢false (sym t))
+    some-room (value.Boolean b) h t = absurd (true≢false (sym t))
+    some-room (value.Unsigned n) h t = absurd (true≢false (sym t))
+    some-room (value.Signed z) h t = absurd (true≢false (sym t))
+    some-room (value.Float n) h t = absurd (true≢false (sym t))
+    some-room (value.Text a n) h t = room a n h
+    some-room value.Other h t = absurd (true≢false (sym t))
+
+    pub text-room : (new : Value) → verdictOn w i src new ≡ Success → TextFits edits (attributeRow w i .first) (datumIn src new)
+    text-room new h = (λ t. some-room new h t .0, λ t. some-room new h t .1)

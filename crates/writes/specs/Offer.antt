@@ -23,8 +23,8 @@ pub record Held : Type 0 where
   pub edits : List ℕ
 
 -- the same, of arrays that are lent
-abbrev pub heldOf : List ℕ → List Bool → List Bool → List ℕ → List ℕ → Held
-heldOf words nulls edited versions edits = record { values = valuesOf words nulls edited versions; edits = edits }
+abbrev pub heldOf : List ℕ → List Bool → List ℕ → List ℕ → List ℕ → Held
+heldOf words nulls texts versions edits = record { values = valuesOf words nulls texts versions; edits = edits }
 
 -- the status that a value gets, and what is held afterwards
 pub record Outcome : Type 0 where

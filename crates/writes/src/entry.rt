@@ -17,6 +17,7 @@ use bounds::CLUSTERS;
 use bounds::MAX_WRITES;
 use interaction_write::Entry;
 use members::ABSENT;
+use schema::TEXTS;
 use schema::WORDS;
 use selection::DATA_VERSION_MISMATCH;
 use selection::locate::Located;
@@ -76,13 +77,13 @@ fn write_entry<'a>(
     edits: &mut [u8],
     words: &mut [u64; ATTRIBUTES],
     nulls: &mut [bool; ATTRIBUTES],
-    edited: &mut [bool; ATTRIBUTES],
+    texts: &mut [u16; TEXTS],
     versions: &mut [u32; CLUSTERS],
     x: Entry,
     s: &'a [u8],
 ) -> u8
     requires { ⌜ (wellFormed (now w) ≡ true) × (InWidth x × (length (now edits) ≡ textSize * textCount (now w))) ⌝ }
-    ensures { λ r. ⌜ record { code = r; held = heldOf (now (words .exit)) (now (nulls .exit)) (now (edited .exit)) (now (versions .exit)) (now (edits .exit)) } ≡ entryWritten (now (w .entry)) g (now (defaults .entry)) (now (s .entry)) (heldOf (now (words .entry)) (now (nulls .entry)) (now (edited .entry)) (now (versions .entry)) (now (edits .entry))) x ⌝ }
+    ensures { λ r. ⌜ record { code = r; held = heldOf (now (words .exit)) (now (nulls .exit)) (now (texts .exit)) (now (versions .exit)) (now (edits .exit)) } ≡ entryWritten (now (w .entry)) g (now (defaults .entry)) (now (s .entry)) (heldOf (now (words .entry)) (now (nulls .entry)) (now (texts .entry)) (now (versions .entry)) (now (edits .entry))) x ⌝ }
 {
     match may_write(w, g, versions, x) {
         Located::Here(i) => offer(
@@ -91,7 +92,7 @@ fn write_entry<'a>(
             edits,
             words,
             nulls,
-            edited,
+            texts,
             versions,
             i,
             value_in(s, x.place),
@@ -109,20 +110,20 @@ pub fn write_all<'a>(
     edits: &mut [u8],
     words: &mut [u64; ATTRIBUTES],
     nulls: &mut [bool; ATTRIBUTES],
-    edited: &mut [bool; ATTRIBUTES],
+    texts: &mut [u16; TEXTS],
     versions: &mut [u32; CLUSTERS],
     entries: [Entry; MAX_WRITES],
     n: usize,
     s: &'a [u8],
 ) -> [u8; MAX_WRITES]
     requires { ⌜ (wellFormed (now w) ≡ true) × ((n ≤ maxWrites) × (((i : ℕ) → i < n → InWidth (getD entries i noEntry)) × (length (now edits) ≡ textSize * textCount (now w)))) ⌝ }
-    ensures { λ r. ⌜ (heldOf (now (words .exit)) (now (nulls .exit)) (now (edited .exit)) (now (versions .exit)) (now (edits .exit)) ≡ heldAfter (now (w .entry)) g (now (defaults .entry)) (now (s .entry)) (heldOf (now (words .entry)) (now (nulls .entry)) (now (edited .entry)) (now (versions .entry)) (now (edits .entry))) (take n entries)) × (r ≡ codesIn (codesOf (now (w .entry)) g (now (defaults .entry)) (now (s .entry)) (heldOf (now (words .entry)) (now (nulls .entry)) (now (edited .entry)) (now (versions .entry)) (now (edits .entry))) (take n entries))) ⌝ }
+    ensures { λ r. ⌜ (heldOf (now (words .exit)) (now (nulls .exit)) (now (texts .exit)) (now (versions .exit)) (now (edits .exit)) ≡ heldAfter (now (w .entry)) g (now (defaults .entry)) (now (s .entry)) (heldOf (now (words .entry)) (now (nulls .entry)) (now (texts .entry)) (now (versions .entry)) (now (edits .entry))) (take n entries)) × (r ≡ codesIn (codesOf (now (w .entry)) g (now (defaults .entry)) (now (s .entry)) (heldOf (now (words .entry)) (now (nulls .entry)) (now (texts .entry)) (now (versions .entry)) (now (edits .entry))) (take n entries))) ⌝ }
 {
     let mut codes = [0u8; MAX_WRITES];
     let mut i = 0;
     while i < n {
         let x = entries[i];
-        codes[i] = write_entry(w, g, defaults, edits, words, nulls, edited, versions, x, s);
+        codes[i] = write_entry(w, g, defaults, edits, words, nulls, texts, versions, x, s);
         i += 1;
     }
     codes

@@ -13,6 +13,7 @@ use kinds::Verdict;
 use kinds::limits::judge;
 use kinds::limits::status_code;
 use node::decode::kind_of;
+use schema::TEXTS;
 use schema::WORDS;
 use selection::locate::Located;
 use selection::locate::locate;
@@ -29,14 +30,14 @@ pub fn offer<'a>(
     edits: &mut [u8],
     words: &mut [u64; ATTRIBUTES],
     nulls: &mut [bool; ATTRIBUTES],
-    edited: &mut [bool; ATTRIBUTES],
+    texts: &mut [u16; TEXTS],
     versions: &mut [u32; CLUSTERS],
     i: usize,
     new: Value,
     src: &'a [u8],
 ) -> u8
     requires { ⌜ (wellFormed (now w) ≡ true) × ((i < attributeCount (now w)) × (length (now edits) ≡ textSize * textCount (now w))) ⌝ }
-    ensures { λ r. ⌜ record { code = r; held = heldOf (now (words .exit)) (now (nulls .exit)) (now (edited .exit)) (now (versions .exit)) (now (edits .exit)) } ≡ offered (now (w .entry)) (now (defaults .entry)) (heldOf (now (words .entry)) (now (nulls .entry)) (now (edited .entry)) (now (versions .entry)) (now (edits .entry))) i (now (src .entry)) new ⌝ }
+    ensures { λ r. ⌜ record { code = r; held = heldOf (now (words .exit)) (now (nulls .exit)) (now (texts .exit)) (now (versions .exit)) (now (edits .exit)) } ≡ offered (now (w .entry)) (now (defaults .entry)) (heldOf (now (words .entry)) (now (nulls .entry)) (now (texts .entry)) (now (versions .entry)) (now (edits .entry))) i (now (src .entry)) new ⌝ }
 {
     let verdict = judge(kind_of(w, i), schema::is_nullable(w, i), new, src);
     match verdict {
@@ -47,7 +48,7 @@ pub fn offer<'a>(
                 edits,
                 words,
                 nulls,
-                edited,
+                texts,
                 versions,
                 i,
                 new,
@@ -67,7 +68,7 @@ pub fn change<'a>(
     edits: &mut [u8],
     words: &mut [u64; ATTRIBUTES],
     nulls: &mut [bool; ATTRIBUTES],
-    edited: &mut [bool; ATTRIBUTES],
+    texts: &mut [u16; TEXTS],
     versions: &mut [u32; CLUSTERS],
     endpoint: u16,
     cluster: u32,
@@ -76,7 +77,7 @@ pub fn change<'a>(
     src: &'a [u8],
 ) -> u8
     requires { ⌜ (wellFormed (now w) ≡ true) × (length (now edits) ≡ textSize * textCount (now w)) ⌝ }
-    ensures { λ r. ⌜ record { code = r; held = heldOf (now (words .exit)) (now (nulls .exit)) (now (edited .exit)) (now (versions .exit)) (now (edits .exit)) } ≡ changed (now (w .entry)) (now (defaults .entry)) (heldOf (now (words .entry)) (now (nulls .entry)) (now (edited .entry)) (now (versions .entry)) (now (edits .entry))) endpoint cluster attribute (now (src .entry)) new ⌝ }
+    ensures { λ r. ⌜ record { code = r; held = heldOf (now (words .exit)) (now (nulls .exit)) (now (texts .exit)) (now (versions .exit)) (now (edits .exit)) } ≡ changed (now (w .entry)) (now (defaults .entry)) (heldOf (now (words .entry)) (now (nulls .entry)) (now (texts .entry)) (now (versions .entry)) (now (edits .entry))) endpoint cluster attribute (now (src .entry)) new ⌝ }
 {
     match locate(w, endpoint, cluster, attribute) {
         Located::Here(i) => offer(
@@ -85,7 +86,7 @@ pub fn change<'a>(
             edits,
             words,
             nulls,
-            edited,
+            texts,
             versions,
             i,
             new,

@@ -1,9 +1,9 @@
 use mathlib.Core.Path.{_≡_, sym, _∙_}
 use mathlib.Core.Bool.{true, false}
+use borrow.Author.Needs.{needs}
 use borrow.Author.Tests.{not-true, not-false}
 use Rattle.schema.specs.Rows.{attributeRow, isText}
 use Rattle.values.specs.Values.{textAt}
-use borrow.Author.Needs.{needs}
 use Rattle.values.proofs.text_at.Statement.{statement}
 use Rattle.values.proofs.text_at.Tie as tie
 
@@ -21,21 +21,26 @@ part-result-end c = search needs
 
 returns : tie.Need-returns
 unfolding textAt
-returns c = let t : isText (attributeRow (c .before .before .before .before .before .args .w .now) (c .before .before .before .before .before .args .i)) ≡ false = sym (c .before .before .is-text .ensures) ∙ not-true _ (c .before .if1 .taken) in rw t
+returns c =
+    let a = c .before .before .before .before .before .args in
+    let t : isText (attributeRow (a .w .now) (a .i)) ≡ false = sym (c .before .before .is-text .ensures) ∙ not-true _ (c .before .if1 .taken) in
+    rw t
 
 first-value-requires : tie.Need-first-value-requires
 first-value-requires c κs = search needs
 
-factory-start-requires : tie.Need-factory-start-requires
-factory-start-requires c κs = search needs
+mark-of-requires : tie.Need-mark-of-requires
+mark-of-requires c κs = search needs
 
-shown-requires : tie.Need-shown-requires
-shown-requires c κs = search needs
+rank-text-requires : tie.Need-rank-text-requires
+rank-text-requires c κs = search needs
 
 returns-2 : tie.Need-returns-2
 unfolding textAt
-returns-2 c = let t : isText (attributeRow (c .before .before .before .before .before .before .before .args .w .now) (c .before .before .before .before .before .before .before .args .i)) ≡ true = sym (c .before .before .before .before .is-text .ensures) ∙ not-false _ (c .before .before .before .if1 .left) in
-    rw t (c .shown .ensures ∙ rw (c .before .factory-start .ensures, c .before .before .first-value .ensures))
+returns-2 c =
+    let a = c .before .before .before .before .before .before .before .args in
+    let t : isText (attributeRow (a .w .now) (a .i)) ≡ true = sym (c .before .before .before .before .is-text .ensures) ∙ not-false _ (c .before .before .before .if1 .left) in
+    rw t (c .rank-text .ensures ∙ rw (c .before .mark-of .ensures, c .before .before .first-value .ensures))
 
 pub text-at-spec : {M : Type 1} → statement M
 text-at-spec =
@@ -47,6 +52,6 @@ text-at-spec =
     part-result-end
     returns
     first-value-requires
-    factory-start-requires
-    shown-requires
+    mark-of-requires
+    rank-text-requires
     returns-2)

@@ -49,18 +49,18 @@ same-length c = search needs
 
 returns : tie.Need-returns
 returns c = let a = c .before .before .before .before .before .before .before .before .before .before .before .before .before .before .before .before .before .args in let e = c .before .before .before .store .ensures in
-    rw (offered-by (a .w .now) (a .defaults .now) (heldOf (a .words .now) (a .nulls .now) (a .edited .now) (a .versions .now) (a .edits .now)) (a .i) (a .src .now) (a .new) (seen (c .before .before .before .before .before .before .before .before .before .before .before) ∙ c .before .before .before .before .before .before .before .before .before .enum-told .given .1))
+    rw (offered-by (a .w .now) (a .defaults .now) (heldOf (a .words .now) (a .nulls .now) (a .texts .now) (a .versions .now) (a .edits .now)) (a .i) (a .src .now) (a .new) (seen (c .before .before .before .before .before .before .before .before .before .before .before) ∙ c .before .before .before .before .before .before .before .before .before .enum-told .given .1))
     (λ j. record { code = c .status-code .ensures j; held = record { values = e .0 j; edits = e .1 j } })
 
 returns-2 : tie.Need-returns-2
 returns-2 c = let a = c .before .before .before .before .before .before .before .before .before .args in
-    rw (offered-by (a .w .now) (a .defaults .now) (heldOf (a .words .now) (a .nulls .now) (a .edited .now) (a .versions .now) (a .edits .now)) (a .i) (a .src .now) (a .new) (seen (c .before .before .before) ∙ c .before .enum-told2 .given .1))
-    (λ j. record { code = c .status-code2 .ensures j; held = heldOf (a .words .now) (a .nulls .now) (a .edited .now) (a .versions .now) (a .edits .now) })
+    rw (offered-by (a .w .now) (a .defaults .now) (heldOf (a .words .now) (a .nulls .now) (a .texts .now) (a .versions .now) (a .edits .now)) (a .i) (a .src .now) (a .new) (seen (c .before .before .before) ∙ c .before .enum-told2 .given .1))
+    (λ j. record { code = c .status-code2 .ensures j; held = heldOf (a .words .now) (a .nulls .now) (a .texts .now) (a .versions .now) (a .edits .now) })
 
 returns-3 : tie.Need-returns-3
 returns-3 c = let a = c .before .before .before .before .before .before .before .before .before .args in
-    rw (offered-by (a .w .now) (a .defaults .now) (heldOf (a .words .now) (a .nulls .now) (a .edited .now) (a .versions .now) (a .edits .now)) (a .i) (a .src .now) (a .new) (seen (c .before .before .before) ∙ c .before .enum-told3 .given .1))
-    (λ j. record { code = c .status-code3 .ensures j; held = heldOf (a .words .now) (a .nulls .now) (a .edited .now) (a .versions .now) (a .edits .now) })
+    rw (offered-by (a .w .now) (a .defaults .now) (heldOf (a .words .now) (a .nulls .now) (a .texts .now) (a .versions .now) (a .edits .now)) (a .i) (a .src .now) (a .new) (seen (c .before .before .before) ∙ c .before .enum-told3 .given .1))
+    (λ j. record { code = c .status-code3 .ensures j; held = heldOf (a .words .now) (a .nulls .now) (a .texts .now) (a .versions .now) (a .edits .now) })
 
 pub offer-spec : {M : Type 1} → statement M
 offer-spec =

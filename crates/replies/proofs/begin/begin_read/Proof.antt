@@ -61,7 +61,7 @@ same-length : tie.Need-same-length
 same-length c = search needs
 
 returns : tie.Need-returns
-returns c = let a = c .before .before .before .before .before .before .before .before .before .before .before .before .before .before .args in let f = c .before .before .refuse .ensures (a .row .now) in begins-same (f .0 ∙ ap (λ n. once (rowIn (a .row .now) (a .t) (a .kept .now)) (a .exchange) (refusalOf (a .exchange) n)) (c .before .before .before .before .before .before .refusal-code .ensures) ∙ sym (read-refused (a .payload .now) (c .before .before .before .before .before .before .before .before .before .read-request .ensures) (a .w .now) (valuesOf (a .words .now) (a .nulls .now) (a .edited .now) (a .versions .now)) (a .defaults .now) (a .edits .now) (a .g) (rowIn (a .row .now) (a .t) (a .kept .now)) (a .exchange) (λ z. c .before .before .before .before .before .if1 .taken (c .before .before .before .before .before .before .refusal-code .ensures ∙ z)))) (f .1)
+returns c = let a = c .before .before .before .before .before .before .before .before .before .before .before .before .before .before .args in let f = c .before .before .refuse .ensures (a .row .now) in begins-same (f .0 ∙ ap (λ n. once (rowIn (a .row .now) (a .t) (a .kept .now)) (a .exchange) (refusalOf (a .exchange) n)) (c .before .before .before .before .before .before .refusal-code .ensures) ∙ sym (read-refused (a .payload .now) (c .before .before .before .before .before .before .before .before .before .read-request .ensures) (a .w .now) (valuesOf (a .words .now) (a .nulls .now) (a .texts .now) (a .versions .now)) (a .defaults .now) (a .edits .now) (a .g) (rowIn (a .row .now) (a .t) (a .kept .now)) (a .exchange) (λ z. c .before .before .before .before .before .if1 .taken (c .before .before .before .before .before .before .refusal-code .ensures ∙ z)))) (f .1)
 
 put-paths-requires : tie.Need-put-paths-requires
 put-paths-requires c κs = search needs
@@ -98,7 +98,7 @@ unfolding keeping
 returns-2 c =
     let a = c .before .before .before .before .before .before .before .before .before .before .before .before .before .before .before .before .before .before .before .before .before .before .before .before .before .before .args in
     let room = c .before .before .before .before .before .before .before .before .before .before .before .before .before .before .before .before .before .before .before .before .before .before .before .before .before .before .pre .1 .1 in
-    let v = valuesOf (a .words .now) (a .nulls .now) (a .edited .now) (a .versions .now) in
+    let v = valuesOf (a .words .now) (a .nulls .now) (a .texts .now) (a .versions .now) in
     let x = rowIn (a .row .now) (a .t) (a .kept .now) in
     let e = c .before .before .before .before .before .before .before .before .before .before .before .before .before .before .before .before .before .before .before .before .before .read-request .ensures in
     let q : Request = requestOf (a .w .now) (c .before .before .before .before .before .before .before .before .before .before .before .before .before .before .before .before .before .before .before .before .before .read-request .result) in

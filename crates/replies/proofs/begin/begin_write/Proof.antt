@@ -23,18 +23,18 @@ use Rattle.replies.proofs.begin.begin_write.Tie as tie
 sent : (c : tie.After-put-statuses) →
     let a = c .before .before .before .before .before .before .before .before .before .before .before .before .before .before .before .before .before .before .before .before .before .args in
     let r = c .before .before .before .before .before .before .before .before .before .before .before .before .before .before .before .before .write-request .result in
-    Stored (a .out .now) 0 (responseMessage panelEdition (a .exchange) firstReply (entriesOf r) (codesOf (a .w .now) (a .g) (a .defaults .now) (a .payload .now) (heldOf (a .words .now) (a .nulls .now) (a .edited .now) (a .versions .now) (a .edits .now)) (entriesOf r))) (c .put-statuses .last .1 .1 .1 .0) (c .put-statuses .result)
+    Stored (a .out .now) 0 (responseMessage panelEdition (a .exchange) firstReply (entriesOf r) (codesOf (a .w .now) (a .g) (a .defaults .now) (a .payload .now) (heldOf (a .words .now) (a .nulls .now) (a .texts .now) (a .versions .now) (a .edits .now)) (entriesOf r))) (c .put-statuses .last .1 .1 .1 .0) (c .put-statuses .result)
 sent c =
     let a = c .before .before .before .before .before .before .before .before .before .before .before .before .before .before .before .before .before .before .before .before .before .args in
-    response-sent (a .payload .now) (c .before .before .before .before .before .before .before .before .before .before .before .before .before .before .before .before .write-request .ensures) (a .w .now) (a .g) (a .defaults .now) (heldOf (a .words .now) (a .nulls .now) (a .edited .now) (a .versions .now) (a .edits .now)) (rowIn [] (a .t) (a .kept .now)) (a .exchange) (sym (c .before .before .before .before .before .before .before .before .before .before .before .before .before .before .refusal-code .ensures) ∙ c .before .before .before .before .before .before .before .before .before .before .before .before .before .if1 .left) (c .before .before .before .before .before .before .write-all .ensures .1) (c .put-statuses .ensures)
+    response-sent (a .payload .now) (c .before .before .before .before .before .before .before .before .before .before .before .before .before .before .before .before .write-request .ensures) (a .w .now) (a .g) (a .defaults .now) (heldOf (a .words .now) (a .nulls .now) (a .texts .now) (a .versions .now) (a .edits .now)) (rowIn [] (a .t) (a .kept .now)) (a .exchange) (sym (c .before .before .before .before .before .before .before .before .before .before .before .before .before .before .refusal-code .ensures) ∙ c .before .before .before .before .before .before .before .before .before .before .before .before .before .if1 .left) (c .before .before .before .before .before .before .write-all .ensures .1) (c .put-statuses .ensures)
 
 short : (c : tie.After-put-statuses) →
     let a = c .before .before .before .before .before .before .before .before .before .before .before .before .before .before .before .before .before .before .before .before .before .args in
     let r = c .before .before .before .before .before .before .before .before .before .before .before .before .before .before .before .before .write-request .result in
-    length (responseMessage panelEdition (a .exchange) firstReply (entriesOf r) (codesOf (a .w .now) (a .g) (a .defaults .now) (a .payload .now) (heldOf (a .words .now) (a .nulls .now) (a .edited .now) (a .versions .now) (a .edits .now)) (entriesOf r))) ≤ maxMessage
+    length (responseMessage panelEdition (a .exchange) firstReply (entriesOf r) (codesOf (a .w .now) (a .g) (a .defaults .now) (a .payload .now) (heldOf (a .words .now) (a .nulls .now) (a .texts .now) (a .versions .now) (a .edits .now)) (entriesOf r))) ≤ maxMessage
 short c =
     let a = c .before .before .before .before .before .before .before .before .before .before .before .before .before .before .before .before .before .before .before .before .before .args in
-    response-short (a .payload .now) (c .before .before .before .before .before .before .before .before .before .before .before .before .before .before .before .before .write-request .ensures) (a .w .now) (a .g) (a .defaults .now) (heldOf (a .words .now) (a .nulls .now) (a .edited .now) (a .versions .now) (a .edits .now)) (rowIn [] (a .t) (a .kept .now)) (a .exchange) (sym (c .before .before .before .before .before .before .before .before .before .before .before .before .before .before .refusal-code .ensures) ∙ c .before .before .before .before .before .before .before .before .before .before .before .before .before .if1 .left)
+    response-short (a .payload .now) (c .before .before .before .before .before .before .before .before .before .before .before .before .before .before .before .before .write-request .ensures) (a .w .now) (a .g) (a .defaults .now) (heldOf (a .words .now) (a .nulls .now) (a .texts .now) (a .versions .now) (a .edits .now)) (rowIn [] (a .t) (a .kept .now)) (a .exchange) (sym (c .before .before .before .before .before .before .before .before .before .before .before .before .before .before .refusal-code .ensures) ∙ c .before .before .before .before .before .before .before .before .before .before .before .before .before .if1 .left)
 
 write-request-requires : tie.Need-write-request-requires
 write-request-requires c κs = search needs
@@ -49,7 +49,7 @@ same-length : tie.Need-same-length
 same-length c = search needs
 
 returns : tie.Need-returns
-returns c = let a = c .before .before .before .before .before .before .before .before .before .before .before .before .before .args in λ row. wrote-refused (a .payload .now) (c .before .before .before .before .before .before .before .before .write-request .ensures) (a .w .now) (a .g) (a .defaults .now) (heldOf (a .words .now) (a .nulls .now) (a .edited .now) (a .versions .now) (a .edits .now)) (rowIn row (a .t) (a .kept .now)) (a .exchange) (λ z. c .before .before .before .before .before .if1 .taken (c .before .before .before .before .before .before .refusal-code .ensures ∙ z)) (let f = c .before .before .refuse .ensures row in (f .0 ∙ ap (λ n. once (rowIn row (a .t) (a .kept .now)) (a .exchange) (refusalOf (a .exchange) n)) (c .before .before .before .before .before .before .refusal-code .ensures), f .1))
+returns c = let a = c .before .before .before .before .before .before .before .before .before .before .before .before .before .args in λ row. wrote-refused (a .payload .now) (c .before .before .before .before .before .before .before .before .write-request .ensures) (a .w .now) (a .g) (a .defaults .now) (heldOf (a .words .now) (a .nulls .now) (a .texts .now) (a .versions .now) (a .edits .now)) (rowIn row (a .t) (a .kept .now)) (a .exchange) (λ z. c .before .before .before .before .before .if1 .taken (c .before .before .before .before .before .before .refusal-code .ensures ∙ z)) (let f = c .before .before .refuse .ensures row in (f .0 ∙ ap (λ n. once (rowIn row (a .t) (a .kept .now)) (a .exchange) (refusalOf (a .exchange) n)) (c .before .before .before .before .before .before .refusal-code .ensures), f .1))
 
 write-all-requires : tie.Need-write-all-requires
 write-all-requires c κs = let p = c .before .before .before .before .before .before .before .before .before .before .before .before .before .before .pre in let e = c .before .before .before .before .before .before .before .before .before .write-request .ensures in (p .0, (refusal-none (writeAsks (c .before .before .before .before .before .before .before .before .before .write-request .result)) (sym (c .before .before .before .before .before .before .before .refusal-code .ensures) ∙ c .before .before .before .before .before .before .if1 .left) .writes, ((λ i l. writes-wide (c .before .before .before .before .before .before .before .before .before .before .before .before .before .before .args .payload .now) e i), p .1 .0)))
@@ -73,7 +73,7 @@ same-length-3 : tie.Need-same-length-3
 same-length-3 c = search needs
 
 returns-2 : tie.Need-returns-2
-returns-2 c = let a = c .before .before .before .before .before .before .before .before .before .before .before .before .before .before .before .before .before .before .before .before .before .before .before .args in let e = c .before .before .before .before .before .before .before .before .before .before .before .before .before .before .before .before .before .before .write-request .ensures in let h : Held = heldOf (a .words .now) (a .nulls .now) (a .edited .now) (a .versions .now) (a .edits .now) in let k = c .once-kept .ensures in λ row. let x = rowIn row (a .t) (a .kept .now) in
+returns-2 c = let a = c .before .before .before .before .before .before .before .before .before .before .before .before .before .before .before .before .before .before .before .before .before .before .before .args in let e = c .before .before .before .before .before .before .before .before .before .before .before .before .before .before .before .before .before .before .write-request .ensures in let h : Held = heldOf (a .words .now) (a .nulls .now) (a .texts .now) (a .versions .now) (a .edits .now) in let k = c .once-kept .ensures in λ row. let x = rowIn row (a .t) (a .kept .now) in
     wrote-done (a .payload .now) e (a .w .now) (a .g) (a .defaults .now) h x (a .exchange) (sym (c .before .before .before .before .before .before .before .before .before .before .before .before .before .before .before .before .refusal-code .ensures) ∙ c .before .before .before .before .before .before .before .before .before .before .before .before .before .before .before .if1 .left) (c .before .before .before .before .before .before .before .before .write-all .ensures .0) (silent (a .payload .now) e (a .w .now) (a .g) (a .defaults .now) h x (a .exchange) (c .before .before .before .before .if2 .taken))
     (k .0 row, (nothing-given x (k .1) (answered (a .exchange)) (x .request) (x .place) (a .out .now) (k .0 row), kept-full x (k .1) (answered (a .exchange)) (x .request) (x .place) [] (omega arith) (k .0 row)))
 
@@ -102,7 +102,7 @@ same-length-5 : tie.Need-same-length-5
 same-length-5 c = search needs
 
 returns-3 : tie.Need-returns-3
-returns-3 c = let a = c .before .before .before .before .before .before .before .before .before .before .before .before .before .before .before .before .before .before .before .before .before .before .before .before .before .before .before .args in let e = c .before .before .before .before .before .before .before .before .before .before .before .before .before .before .before .before .before .before .before .before .before .before .write-request .ensures in let h : Held = heldOf (a .words .now) (a .nulls .now) (a .edited .now) (a .versions .now) (a .edits .now) in let k = c .once-kept2 .ensures in λ row. let x = rowIn row (a .t) (a .kept .now) in
+returns-3 c = let a = c .before .before .before .before .before .before .before .before .before .before .before .before .before .before .before .before .before .before .before .before .before .before .before .before .before .before .before .args in let e = c .before .before .before .before .before .before .before .before .before .before .before .before .before .before .before .before .before .before .before .before .before .before .write-request .ensures in let h : Held = heldOf (a .words .now) (a .nulls .now) (a .texts .now) (a .versions .now) (a .edits .now) in let k = c .once-kept2 .ensures in λ row. let x = rowIn row (a .t) (a .kept .now) in
     wrote-done (a .payload .now) e (a .w .now) (a .g) (a .defaults .now) h x (a .exchange) (sym (c .before .before .before .before .before .before .before .before .before .before .before .before .before .before .before .before .before .before .before .before .refusal-code .ensures) ∙ c .before .before .before .before .before .before .before .before .before .before .before .before .before .before .before .before .before .before .before .if1 .left) (c .before .before .before .before .before .before .before .before .before .before .before .before .write-all .ensures .0) (spoken (a .payload .now) e (a .w .now) (a .g) (a .defaults .now) h x (a .exchange) (c .before .before .before .before .before .before .before .before .if2 .left))
     (both-given x (k .1) (answered (a .exchange)) (x .request) (x .place) (sent (c .before .before .before .before .before .before)) (short (c .before .before .before .before .before .before)) (c .before .before .before .before .before .before .before .before .before .before .before .before .before .before .before .before .before .before .before .before .before .before .before .before .before .before .before .pre .1 .1 .1) (k .0 row))
 

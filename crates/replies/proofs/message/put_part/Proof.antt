@@ -27,7 +27,7 @@ same-length : tie.Need-same-length
 same-length c = search needs
 
 returns : tie.Need-returns
-returns c = let a = c .before .before .before .before .before .before .before .before .before .before .before .args in sent-of (ap (λ (ps : _). blocksFrom (viewOf (a .w .now) (valuesOf (a .words .now) (a .nulls .now) (a .edited .now) (a .versions .now)) (a .defaults .now) (a .edits .now) (a .g) (filtersIn (a .row .now))) ps (a .from)) (sym (paths-in (a .row .now) (a .asked) (c .before .before .before .before .before .before .before .before .before .before .before .pre .1 .0)))) (part-sent (c .before .before .before .before .before .before .put-envelope .ensures) (c .before .before .make-part .ensures))
+returns c = let a = c .before .before .before .before .before .before .before .before .before .before .before .args in sent-of (ap (λ (ps : _). blocksFrom (viewOf (a .w .now) (valuesOf (a .words .now) (a .nulls .now) (a .texts .now) (a .versions .now)) (a .defaults .now) (a .edits .now) (a .g) (filtersIn (a .row .now))) ps (a .from)) (sym (paths-in (a .row .now) (a .asked) (c .before .before .before .before .before .before .before .before .before .before .before .pre .1 .0)))) (part-sent (c .before .before .before .before .before .before .put-envelope .ensures) (c .before .before .make-part .ensures))
 
 pub put-part-spec : {M : Type 1} → statement M
 put-part-spec =

@@ -17,23 +17,14 @@ within c = let s = c .before .before .before .before in cluster-within (s .args 
 
 returns : tie.Need-returns
 returns c =
-    let s = c .before .before .before .before .before .before .before .before .before .before .before .before .before .before .before .before .before .before in
+    let s = c .before .before .before .before .before .before .before .before .before .before .before .before .before .before .before .before in
     let a = s .args in
     offered-as
-    (value-block (a .w .now) (s .pre .0) (a .i) (s .pre .1 .0) (valuesOf (a .words .now) (a .nulls .now) (a .edited .now) (a .versions .now)) (a .defaults .now) (a .edits .now) (c .before .before .before .before .before .before .before .before .before .before .before .before .before .before .attribute-cluster .ensures) refl (c .before .before .before .before .before .before .cluster-endpoint .ensures) (c .before .before .before .before .before .cluster-id .ensures) (c .before .before .before .before .attribute-id .ensures) (c .before .before .before .before .before .before .before .before .before .before .before .text-at .ensures) (c .before .before .before .before .before .before .before .before .value-at .ensures))
+    (value-block (a .w .now) (s .pre .0) (a .i) (s .pre .1 .0) (valuesOf (a .words .now) (a .nulls .now) (a .texts .now) (a .versions .now)) (a .defaults .now) (a .edits .now) (c .before .before .before .before .before .before .before .before .before .before .before .before .attribute-cluster .ensures) refl (c .before .before .before .before .before .before .cluster-endpoint .ensures) (c .before .before .before .before .before .cluster-id .ensures) (c .before .before .before .before .attribute-id .ensures) (c .before .before .before .before .before .before .before .before .before .before .before .text-at .ensures) (c .before .before .before .before .before .before .before .before .value-at .ensures))
     (c .before .before .offer-data .ensures)
 
 attribute-cluster-requires : tie.Need-attribute-cluster-requires
 attribute-cluster-requires c κs = search needs
-
-mul-text-at : tie.Need-mul-text-at
-mul-text-at c = search needs
-
-element-copy-out-text-at : tie.Need-element-copy-out-text-at
-element-copy-out-text-at c = search needs
-
-element-copy-out-text-at-2 : tie.Need-element-copy-out-text-at-2
-element-copy-out-text-at-2 c = search needs
 
 text-at-requires : tie.Need-text-at-requires
 text-at-requires c κs = search needs
@@ -51,19 +42,19 @@ value-at-requires : tie.Need-value-at-requires
 value-at-requires c κs = search needs
 
 mul-offer-data : tie.Need-mul-offer-data
-mul-offer-data c = omega (arith, within (c .before .before .before .before .before .before))
+mul-offer-data c = omega (arith, within (c .before .before .before .before))
 
 element-copy-out-offer-data : tie.Need-element-copy-out-offer-data
-element-copy-out-offer-data c = omega (arith, within (c .before .before .before .before .before .before))
+element-copy-out-offer-data c = omega (arith, within (c .before .before .before .before))
 
 cluster-endpoint-requires : tie.Need-cluster-endpoint-requires
-cluster-endpoint-requires c κs = within (c .before .before .before .before .before .before .before)
+cluster-endpoint-requires c κs = within (c .before .before .before .before .before)
 
 cast-offer-data : tie.Need-cast-offer-data
-cast-offer-data c = let s = c .before .before .before .before .before .before .before .before .before .before .before .before in omega (arith, endpoint-fits (s .args .w .now) (s .pre .0) (s .args .i) (s .pre .1 .0) (c .before .before .before .before .before .before .before .before .attribute-cluster .ensures) (c .cluster-endpoint .ensures))
+cast-offer-data c = let s = c .before .before .before .before .before .before .before .before .before .before in omega (arith, endpoint-fits (s .args .w .now) (s .pre .0) (s .args .i) (s .pre .1 .0) (c .before .before .before .before .before .before .attribute-cluster .ensures) (c .cluster-endpoint .ensures))
 
 cluster-id-requires : tie.Need-cluster-id-requires
-cluster-id-requires c κs = within (c .before .before .before .before .before .before .before .before)
+cluster-id-requires c κs = within (c .before .before .before .before .before .before)
 
 cast-offer-data-2 : tie.Need-cast-offer-data-2
 cast-offer-data-2 c = search needs
@@ -75,7 +66,7 @@ cast-offer-data-3 : tie.Need-cast-offer-data-3
 cast-offer-data-3 c = search needs
 
 offer-data-requires : tie.Need-offer-data-requires
-offer-data-requires c κs = let a = c .before .before .before .before .before .before .before .before .before .before .before .before .before .before .before .args in (value-inside (a .w .now) (a .i) (getD (a .words .now) (a .i) 0) (getD (a .nulls .now) (a .i) false) _ (c .before .before .before .before .before .value-at .ensures), c .before .before .before .before .before .before .before .before .before .before .before .before .before .before .before .pre .1 .1)
+offer-data-requires c κs = let a = c .before .before .before .before .before .before .before .before .before .before .before .before .before .args in (value-inside (a .w .now) (a .i) (getD (a .words .now) (a .i) 0) (getD (a .nulls .now) (a .i) false) _ (c .before .before .before .before .before .value-at .ensures), c .before .before .before .before .before .before .before .before .before .before .before .before .before .pre .1 .1)
 
 same-length : tie.Need-same-length
 same-length c = search needs
@@ -85,9 +76,6 @@ offer-value-spec =
     tie.close
     (tie.spec
     attribute-cluster-requires
-    mul-text-at
-    element-copy-out-text-at
-    element-copy-out-text-at-2
     text-at-requires
     mul-value-at
     element-copy-out-value-at

@@ -18,22 +18,22 @@ use Rattle.report.proofs.part.fill_path.Statement.{statement}
 use Rattle.report.proofs.part.fill_path.Tie as tie
 
 -- the view, of what is lent
-abbrev seen : List ℕ → List ℕ → List Bool → List Bool → List ℕ → List ℕ → List ℕ → Grants → List Bool → View
-seen w words nulls edited versions defaults edits g skips =
-    record { schema = w; values = valuesOf words nulls edited versions; defaults = defaults; edits = edits; grants = g; skips = skips }
+abbrev seen : List ℕ → List ℕ → List Bool → List ℕ → List ℕ → List ℕ → List ℕ → Grants → List Bool → View
+seen w words nulls texts versions defaults edits g skips =
+    record { schema = w; values = valuesOf words nulls texts versions; defaults = defaults; edits = edits; grants = g; skips = skips }
 
 abbrev Inv-loop : tie.InvT-loop
-Inv-loop w words nulls edited versions defaults edits g skips p path first out₀ start room span place₀ i₀ end₀ left₀ out place i end left =
+Inv-loop w words nulls texts versions defaults edits g skips p path first out₀ start room span place₀ i₀ end₀ left₀ out place i end left =
     (end + left ≡ start + room)
     × ((length out ≡ length out₀)
-    × ((new : List ℕ) (r : Filled) → Filling out end left place (pathBlocks (seen w words nulls edited versions defaults edits g skips) path p i) new r →
-    Filling out₀ start room place₀ (pathBlocks (seen w words nulls edited versions defaults edits g skips) path p first) new r))
+    × ((new : List ℕ) (r : Filled) → Filling out end left place (pathBlocks (seen w words nulls texts versions defaults edits g skips) path p i) new r →
+    Filling out₀ start room place₀ (pathBlocks (seen w words nulls texts versions defaults edits g skips) path p first) new r))
 
 abbrev μ-loop : tie.MeasureT-loop
-μ-loop w words nulls edited versions defaults edits g skips p path first out₀ start room span place₀ i₀ end₀ left₀ out place i end left = span - i
+μ-loop w words nulls texts versions defaults edits g skips p path first out₀ start room span place₀ i₀ end₀ left₀ out place i end left = span - i
 
 abbrev view : (c : tie.Start Inv-loop μ-loop) → View
-view c = let a = c .args in seen (a .w .now) (a .words .now) (a .nulls .now) (a .edited .now) (a .versions .now) (a .defaults .now) (a .edits .now) (a .g) (a .skips)
+view c = let a = c .args in seen (a .w .now) (a .words .now) (a .nulls .now) (a .texts .now) (a .versions .now) (a .defaults .now) (a .edits .now) (a .g) (a .skips)
 
 -- in the loop, the place is one of its path's
 inside : (c : tie.In-loop Inv-loop μ-loop) → c .before .loop .i < span (c .before .before .before .before .before .before .args .w .now) (c .before .before .before .before .before .before .args .p)

@@ -17,11 +17,11 @@ filled : (c : tie.After-fill) →
     let a = c .before .before .before .before .before .before .before .before .before .before .args in
     let o = c .before .before .before .before .put-report-open in
     Filling (o .last .0) (o .result) blockRoom (a .from)
-    (blocksFrom (viewOf (a .w .now) (valuesOf (a .words .now) (a .nulls .now) (a .edited .now) (a .versions .now)) (a .defaults .now) (a .edits .now) (a .g) (filtersIn (a .row .now))) (askedPaths (a .row .now) (a .asked)) (a .from))
+    (blocksFrom (viewOf (a .w .now) (valuesOf (a .words .now) (a .nulls .now) (a .texts .now) (a .versions .now)) (a .defaults .now) (a .edits .now) (a .g) (filtersIn (a .row .now))) (askedPaths (a .row .now) (a .asked)) (a .from))
     (c .fill .last .1 .1 .1 .1 .1 .1 .1 .1 .1 .1 .1 .1 .0) (c .fill .result)
 filled c =
     let a = c .before .before .before .before .before .before .before .before .before .before .args in
-    filling-of (same-blocks (a .w .now) (valuesOf (a .words .now) (a .nulls .now) (a .edited .now) (a .versions .now)) (a .defaults .now) (a .edits .now) (a .g) (filtersIn (a .row .now)) (askedPaths (a .row .now) (a .asked)) (a .from) (c .before .before .before .before .before .before .skipped .ensures)) (c .fill .ensures)
+    filling-of (same-blocks (a .w .now) (valuesOf (a .words .now) (a .nulls .now) (a .texts .now) (a .versions .now)) (a .defaults .now) (a .edits .now) (a .g) (filtersIn (a .row .now)) (askedPaths (a .row .now) (a .asked)) (a .from) (c .before .before .before .before .before .before .skipped .ensures)) (c .fill .ensures)
 
 -- and end within their room
 ends : (c : tie.After-fill) → c .fill .result .end ≤ c .before .before .before .before .put-report-open .result + blockRoom

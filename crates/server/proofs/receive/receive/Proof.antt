@@ -28,7 +28,7 @@ use denote.RattleType.{RattleType, owns}
 use denote.Laws.{Is, shows}
 use denote.Memory.{pointee}
 use denote.Plain.{uint-vals, uint-tells, uint-makes, bool-makes}
-use denote.Builtin.{u8, u32, u64, usize, bool}
+use denote.Builtin.{u8, u16, u32, u64, usize, bool}
 use denote.Array.{Array}
 use denote.Exit.{yes}
 use denote.Ref.{RefT, ShrRef, MutRef, ptr, now, ptr-vals, shr-tells, mut-tells, shr-copy}
@@ -86,6 +86,9 @@ Numbers = Array u64 256
 abbrev Flags : RattleType
 Flags = Array bool 256
 
+abbrev Marks : RattleType
+Marks = Array u16 256
+
 abbrev Versions : RattleType
 Versions = Array u32 32
 
@@ -96,7 +99,7 @@ abbrev Reply : RattleType
 Reply = Array u8 1032
 
 abbrev stayed : Stays (receive.ended .signature .params) (receive.ended .kept)
-stayed = (stay-dropped _ _, (stay-dropped _ _, (gave-slice (1 ∷ []) tt (plain (λ _. u8)), (gave-ref (2 ∷ []) tt (plain (λ _. Numbers)), (gave-ref (3 ∷ []) tt (plain (λ _. Flags)), (gave-ref (4 ∷ []) tt (plain (λ _. Flags)), (gave-ref (5 ∷ []) tt (plain (λ _. Versions)), (gave-ref (6 ∷ []) tt (plain (λ _. Row)), (gave-ref (7 ∷ []) tt (plain (λ _. Reply)), (stay-dropped _ _, (stay-dropped _ _, (stay-dropped _ _, (gave-slice (9 ∷ []) tt (plain (λ _. u8)), tt)))))))))))))
+stayed = (stay-dropped _ _, (stay-dropped _ _, (gave-slice (1 ∷ []) tt (plain (λ _. u8)), (gave-ref (2 ∷ []) tt (plain (λ _. Numbers)), (gave-ref (3 ∷ []) tt (plain (λ _. Flags)), (gave-ref (4 ∷ []) tt (plain (λ _. Marks)), (gave-ref (5 ∷ []) tt (plain (λ _. Versions)), (gave-ref (6 ∷ []) tt (plain (λ _. Row)), (gave-ref (7 ∷ []) tt (plain (λ _. Reply)), (stay-dropped _ _, (stay-dropped _ _, (stay-dropped _ _, (gave-slice (9 ∷ []) tt (plain (λ _. u8)), tt)))))))))))))
 
 -- the locals' types
 abbrev word : Ty
@@ -125,12 +128,12 @@ module _ {M : Type 1} (𝓤 : URA M) (H : Heap 𝓤) (A : Atoms 𝓤) (mem : Mem
   abbrev Serve : Contract 𝓤
   Serve = tripleOf 𝓤 H A serve.signature (serve.spec 𝓤 H A mem run)
 
--- v, n, f, c: the values' words, nulls, flags of edited texts and versions. x: the row's words. k: the kept reply
+-- v, n, f, c: the values' words, nulls, marks of texts and versions. x: the row's words. k: the kept reply
 module _ {M : Type 1} (𝓤 : URA M) (H : Heap 𝓤) (A : Atoms 𝓤) (W : Given 𝓤 H A) (mem : Memory → SProp 𝓤) (run : Routine → Fun 𝓤) (κ₀ κ₁ κ₂ κ₃ κ₄ κ₅ κ₆ κ₇ κ₈ κ₉ : Lft) (q₀ q₁ q₂ q₃ q₄ q₅ q₆ q₇ q₈ q₉ : Share)
-    (w d e v : RefT (List ℕ)) (n f : RefT (List Bool)) (c x k : RefT (List ℕ)) (t : RefT (List Entry)) (s : ℕ) (m o : RefT (List ℕ))
+    (w d e v : RefT (List ℕ)) (n : RefT (List Bool)) (f c x k : RefT (List ℕ)) (t : RefT (List Entry)) (s : ℕ) (m o : RefT (List ℕ))
     (gd : Room u8 (length (d .now))) (ge : Room u8 (length (e .now))) (gt : Room R (length (t .now))) (gs : s < 2 ^ 64) (gm : Room u8 (length (m .now))) (go : Room u8 (length (o .now))) where
   abbrev Args : Type 0
-  Args = RefT (List ℕ) × (RefT (List ℕ) × (RefT (List ℕ) × (RefT (List ℕ) × (RefT (List Bool) × (RefT (List Bool) × (RefT (List ℕ) × (RefT (List ℕ) × (RefT (List ℕ) × (RefT (List Entry) × (ℕ × (RefT (List ℕ) × (RefT (List ℕ) × Unit {0}))))))))))))
+  Args = RefT (List ℕ) × (RefT (List ℕ) × (RefT (List ℕ) × (RefT (List ℕ) × (RefT (List Bool) × (RefT (List ℕ) × (RefT (List ℕ) × (RefT (List ℕ) × (RefT (List ℕ) × (RefT (List Entry) × (ℕ × (RefT (List ℕ) × (RefT (List ℕ) × Unit {0}))))))))))))
 
   abbrev a : Args
   a = (w, (d, (e, (v, (n, (f, (c, (x, (k, (t, (s, (m, (o, tt)))))))))))))
@@ -158,7 +161,7 @@ module _ {M : Type 1} (𝓤 : URA M) (H : Heap 𝓤) (A : Atoms 𝓤) (W : Given
   Edi = MutSlice (named 1) κ₁ u8 .own e (slice-vals e)
 
   abbrev Arrays : List (Item 𝓤)
-  Arrays = ‵ (MutRef (named 2) κ₂ Numbers .own v (ptr-vals v)) ∷ ‵ (MutRef (named 3) κ₃ Flags .own n (ptr-vals n)) ∷ ‵ (MutRef (named 4) κ₄ Flags .own f (ptr-vals f)) ∷ ‵ (MutRef (named 5) κ₅ Versions .own c (ptr-vals c)) ∷ ‵ (MutRef (named 6) κ₆ Row .own x (ptr-vals x)) ∷ ‵ (MutRef (named 7) κ₇ Reply .own k (ptr-vals k)) ∷ []
+  Arrays = ‵ (MutRef (named 2) κ₂ Numbers .own v (ptr-vals v)) ∷ ‵ (MutRef (named 3) κ₃ Flags .own n (ptr-vals n)) ∷ ‵ (MutRef (named 4) κ₄ Marks .own f (ptr-vals f)) ∷ ‵ (MutRef (named 5) κ₅ Versions .own c (ptr-vals c)) ∷ ‵ (MutRef (named 6) κ₆ Row .own x (ptr-vals x)) ∷ ‵ (MutRef (named 7) κ₇ Reply .own k (ptr-vals k)) ∷ []
 
   abbrev Tab : Fml
   Tab = ShrSlice (named 8) κ₈ R .own t (slice-vals t)
@@ -213,7 +216,7 @@ module _ {M : Type 1} (𝓤 : URA M) (H : Heap 𝓤) (A : Atoms 𝓤) (W : Given
 
   -- what `serve` is passed
   abbrev Passed : Type 0
-  Passed = RefT (List ℕ) × (RefT (List ℕ) × (RefT (List ℕ) × (RefT (List ℕ) × (RefT (List Bool) × (RefT (List Bool) × (RefT (List ℕ) × (RefT (List ℕ) × (RefT (List ℕ) × (Bool × (Grants × (ℕ × (RefT (List ℕ) × (RefT (List ℕ) × Unit {0})))))))))))))
+  Passed = RefT (List ℕ) × (RefT (List ℕ) × (RefT (List ℕ) × (RefT (List ℕ) × (RefT (List Bool) × (RefT (List ℕ) × (RefT (List ℕ) × (RefT (List ℕ) × (RefT (List ℕ) × (Bool × (Grants × (ℕ × (RefT (List ℕ) × (RefT (List ℕ) × Unit {0})))))))))))))
 
   abbrev passing : Passed
   passing = (w, (d, (e, (v, (n, (f, (c, (x, (k, (found .right, (found .grants, (s, (m, (o, tt))))))))))))))
@@ -268,11 +271,11 @@ module _ {M : Type 1} (𝓤 : URA M) (H : Heap 𝓤) (A : Atoms 𝓤) (W : Given
 
     module _ (l₀ l₁ l₂ l₃ l₄ l₅ l₆ l₇ l₈ l₉ l₁₀ l₁₁ l₁₂ l₁₃ l₁₄ l₁₅ l₁₆ l₁₇ l₁₈ l₁₉ l₂₀ l₂₁ l₂₂ l₂₃ l₂₄ l₂₅ : ℕ) where
       abbrev En : Env 𝓤 H
-      En = (N′.mir, l₀) ∷ (words, l₁) ∷ (page, l₂) ∷ (bytes (named 1), l₃) ∷ (lent (named 2) Numbers, l₄) ∷ (lent (named 3) Flags, l₅) ∷ (lent (named 4) Flags, l₆) ∷ (lent (named 5) Versions, l₇) ∷ (lent (named 6) Row, l₈) ∷ (lent (named 7) Reply, l₉) ∷ (entries, l₁₀) ∷ (word, l₁₁) ∷ (page, l₁₂) ∷ (bytes (named 9), l₁₃) ∷ (X′.mir, l₁₄) ∷ (word, l₁₅) ∷ (lent erased u8, l₁₆) ∷ (bytes erased, l₁₇) ∷ (lent erased Numbers, l₁₈) ∷ (lent erased Flags, l₁₉) ∷ (lent erased Flags, l₂₀) ∷ (lent erased Versions, l₂₁) ∷ (lent erased Row, l₂₂) ∷ (lent erased Reply, l₂₃) ∷ (lent erased u8, l₂₄) ∷ (bytes erased, l₂₅) ∷ []
+      En = (N′.mir, l₀) ∷ (words, l₁) ∷ (page, l₂) ∷ (bytes (named 1), l₃) ∷ (lent (named 2) Numbers, l₄) ∷ (lent (named 3) Flags, l₅) ∷ (lent (named 4) Marks, l₆) ∷ (lent (named 5) Versions, l₇) ∷ (lent (named 6) Row, l₈) ∷ (lent (named 7) Reply, l₉) ∷ (entries, l₁₀) ∷ (word, l₁₁) ∷ (page, l₁₂) ∷ (bytes (named 9), l₁₃) ∷ (X′.mir, l₁₄) ∷ (word, l₁₅) ∷ (lent erased u8, l₁₆) ∷ (bytes erased, l₁₇) ∷ (lent erased Numbers, l₁₈) ∷ (lent erased Flags, l₁₉) ∷ (lent erased Marks, l₂₀) ∷ (lent erased Versions, l₂₁) ∷ (lent erased Row, l₂₂) ∷ (lent erased Reply, l₂₃) ∷ (lent erased u8, l₂₄) ∷ (bytes erased, l₂₅) ∷ []
 
       -- the locals: _25 at 0, …, _0 at 50. The first two are what _15 and _14 hold
       abbrev Locals : Item 𝓤 → Item 𝓤 → List (Item 𝓤) → List (Item 𝓤)
-      Locals count access Γ = empty (bytes erased) l₂₅ (empty (lent erased u8) l₂₄ (empty (lent erased Reply) l₂₃ (empty (lent erased Row) l₂₂ (empty (lent erased Versions) l₂₁ (empty (lent erased Flags) l₂₀ (empty (lent erased Flags) l₁₉ (empty (lent erased Numbers) l₁₈ (empty (bytes erased) l₁₇ (empty (lent erased u8) l₁₆ (count ∷ ‵ (fdies word l₁₅) ∷ access ∷ ‵ (fdies X′.mir l₁₄) ∷ holds (bytes (named 9)) l₁₃ (sliceVal (ptr o) (length (now o))) (holds page l₁₂ (sliceVal (ptr m) (length (now m))) (holds word l₁₁ (vint w64 s) (holds entries l₁₀ (sliceVal (ptr t) (length (now t))) (holds (lent (named 7) Reply) l₉ (vptr (ptr k .0) (ptr k .1)) (holds (lent (named 6) Row) l₈ (vptr (ptr x .0) (ptr x .1)) (holds (lent (named 5) Versions) l₇ (vptr (ptr c .0) (ptr c .1)) (holds (lent (named 4) Flags) l₆ (vptr (ptr f .0) (ptr f .1)) (holds (lent (named 3) Flags) l₅ (vptr (ptr n .0) (ptr n .1)) (holds (lent (named 2) Numbers) l₄ (vptr (ptr v .0) (ptr v .1)) (holds (bytes (named 1)) l₃ (sliceVal (ptr e) (length (now e))) (holds page l₂ (sliceVal (ptr d) (length (now d))) (holds words l₁ (vptr (ptr w .0) (ptr w .1)) (empty N′.mir l₀ Γ)))))))))))))))))))))))
+      Locals count access Γ = empty (bytes erased) l₂₅ (empty (lent erased u8) l₂₄ (empty (lent erased Reply) l₂₃ (empty (lent erased Row) l₂₂ (empty (lent erased Versions) l₂₁ (empty (lent erased Marks) l₂₀ (empty (lent erased Flags) l₁₉ (empty (lent erased Numbers) l₁₈ (empty (bytes erased) l₁₇ (empty (lent erased u8) l₁₆ (count ∷ ‵ (fdies word l₁₅) ∷ access ∷ ‵ (fdies X′.mir l₁₄) ∷ holds (bytes (named 9)) l₁₃ (sliceVal (ptr o) (length (now o))) (holds page l₁₂ (sliceVal (ptr m) (length (now m))) (holds word l₁₁ (vint w64 s) (holds entries l₁₀ (sliceVal (ptr t) (length (now t))) (holds (lent (named 7) Reply) l₉ (vptr (ptr k .0) (ptr k .1)) (holds (lent (named 6) Row) l₈ (vptr (ptr x .0) (ptr x .1)) (holds (lent (named 5) Versions) l₇ (vptr (ptr c .0) (ptr c .1)) (holds (lent (named 4) Marks) l₆ (vptr (ptr f .0) (ptr f .1)) (holds (lent (named 3) Flags) l₅ (vptr (ptr n .0) (ptr n .1)) (holds (lent (named 2) Numbers) l₄ (vptr (ptr v .0) (ptr v .1)) (holds (bytes (named 1)) l₃ (sliceVal (ptr e) (length (now e))) (holds page l₂ (sliceVal (ptr d) (length (now d))) (holds words l₁ (vptr (ptr w .0) (ptr w .1)) (empty N′.mir l₀ Γ)))))))))))))))))))))))
 
       -- `serve` is called with what the table says
       hands-on : Fine found → Sq W (its-tokens ∷ ‵ Wrd ∷ Locals (‵ (fat fullShare word l₁₅ 0 (vint w64 (length (t .now))))) (‵ (fat fullShare X′.mir l₁₄ 0 (val found)))
@@ -333,7 +336,7 @@ module _ {M : Type 1} (𝓤 : URA M) (H : Heap 𝓤) (A : Atoms 𝓤) (W : Given
       → Walks 𝓤 H A receive.ended stayed (WpFn 𝓤 H C Λ code.function) (receive.clauses 𝓤 H A mem run)
   receive-walks C Λ fm known-search known-serve = walked 𝓤 H A receive.ended stayed (receive.clauses 𝓤 H A mem run) (WpFn 𝓤 H C Λ code.function)
       (λ κs. (ptr-vals, (slice-vals, (slice-vals, (ptr-vals, (ptr-vals, (ptr-vals, (ptr-vals, (ptr-vals, (ptr-vals, (slice-vals, (uint-vals w64, (slice-vals, (slice-vals, tt))))))))))))))
-      (λ κs. (shr-tells (named 0) (κs .0) Words, (shr-slice-tells (named 0) (κs .0) u8, (mut-slice-tells (named 1) (κs .1 .0) u8, (mut-tells (named 2) (κs .1 .1 .0) Numbers, (mut-tells (named 3) (κs .1 .1 .1 .0) Flags, (mut-tells (named 4) (κs .1 .1 .1 .1 .0) Flags, (mut-tells (named 5) (κs .1 .1 .1 .1 .1 .0) Versions, (mut-tells (named 6) (κs .1 .1 .1 .1 .1 .1 .0) Row, (mut-tells (named 7) (κs .1 .1 .1 .1 .1 .1 .1 .0) Reply, (shr-slice-tells (named 8) (κs .1 .1 .1 .1 .1 .1 .1 .1 .0) R, (uint-tells w64, (shr-slice-tells (named 0) (κs .0) u8, (mut-slice-tells (named 9) (κs .1 .1 .1 .1 .1 .1 .1 .1 .1 .0) u8, tt))))))))))))))
+      (λ κs. (shr-tells (named 0) (κs .0) Words, (shr-slice-tells (named 0) (κs .0) u8, (mut-slice-tells (named 1) (κs .1 .0) u8, (mut-tells (named 2) (κs .1 .1 .0) Numbers, (mut-tells (named 3) (κs .1 .1 .1 .0) Flags, (mut-tells (named 4) (κs .1 .1 .1 .1 .0) Marks, (mut-tells (named 5) (κs .1 .1 .1 .1 .1 .0) Versions, (mut-tells (named 6) (κs .1 .1 .1 .1 .1 .1 .0) Row, (mut-tells (named 7) (κs .1 .1 .1 .1 .1 .1 .1 .0) Reply, (shr-slice-tells (named 8) (κs .1 .1 .1 .1 .1 .1 .1 .1 .0) R, (uint-tells w64, (shr-slice-tells (named 0) (κs .0) u8, (mut-slice-tells (named 9) (κs .1 .1 .1 .1 .1 .1 .1 .1 .1 .0) u8, tt))))))))))))))
       (λ κs qs bounds a g are. via 𝓤 _ (fst∗ 𝓤 _ (emp 𝓤)) (walk 𝓤 H A W mem run (κs .0) (κs .1 .0) (κs .1 .1 .0) (κs .1 .1 .1 .0) (κs .1 .1 .1 .1 .0) (κs .1 .1 .1 .1 .1 .0) (κs .1 .1 .1 .1 .1 .1 .0) (κs .1 .1 .1 .1 .1 .1 .1 .0) (κs .1 .1 .1 .1 .1 .1 .1 .1 .0) (κs .1 .1 .1 .1 .1 .1 .1 .1 .1 .0) (qs .0) (qs .1 .0) (qs .1 .1 .0) (qs .1 .1 .1 .0) (qs .1 .1 .1 .1 .0) (qs .1 .1 .1 .1 .1 .0) (qs .1 .1 .1 .1 .1 .1 .0) (qs .1 .1 .1 .1 .1 .1 .1 .0) (qs .1 .1 .1 .1 .1 .1 .1 .1 .0) (qs .1 .1 .1 .1 .1 .1 .1 .1 .1 .0)
       (a .0) (a .1 .0) (a .1 .1 .0) (a .1 .1 .1 .0) (a .1 .1 .1 .1 .0) (a .1 .1 .1 .1 .1 .0) (a .1 .1 .1 .1 .1 .1 .0) (a .1 .1 .1 .1 .1 .1 .1 .0) (a .1 .1 .1 .1 .1 .1 .1 .1 .0) (a .1 .1 .1 .1 .1 .1 .1 .1 .1 .0) (a .1 .1 .1 .1 .1 .1 .1 .1 .1 .1 .0) (a .1 .1 .1 .1 .1 .1 .1 .1 .1 .1 .1 .0) (a .1 .1 .1 .1 .1 .1 .1 .1 .1 .1 .1 .1 .0)
       (are .1 .0 .0 .1) (are .1 .1 .0 .0 .1) (are .1 .1 .1 .1 .1 .1 .1 .1 .1 .0 .0 .1) (are .1 .1 .1 .1 .1 .1 .1 .1 .1 .1 .0 .1) (are .1 .1 .1 .1 .1 .1 .1 .1 .1 .1 .1 .0 .0 .1) (are .1 .1 .1 .1 .1 .1 .1 .1 .1 .1 .1 .1 .0 .0 .1) C Λ fm known-search known-serve))
@@ -341,7 +344,7 @@ module _ {M : Type 1} (𝓤 : URA M) (H : Heap 𝓤) (A : Atoms 𝓤) (W : Given
 receive-meets : {M : Type 1} (𝓤 : URA M) (H : Heap 𝓤) (A : Atoms 𝓤) (W : Given 𝓤 H A) (mem : Memory → SProp 𝓤) (run : Routine → Fun 𝓤) (𝓣 : Tables 𝓤 H)
     → Triple 𝓤 (𝓣 .C #search) (Search 𝓤 H A mem run) → Triple 𝓤 (𝓣 .C #serve) (Serve 𝓤 H A mem run)
     → Meets 𝓤 H A receive.signature (WpFn 𝓤 H (𝓣 .C) (𝓣 .Λ) code.function) (receive.spec 𝓤 H A mem run)
-receive-meets 𝓤 H A W mem run 𝓣 known-search known-serve = walk-meets 𝓤 H A receive.ended stayed W (goes-dropped 𝓤 H A W 10 (shrRefTo (0 ∷ []) tt (plain (λ _. Words))) yes (λ κs x f. refl), (goes-dropped 𝓤 H A W 10 (shrSliceOf (0 ∷ []) tt (plain (λ _. u8))) yes (λ κs x f. refl), (goes-gave-slice 𝓤 H A W 10 1 tt (plain (λ _. u8)), (goes-gave-ref 𝓤 H A W 10 2 tt (plain (λ _. Numbers)), (goes-gave-ref 𝓤 H A W 10 3 tt (plain (λ _. Flags)), (goes-gave-ref 𝓤 H A W 10 4 tt (plain (λ _. Flags)), (goes-gave-ref 𝓤 H A W 10 5 tt (plain (λ _. Versions)), (goes-gave-ref 𝓤 H A W 10 6 tt (plain (λ _. Row)), (goes-gave-ref 𝓤 H A W 10 7 tt (plain (λ _. Reply)), (goes-dropped 𝓤 H A W 10 (shrSliceOf (8 ∷ []) tt (plain (λ _. R))) yes (λ κs x f. refl), (goes-dropped 𝓤 H A W 10 (plain (λ _. u64)) yes (λ κs x f. refl), (goes-dropped 𝓤 H A W 10 (shrSliceOf (0 ∷ []) tt (plain (λ _. u8))) yes (λ κs x f. refl), (goes-gave-slice 𝓤 H A W 10 9 tt (plain (λ _. u8)), tt)))))))))))))
+receive-meets 𝓤 H A W mem run 𝓣 known-search known-serve = walk-meets 𝓤 H A receive.ended stayed W (goes-dropped 𝓤 H A W 10 (shrRefTo (0 ∷ []) tt (plain (λ _. Words))) yes (λ κs x f. refl), (goes-dropped 𝓤 H A W 10 (shrSliceOf (0 ∷ []) tt (plain (λ _. u8))) yes (λ κs x f. refl), (goes-gave-slice 𝓤 H A W 10 1 tt (plain (λ _. u8)), (goes-gave-ref 𝓤 H A W 10 2 tt (plain (λ _. Numbers)), (goes-gave-ref 𝓤 H A W 10 3 tt (plain (λ _. Flags)), (goes-gave-ref 𝓤 H A W 10 4 tt (plain (λ _. Marks)), (goes-gave-ref 𝓤 H A W 10 5 tt (plain (λ _. Versions)), (goes-gave-ref 𝓤 H A W 10 6 tt (plain (λ _. Row)), (goes-gave-ref 𝓤 H A W 10 7 tt (plain (λ _. Reply)), (goes-dropped 𝓤 H A W 10 (shrSliceOf (8 ∷ []) tt (plain (λ _. R))) yes (λ κs x f. refl), (goes-dropped 𝓤 H A W 10 (plain (λ _. u64)) yes (λ κs x f. refl), (goes-dropped 𝓤 H A W 10 (shrSliceOf (0 ∷ []) tt (plain (λ _. u8))) yes (λ κs x f. refl), (goes-gave-slice 𝓤 H A W 10 9 tt (plain (λ _. u8)), tt)))))))))))))
     (receive.clauses 𝓤 H A mem run) (WpFn 𝓤 H (𝓣 .C) (𝓣 .Λ) code.function) (WpFn-mono 𝓤 H (W .laws) 𝓣 code.function) (receive-walks 𝓤 H A W mem run (𝓣 .C) (𝓣 .Λ) (fmOf 𝓤 H (W .laws) 𝓣) known-search known-serve)
 
 pub receive-spec : {M : Type 1} → stated.statement M

@@ -38,7 +38,7 @@ stored-word-requires c κs = search needs
 
 returns-4 : tie.Need-returns-4
 returns-4 c = let a = c .before .before .before .before .before .before .before .before .args in let s = a .src .now in let n = c .before .before .before .before .before .is-null .ensures ∙ null-in s (a .v) in
-    ap (λ (x : ℕ). not (eqb (a .word) x)) (c .stored-word .ensures)
+    ap (λ (x : ℕ). not (eqb (a .word) x)) (c .stored-word .ensures s)
     ∙ word-differs (a .word) (a .null) (a .text .now) (datumIn s (a .v)) (c .before .before .before .before .if1 .left) (sym n ∙ c .before .before .before .if2 .left) (sym (c .before .before .is-text .ensures s) ∙ c .before .if3 .left)
 
 pub differs-from-spec : {M : Type 1} → statement M

@@ -4,6 +4,7 @@ use Rattle.octets.specs.Store.{store}
 use Rattle.tlv.specs.Value.{datumIn}
 use Rattle.values.specs.Change.{isText, editsSet}
 use Rattle.values.proofs.ChangeLaws.{no-bytes}
+use native.Mathlib.Omega.{arith}
 use borrow.Author.Needs.{needs}
 use Rattle.values.proofs.change.set_text.Statement.{statement}
 use Rattle.values.proofs.change.set_text.Tie as tie
@@ -18,8 +19,10 @@ bytes-of-requires : tie.Need-bytes-of-requires
 bytes-of-requires c κs = search needs
 
 store-text-requires : tie.Need-store-text-requires
-store-text-requires c κs = let t : isText (datumIn (c .before .before .before .before .before .before .before .args .src .now) (c .before .before .before .before .before .before .before .args .new)) ≡ true = sym (c .before .before .before .before .is-text .ensures (c .before .before .before .before .before .before .before .args .src .now)) ∙ c .before .before .before .if1 .taken in
-    rw (c .before .before .first-value .ensures, c .bytes-of .ensures) (c .before .before .before .before .before .before .before .pre .1 t)
+store-text-requires c κs =
+    let s = c .before .before .before .before .before .before .before in
+    let t : isText (datumIn (s .args .src .now) (s .args .new)) ≡ true = sym (c .before .before .before .before .is-text .ensures (s .args .src .now)) ∙ c .before .before .before .if1 .taken in
+    rw (c .before .before .first-value .ensures, c .bytes-of .ensures) (omega (arith, s .pre .1 .0 t .1, s .pre .1 .1 t))
 
 same-length : tie.Need-same-length
 same-length c = search needs

@@ -4,13 +4,13 @@ use borrow.Author.Needs.{needs}
 use Rattle.bounds.specs.Bounds.{attributeLimit}
 use Rattle.schema.specs.Rows.{attributeRow, attributeCount, filled}
 use Rattle.schema.proofs.RowLaws.{fill-begin}
-use Rattle.node.specs.Attributes.{firstWord}
+use Rattle.values.specs.Fresh.{startWord}
 use Rattle.values.proofs.FreshLaws.{filled-more, filled-whole}
 use Rattle.values.proofs.fresh.first_words.Statement.{statement}
 use Rattle.values.proofs.fresh.first_words.Tie as tie
 
 abbrev Inv-loop : tie.InvT-loop
-Inv-loop w n words₀ i₀ words i = (i ≤ n) × (n ≡ attributeCount w) × (words ≡ filled 0 (λ k. firstWord w (attributeRow w k)) attributeLimit i)
+Inv-loop w n words₀ i₀ words i = (i ≤ n) × (n ≡ attributeCount w) × (words ≡ filled 0 (λ k. startWord (attributeRow w k)) attributeLimit i)
 
 abbrev μ-loop : tie.MeasureT-loop
 μ-loop w n words₀ i₀ words i = n - i
@@ -21,8 +21,8 @@ attribute-count-requires c κs = search needs
 loop-holds : tie.Need-loop-holds Inv-loop μ-loop
 loop-holds c = (search needs, c .attribute-count .ensures, fill-begin 0 _ attributeLimit)
 
-first-word-requires : tie.Need-first-word-requires Inv-loop μ-loop
-first-word-requires c κs = search needs
+start-word-requires : tie.Need-start-word-requires Inv-loop μ-loop
+start-word-requires c κs = search needs
 
 mul-words : tie.Need-mul-words Inv-loop μ-loop
 mul-words c = search needs
@@ -37,10 +37,10 @@ loop-less : tie.Need-loop-less Inv-loop μ-loop
 loop-less c = search needs
 
 loop-again : tie.Need-loop-again Inv-loop μ-loop
-loop-again c = let l = c .before .before .loop in (search needs, l .inv .1, filled-more (λ k. firstWord (c .before .before .before .before .args .w .now) (attributeRow (c .before .before .before .before .args .w .now) k)) attributeLimit (l .words) (l .i) (l .inv .2) _ (c .first-word .ensures) (search needs))
+loop-again c = let l = c .before .before .loop in (search needs, l .inv .1, filled-more (λ k. startWord (attributeRow (c .before .before .before .before .args .w .now) k)) attributeLimit (l .words) (l .i) (l .inv .2) _ (c .start-word .ensures) (search needs))
 
 returns : tie.Need-returns Inv-loop μ-loop
-returns c = let l = c .before .loop in filled-whole (λ k. firstWord (c .before .before .before .args .w .now) (attributeRow (c .before .before .before .args .w .now) k)) attributeLimit (l .words) (l .i) (l .inv .2) _ (search needs) (search needs) _ (l .inv .1)
+returns c = let l = c .before .loop in filled-whole (λ k. startWord (attributeRow (c .before .before .before .args .w .now) k)) attributeLimit (l .words) (l .i) (l .inv .2) _ (search needs) (search needs) _ (l .inv .1)
 
 pub first-words-spec : {M : Type 1} → statement M
 first-words-spec =
@@ -50,7 +50,7 @@ first-words-spec =
     μ-loop
     attribute-count-requires
     loop-holds
-    first-word-requires
+    start-word-requires
     mul-words
     array-write-words
     add-i

@@ -1,6 +1,7 @@
 use lib.ListN.{replicate}
 use mathlib.Core.Bool.{false}
 use Rattle.bounds.specs.Bounds.{attributeLimit}
+use Rattle.schema.specs.Layout.{textLimit}
 use Rattle.values.specs.Fresh.{freshValues}
 use borrow.Author.Needs.{needs}
 use Rattle.values.proofs.fresh.fresh.Statement.{statement}
@@ -14,7 +15,7 @@ first-versions-requires c κs = search needs
 
 returns : tie.Need-returns
 unfolding freshValues
-returns c = λ j. record { words = c .before .before .before .first-words .ensures j; nulls = replicate attributeLimit false; edited = replicate attributeLimit false; versions = c .first-versions .ensures j }
+returns c = λ j. record { words = c .before .before .before .first-words .ensures j; nulls = replicate attributeLimit false; texts = replicate textLimit 0; versions = c .first-versions .ensures j }
 
 pub fresh-spec : {M : Type 1} → statement M
 fresh-spec = tie.close (tie.spec first-words-requires first-versions-requires returns)

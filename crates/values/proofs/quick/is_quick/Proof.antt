@@ -21,16 +21,19 @@ returns c =
     let z = c .before .nulls-ok .ensures ∙ ap (every (nullAt (a .w .now) (a .words .now) (a .nulls .now))) (c .before .before .attribute-count .ensures) in
     fails _ _ (sym z ∙ not-true _ (c .if1 .taken))
 
+text-room-requires : tie.Need-text-room-requires
+text-room-requires c κs = search needs
+
 is-plain-requires : tie.Need-is-plain-requires
 is-plain-requires c κs = search needs
 
 returns-2 : tie.Need-returns-2
 unfolding quickRight
 returns-2 c =
-    let a = c .before .before .before .before .before .before .before .args in
-    let z = c .before .before .before .nulls-ok .ensures ∙ ap (every (nullAt (a .w .now) (a .words .now) (a .nulls .now))) (c .before .before .before .before .attribute-count .ensures) in
-    let e = c .before .is-plain .ensures ∙ ap (plainPage (a .defaults .now) (a .edited .now) false) (c .before .before .before .before .attribute-count .ensures) in
-    fails _ _ (sym e ∙ not-true _ (c .if2 .taken)) ∙ past _ _ (sym z ∙ not-false _ (c .before .before .if1 .left))
+    let a = c .before .before .before .before .before .before .before .before .args in
+    let z = c .before .before .before .before .nulls-ok .ensures ∙ ap (every (nullAt (a .w .now) (a .words .now) (a .nulls .now))) (c .before .before .before .before .before .attribute-count .ensures) in
+    let e = c .before .is-plain .ensures ∙ ap (plainPage (a .defaults .now) (a .texts .now) true) (c .before .before .text-room .ensures) in
+    fails _ _ (sym e ∙ not-true _ (c .if2 .taken)) ∙ past _ _ (sym z ∙ not-false _ (c .before .before .before .if1 .left))
 
 is-plain-requires-2 : tie.Need-is-plain-requires-2
 is-plain-requires-2 c κs = search needs
@@ -38,11 +41,11 @@ is-plain-requires-2 c κs = search needs
 returns-3 : tie.Need-returns-3
 unfolding quickRight
 returns-3 c =
-    let a = c .before .before .before .before .before .before .before .before .before .args in
-    let z = c .before .before .before .before .before .nulls-ok .ensures ∙ ap (every (nullAt (a .w .now) (a .words .now) (a .nulls .now))) (c .before .before .before .before .before .before .attribute-count .ensures) in
-    let e = c .before .before .before .is-plain .ensures ∙ ap (plainPage (a .defaults .now) (a .edited .now) false) (c .before .before .before .before .before .before .attribute-count .ensures) in
-    let f = c .before .is-plain2 .ensures ∙ ap (plainPage (a .edits .now) (a .edited .now) true) (c .before .before .before .before .before .before .attribute-count .ensures) in
-    fails _ _ (sym f ∙ not-true _ (c .if3 .taken)) ∙ past _ _ (sym e ∙ not-false _ (c .before .before .if2 .left)) ∙ past _ _ (sym z ∙ not-false _ (c .before .before .before .before .if1 .left))
+    let a = c .before .before .before .before .before .before .before .before .before .before .args in
+    let z = c .before .before .before .before .before .before .nulls-ok .ensures ∙ ap (every (nullAt (a .w .now) (a .words .now) (a .nulls .now))) (c .before .before .before .before .before .before .before .attribute-count .ensures) in
+    let e = c .before .before .before .is-plain .ensures ∙ ap (plainPage (a .defaults .now) (a .texts .now) true) (c .before .before .before .before .text-room .ensures) in
+    let f = c .before .is-plain2 .ensures ∙ ap (plainPage (a .edits .now) (a .texts .now) false) (c .before .before .before .before .text-room .ensures) in
+    fails _ _ (sym f ∙ not-true _ (c .if3 .taken)) ∙ past _ _ (sym e ∙ not-false _ (c .before .before .if2 .left)) ∙ past _ _ (sym z ∙ not-false _ (c .before .before .before .before .before .if1 .left))
 
 all-quick-requires : tie.Need-all-quick-requires
 all-quick-requires c κs = search needs
@@ -50,14 +53,14 @@ all-quick-requires c κs = search needs
 returns-4 : tie.Need-returns-4
 unfolding quickRight
 returns-4 c =
-    let a = c .before .before .before .before .before .before .before .before .before .before .args in
-    let z = c .before .before .before .before .before .before .nulls-ok .ensures ∙ ap (every (nullAt (a .w .now) (a .words .now) (a .nulls .now))) (c .before .before .before .before .before .before .before .attribute-count .ensures) in
-    let e = c .before .before .before .before .is-plain .ensures ∙ ap (plainPage (a .defaults .now) (a .edited .now) false) (c .before .before .before .before .before .before .before .attribute-count .ensures) in
-    let f = c .before .before .is-plain2 .ensures ∙ ap (plainPage (a .edits .now) (a .edited .now) true) (c .before .before .before .before .before .before .before .attribute-count .ensures) in
+    let a = c .before .before .before .before .before .before .before .before .before .before .before .args in
+    let z = c .before .before .before .before .before .before .before .nulls-ok .ensures ∙ ap (every (nullAt (a .w .now) (a .words .now) (a .nulls .now))) (c .before .before .before .before .before .before .before .before .attribute-count .ensures) in
+    let e = c .before .before .before .before .is-plain .ensures ∙ ap (plainPage (a .defaults .now) (a .texts .now) true) (c .before .before .before .before .before .text-room .ensures) in
+    let f = c .before .before .is-plain2 .ensures ∙ ap (plainPage (a .edits .now) (a .texts .now) false) (c .before .before .before .before .before .text-room .ensures) in
     c .all-quick .ensures
     ∙ past _ _ (sym f ∙ not-false _ (c .before .if3 .left))
     ∙ past _ _ (sym e ∙ not-false _ (c .before .before .before .if2 .left))
-    ∙ past _ _ (sym z ∙ not-false _ (c .before .before .before .before .before .if1 .left))
+    ∙ past _ _ (sym z ∙ not-false _ (c .before .before .before .before .before .before .if1 .left))
 
 pub is-quick-spec : {M : Type 1} → statement M
 is-quick-spec =
@@ -66,6 +69,7 @@ is-quick-spec =
     attribute-count-requires
     nulls-ok-requires
     returns
+    text-room-requires
     is-plain-requires
     returns-2
     is-plain-requires-2

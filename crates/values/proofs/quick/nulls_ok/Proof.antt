@@ -5,11 +5,11 @@ use Rattle.values.proofs.QuickLaws.{no-nulls}
 use Rattle.values.proofs.quick.nulls_ok.Statement.{statement}
 use Rattle.values.proofs.quick.nulls_ok.Tie as tie
 
-some-mark-requires : tie.Need-some-mark-requires
-some-mark-requires c κs = search needs
+some-null-requires : tie.Need-some-null-requires
+some-null-requires c κs = search needs
 
 returns : tie.Need-returns
-returns c = let a = c .before .before .args in no-nulls (a .w .now) (a .words .now) (a .nulls .now) (a .n) (sym (c .before .some-mark .ensures) ∙ not-true _ (c .if1 .taken))
+returns c = let a = c .before .before .args in no-nulls (a .w .now) (a .words .now) (a .nulls .now) (a .n) (sym (c .before .some-null .ensures) ∙ not-true _ (c .if1 .taken))
 
 all-nulls-requires : tie.Need-all-nulls-requires
 all-nulls-requires c κs = search needs
@@ -18,4 +18,4 @@ returns-2 : tie.Need-returns-2
 returns-2 c = c .all-nulls .ensures
 
 pub nulls-ok-spec : {M : Type 1} → statement M
-nulls-ok-spec = tie.close (tie.spec some-mark-requires returns all-nulls-requires returns-2)
+nulls-ok-spec = tie.close (tie.spec some-null-requires returns all-nulls-requires returns-2)

@@ -1,12 +1,12 @@
 use mathlib.Core.Path.{sym, ap, _∙_}
-use mathlib.Core.Bool.{false}
+use mathlib.Core.Bool.{true}
 use borrow.Author.Needs.{needs}
 use borrow.Author.Tests.{not-true, not-false}
 use lib.Dec.{leb}
 use lib.ListN.{length}
 use Rattle.schema.specs.Check.{every}
 use Rattle.schema.proofs.BoolLaws.{right, past, fails}
-use Rattle.values.specs.Quick.{someMark, nullAt}
+use Rattle.values.specs.Quick.{someText, nullAt}
 use Rattle.values.proofs.CloseLaws.{close-right}
 use Rattle.values.proofs.valid.all_right.Statement.{statement}
 use Rattle.values.proofs.valid.all_right.Tie as tie
@@ -21,7 +21,7 @@ returns : tie.Need-returns
 returns c =
     let a = c .before .before .before .before .before .args in
     let z = c .before .nulls-ok .ensures ∙ ap (every (nullAt (a .w .now) (a .words .now) (a .nulls .now))) (c .before .before .attribute-count .ensures) in
-    fails _ _ (sym z ∙ not-true _ (c .if1 .taken)) ∙ close-right (a .w .now) (a .defaults .now) (a .edits .now) (a .words .now) (a .nulls .now) (a .edited .now)
+    fails _ _ (sym z ∙ not-true _ (c .if1 .taken)) ∙ close-right (a .w .now) (a .defaults .now) (a .edits .now) (a .words .now) (a .nulls .now) (a .texts .now)
 
 all-quick-requires : tie.Need-all-quick-requires
 all-quick-requires c κs = search needs
@@ -30,24 +30,27 @@ returns-2 : tie.Need-returns-2
 returns-2 c =
     let a = c .before .before .before .before .before .before .before .before .args in
     let z = c .before .before .before .before .nulls-ok .ensures ∙ ap (every (nullAt (a .w .now) (a .words .now) (a .nulls .now))) (c .before .before .before .before .before .attribute-count .ensures) in
-    fails _ _ (sym (c .before .all-quick .ensures) ∙ not-true _ (c .if2 .taken)) ∙ past _ _ (sym z ∙ not-false _ (c .before .before .before .if1 .left)) ∙ close-right (a .w .now) (a .defaults .now) (a .edits .now) (a .words .now) (a .nulls .now) (a .edited .now)
+    fails _ _ (sym (c .before .all-quick .ensures) ∙ not-true _ (c .if2 .taken)) ∙ past _ _ (sym z ∙ not-false _ (c .before .before .before .if1 .left)) ∙ close-right (a .w .now) (a .defaults .now) (a .edits .now) (a .words .now) (a .nulls .now) (a .texts .now)
+
+text-room-requires : tie.Need-text-room-requires
+text-room-requires c κs = search needs
 
 whole-page-requires : tie.Need-whole-page-requires
 whole-page-requires c κs = search needs
 
 all-texts-requires : tie.Need-all-texts-requires
 all-texts-requires c κs h =
-    let a = c .before .before .before .before .before .before .before .before .before .args in
-    right (leb (length (a .defaults .now)) (length (a .edits .now))) _ (right (someMark (a .edited .now) false _) _ (sym (c .whole-page .ensures) ∙ h))
+    let a = c .before .before .before .before .before .before .before .before .before .before .args in
+    right (leb (length (a .defaults .now)) (length (a .edits .now))) _ (right (someText (a .texts .now) true _) _ (sym (c .whole-page .ensures) ∙ h))
 
 returns-3 : tie.Need-returns-3
 returns-3 c =
-    let a = c .before .before .before .before .before .before .before .before .before .before .args in
-    let z = c .before .before .before .before .before .before .nulls-ok .ensures ∙ ap (every (nullAt (a .w .now) (a .words .now) (a .nulls .now))) (c .before .before .before .before .before .before .before .attribute-count .ensures) in
+    let a = c .before .before .before .before .before .before .before .before .before .before .before .args in
+    let z = c .before .before .before .before .before .before .before .nulls-ok .ensures ∙ ap (every (nullAt (a .w .now) (a .words .now) (a .nulls .now))) (c .before .before .before .before .before .before .before .before .attribute-count .ensures) in
     c .all-texts .ensures
-    ∙ past _ _ (sym (c .before .before .before .all-quick .ensures) ∙ not-false _ (c .before .before .if2 .left))
-    ∙ past _ _ (sym z ∙ not-false _ (c .before .before .before .before .before .if1 .left))
-    ∙ close-right (a .w .now) (a .defaults .now) (a .edits .now) (a .words .now) (a .nulls .now) (a .edited .now)
+    ∙ past _ _ (sym (c .before .before .before .before .all-quick .ensures) ∙ not-false _ (c .before .before .before .if2 .left))
+    ∙ past _ _ (sym z ∙ not-false _ (c .before .before .before .before .before .before .if1 .left))
+    ∙ close-right (a .w .now) (a .defaults .now) (a .edits .now) (a .words .now) (a .nulls .now) (a .texts .now)
 
 pub all-right-spec : {M : Type 1} → statement M
 all-right-spec =
@@ -58,6 +61,7 @@ all-right-spec =
     returns
     all-quick-requires
     returns-2
+    text-room-requires
     whole-page-requires
     all-texts-requires
     returns-3)

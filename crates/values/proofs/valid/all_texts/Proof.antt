@@ -8,16 +8,17 @@ use lib.ListN.{getD}
 use Rattle.schema.specs.Rows.{attributeCount}
 use Rattle.schema.specs.Check.{every}
 use Rattle.schema.proofs.CheckLaws.{every-more, every-fails, every-done}
+use Rattle.values.specs.Values.{markAt}
 use Rattle.values.specs.Valid.{shownAt}
 use Rattle.values.proofs.valid.all_texts.Statement.{statement}
 use Rattle.values.proofs.valid.all_texts.Tie as tie
 
 abbrev Inv-loop : tie.InvT-loop
-Inv-loop w defaults edits whole words nulls edited n i₀ i =
-    (i ≤ n) × (n ≡ attributeCount w) × (every (λ k. shownAt w defaults edits k (getD words k 0) (getD nulls k false) (getD edited k false)) i ≡ true)
+Inv-loop w defaults edits whole nulls texts n i₀ i =
+    (i ≤ n) × (n ≡ attributeCount w) × (every (λ k. shownAt w defaults edits k (getD nulls k false) (markAt w texts k)) i ≡ true)
 
 abbrev μ-loop : tie.MeasureT-loop
-μ-loop w defaults edits whole words nulls edited n i₀ i = n - i
+μ-loop w defaults edits whole nulls texts n i₀ i = n - i
 
 attribute-count-requires : tie.Need-attribute-count-requires Inv-loop μ-loop
 attribute-count-requires c κs = search needs
@@ -26,25 +27,16 @@ loop-holds : tie.Need-loop-holds Inv-loop μ-loop
 unfolding every
 loop-holds c = (search needs, c .attribute-count .ensures, refl)
 
-mul-text-ok : tie.Need-mul-text-ok Inv-loop μ-loop
-mul-text-ok c = search needs
-
 element-copy-out-text-ok : tie.Need-element-copy-out-text-ok Inv-loop μ-loop
 element-copy-out-text-ok c = search needs
 
-element-copy-out-text-ok-2 : tie.Need-element-copy-out-text-ok-2 Inv-loop μ-loop
-element-copy-out-text-ok-2 c = search needs
-
-element-copy-out-text-ok-3 : tie.Need-element-copy-out-text-ok-3 Inv-loop μ-loop
-element-copy-out-text-ok-3 c = search needs
-
 text-ok-requires : tie.Need-text-ok-requires Inv-loop μ-loop
-text-ok-requires c κs = (search needs, c .before .before .before .before .before .before .before .before .pre)
+text-ok-requires c κs = (search needs, c .before .before .before .before .before .before .pre)
 
 returns : tie.Need-returns Inv-loop μ-loop
 returns c =
-    let a = c .before .before .before .before .before .before .before .before .before .before .args in
-    every-fails (λ k. shownAt (a .w .now) (a .defaults .now) (a .edits .now) k (getD (a .words .now) k 0) (getD (a .nulls .now) k false) (getD (a .edited .now) k false)) _ (c .before .before .before .before .before .before .loop .i) (search needs) (sym (c .before .text-ok .ensures) ∙ not-true _ (c .if1 .taken))
+    let a = c .before .before .before .before .before .before .before .before .args in
+    every-fails (λ k. shownAt (a .w .now) (a .defaults .now) (a .edits .now) k (getD (a .nulls .now) k false) (markAt (a .w .now) (a .texts .now) k)) _ (c .before .before .before .before .loop .i) (search needs) (sym (c .before .text-ok .ensures) ∙ not-true _ (c .if1 .taken))
 
 add-i : tie.Need-add-i Inv-loop μ-loop
 add-i c = search needs
@@ -54,14 +46,14 @@ loop-less c = search needs
 
 loop-again : tie.Need-loop-again Inv-loop μ-loop
 loop-again c =
-    let a = c .before .before .before .before .before .before .before .before .before .before .args in
-    let l = c .before .before .before .before .before .before .loop in
-    (search needs, l .inv .1, every-more (λ k. shownAt (a .w .now) (a .defaults .now) (a .edits .now) k (getD (a .words .now) k 0) (getD (a .nulls .now) k false) (getD (a .edited .now) k false)) _ (l .inv .2) (sym (c .before .text-ok .ensures) ∙ not-false _ (c .if1 .left)))
+    let a = c .before .before .before .before .before .before .before .before .args in
+    let l = c .before .before .before .before .loop in
+    (search needs, l .inv .1, every-more (λ k. shownAt (a .w .now) (a .defaults .now) (a .edits .now) k (getD (a .nulls .now) k false) (markAt (a .w .now) (a .texts .now) k)) _ (l .inv .2) (sym (c .before .text-ok .ensures) ∙ not-false _ (c .if1 .left)))
 
 returns-2 : tie.Need-returns-2 Inv-loop μ-loop
 returns-2 c =
     let a = c .before .before .before .before .before .args in
-    every-done (λ k. shownAt (a .w .now) (a .defaults .now) (a .edits .now) k (getD (a .words .now) k 0) (getD (a .nulls .now) k false) (getD (a .edited .now) k false)) _ _ (search needs) (search needs) (c .before .loop .inv .2)
+    every-done (λ k. shownAt (a .w .now) (a .defaults .now) (a .edits .now) k (getD (a .nulls .now) k false) (markAt (a .w .now) (a .texts .now) k)) _ _ (search needs) (search needs) (c .before .loop .inv .2)
 
 pub all-texts-spec : {M : Type 1} → statement M
 all-texts-spec =
@@ -71,10 +63,7 @@ all-texts-spec =
     μ-loop
     attribute-count-requires
     loop-holds
-    mul-text-ok
     element-copy-out-text-ok
-    element-copy-out-text-ok-2
-    element-copy-out-text-ok-3
     text-ok-requires
     returns
     add-i

@@ -1,23 +1,23 @@
-use mathlib.Core.Path.{_≡_}
-use mathlib.Core.Bool.{true, false}
-use borrow.Author.Tests.{eq-eqb, ne-eqb}
-use lib.Dec.{eqb}
-use lib.ListN.{length}
-use Rattle.values.specs.Valid.{shownRight}
+use mathlib.Core.Path.{_∙_}
 use borrow.Author.Needs.{needs}
+use borrow.Author.Tests.{eq-eqb, ne-eqb}
+use Rattle.values.proofs.ValidLaws.{too-long, not-whole, whole-text}
 use Rattle.values.proofs.valid.shown_ok.Statement.{statement}
 use Rattle.values.proofs.valid.shown_ok.Tie as tie
 
 returns : tie.Need-returns
-unfolding shownRight
-returns c = let q : eqb (length (c .before .before .args .text .now)) (c .before .before .args .word) ≡ false = ne-eqb _ _ (c .if1 .taken) in rw q
+returns c = let a = c .before .before .args in too-long (a .text .now) (a .n) (c .if1 .taken)
+
+returns-2 : tie.Need-returns-2
+returns-2 c = let a = c .before .before .before .args in not-whole (a .text .now) (a .n) (c .before .if1 .left) (ne-eqb _ _ (c .if2 .taken))
 
 valid-requires : tie.Need-valid-requires
 valid-requires c κs = search needs
 
-returns-2 : tie.Need-returns-2
-unfolding shownRight
-returns-2 c = let q : eqb (length (c .before .before .before .args .text .now)) (c .before .before .before .args .word) ≡ true = eq-eqb _ _ (c .before .if1 .left) in rw q (c .valid .ensures)
+returns-3 : tie.Need-returns-3
+returns-3 c =
+    let a = c .before .before .before .before .args in
+    c .valid .ensures ∙ whole-text (a .text .now) (a .n) (c .before .before .if1 .left) (eq-eqb _ _ (c .before .if2 .left))
 
 pub shown-ok-spec : {M : Type 1} → statement M
-shown-ok-spec = tie.close (tie.spec returns valid-requires returns-2)
+shown-ok-spec = tie.close (tie.spec returns returns-2 valid-requires returns-3)

@@ -1,65 +1,75 @@
-use mathlib.Core.Path.{sym, ap, _∙_}
-use mathlib.Core.List.{List}
-use Prim.Native.Nat.{ℕ}
+use mathlib.Core.Path.{_≡_, sym, ap, ap₂, _∙_}
+use mathlib.Core.Bool.{true}
+use Prim.Native.Nat.{ℕ, _≤_, _<_}
 use borrow.Author.Needs.{needs}
 use borrow.Author.Tests.{not-true, not-false}
-use lib.ListN.{take, drop}
-use Rattle.schema.specs.Rows.{factoryStart}
-use Rattle.schema.proofs.BoolLaws.{left, right}
-use Rattle.values.specs.Valid.{shownRight}
-use Rattle.values.proofs.ValidLaws.{shown-null, shown-none, shown-text, shown-factory}
+use Rattle.schema.specs.Rows.{attributeRow, isText}
+use Rattle.values.specs.Values.{rankText, rankLength, markOf, markAt}
+use Rattle.values.specs.Valid.{markMax, shownRight}
+use Rattle.values.proofs.ValidLaws.{mark-large, text-null, text-there, shown-none, shown-text}
 use Rattle.values.proofs.valid.text_ok.Statement.{statement}
 use Rattle.values.proofs.valid.text_ok.Tie as tie
-
-returns : tie.Need-returns
-returns c = let a = c .before .before .before .args in shown-null (a .w .now) (a .defaults .now) (a .edits .now) (a .i) (a .word) (a .null) (a .edited) (c .if1 .taken)
 
 is-text-requires : tie.Need-is-text-requires
 is-text-requires c κs = search needs
 
-returns-2 : tie.Need-returns-2
-returns-2 c = let a = c .before .before .before .before .before .args in shown-none (a .w .now) (a .defaults .now) (a .edits .now) (a .i) (a .word) (a .null) (a .edited) (c .before .before .if1 .left) (sym (c .before .is-text .ensures) ∙ not-true _ (c .if2 .taken))
+returns : tie.Need-returns
+returns c = let a = c .before .before .before .before .args in shown-none (a .w .now) (a .defaults .now) (a .edits .now) (a .i) (a .null) _ (sym (c .before .is-text .ensures) ∙ not-true _ (c .if1 .taken))
 
 first-value-requires : tie.Need-first-value-requires
 first-value-requires c κs = search needs
 
-factory-start-requires : tie.Need-factory-start-requires
-factory-start-requires c κs = search needs
+mark-of-requires : tie.Need-mark-of-requires
+mark-of-requires c κs = search needs
 
-cut-ok-requires : tie.Need-cut-ok-requires
-cut-ok-requires c κs = let s = c .before .before .before .before .before .before .before .before in s .pre .1 (left (s .args .whole) _ (c .before .before .if3 .taken))
+-- the row is a text
+text-here : (c : tie.Else1) → isText (attributeRow (c .before .before .before .before .args .w .now) (c .before .before .before .before .args .i)) ≡ true
+text-here c = sym (c .before .is-text .ensures) ∙ not-false _ (c .if1 .left)
+
+-- its mark was read
+read : (c : tie.After-mark-of) → c .mark-of .result ≡ markAt (c .before .before .before .before .before .before .args .w .now) (c .before .before .before .before .before .before .args .texts .now) (c .before .before .before .before .before .before .args .i)
+read c = c .mark-of .ensures ∙ ap (markOf (c .before .before .before .before .before .before .args .texts .now)) (c .before .first-value .ensures)
+
+returns-2 : tie.Need-returns-2
+returns-2 c =
+    let a = c .before .before .before .before .before .before .before .args in
+    let r = attributeRow (a .w .now) (a .i) .first in
+    let m = markAt (a .w .now) (a .texts .now) (a .i) in
+    let l : markMax < m = rw (← read (c .before)) (c .if2 .taken) in
+    mark-large (a .w .now) (a .defaults .now) (a .edits .now) r m (a .null) l ∙ shown-text (a .w .now) (a .defaults .now) (a .edits .now) (a .i) (a .null) m (text-here (c .before .before .before))
 
 returns-3 : tie.Need-returns-3
 returns-3 c =
-    let a = c .before .before .before .before .before .before .before .before .before .args in
-    c .cut-ok .ensures
-    ∙ ap (λ (s : ℕ). shownRight (take (a .word) (drop s (a .defaults .now))) (a .word)) (c .before .factory-start .ensures ∙ ap (λ (r : ℕ). factoryStart (a .w .now) r) (c .before .before .first-value .ensures))
-    ∙ shown-factory (a .w .now) (a .defaults .now) (a .edits .now) (a .i) (a .word) (a .null) (a .edited) (c .before .before .before .before .before .before .if1 .left) (sym (c .before .before .before .before .before .is-text .ensures) ∙ not-false _ (c .before .before .before .before .if2 .left)) (not-true _ (right (a .whole) _ (c .before .before .before .if3 .taken)))
+    let a = c .before .before .before .before .before .before .before .before .args in
+    let r = attributeRow (a .w .now) (a .i) .first in
+    let m = markAt (a .w .now) (a .texts .now) (a .i) in
+    let l : m ≤ markMax = rw (← read (c .before .before)) (c .before .if2 .left) in
+    text-null (a .w .now) (a .defaults .now) (a .edits .now) r m (a .null) l (c .if3 .taken) ∙ shown-text (a .w .now) (a .defaults .now) (a .edits .now) (a .i) (a .null) m (text-here (c .before .before .before .before))
 
-text-at-requires : tie.Need-text-at-requires
-text-at-requires c κs = search needs
-
-shown-ok-requires : tie.Need-shown-ok-requires
-shown-ok-requires c κs = search needs
+rank-ok-requires : tie.Need-rank-ok-requires
+rank-ok-requires c κs = c .before .before .before .before .before .before .before .before .pre .1
 
 returns-4 : tie.Need-returns-4
 returns-4 c =
-    let a = c .before .before .before .before .before .before .before .before .args in
-    c .shown-ok .ensures
-    ∙ ap (λ (t : List ℕ). shownRight t (a .word)) (c .before .text-at .ensures)
-    ∙ shown-text (a .w .now) (a .defaults .now) (a .edits .now) (a .i) (a .word) (a .null) (a .edited) (c .before .before .before .before .before .if1 .left) (sym (c .before .before .before .before .is-text .ensures) ∙ not-false _ (c .before .before .before .if2 .left))
+    let a = c .before .before .before .before .before .before .before .before .before .args in
+    let w = a .w .now in
+    let r = attributeRow w (a .i) .first in
+    let m = markAt w (a .texts .now) (a .i) in
+    let l : m ≤ markMax = rw (← read (c .before .before .before)) (c .before .before .if2 .left) in
+    c .rank-ok .ensures
+    ∙ ap₂ (λ (k n : ℕ). shownRight (rankText w (a .defaults .now) (a .edits .now) k n) (rankLength w k n)) (c .before .before .before .before .first-value .ensures) (read (c .before .before .before))
+    ∙ text-there w (a .defaults .now) (a .edits .now) r m (a .null) l (c .before .if3 .left)
+    ∙ shown-text w (a .defaults .now) (a .edits .now) (a .i) (a .null) m (text-here (c .before .before .before .before .before))
 
 pub text-ok-spec : {M : Type 1} → statement M
 text-ok-spec =
     tie.close
     (tie.spec
-    returns
     is-text-requires
-    returns-2
+    returns
     first-value-requires
-    factory-start-requires
-    cut-ok-requires
+    mark-of-requires
+    returns-2
     returns-3
-    text-at-requires
-    shown-ok-requires
+    rank-ok-requires
     returns-4)

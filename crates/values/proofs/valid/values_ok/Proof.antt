@@ -10,7 +10,7 @@ is-quick-requires c κs = search needs
 returns : tie.Need-returns
 returns c =
     let a = c .before .before .before .before .args in
-    quick-right (a .w .now) (a .defaults .now) (a .edits .now) (a .words .now) (a .nulls .now) (a .edited .now) (sym (c .before .is-quick .ensures) ∙ c .if1 .taken)
+    quick-right (a .w .now) (a .defaults .now) (a .edits .now) (a .words .now) (a .nulls .now) (a .texts .now) (sym (c .before .is-quick .ensures) ∙ c .if1 .taken)
 
 all-right-requires : tie.Need-all-right-requires
 all-right-requires c κs = search needs

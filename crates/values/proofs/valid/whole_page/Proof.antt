@@ -6,14 +6,14 @@ use Rattle.schema.proofs.BoolLaws.{past, fails}
 use Rattle.values.proofs.valid.whole_page.Statement.{statement}
 use Rattle.values.proofs.valid.whole_page.Tie as tie
 
-some-mark-requires : tie.Need-some-mark-requires
-some-mark-requires c κs = search needs
+some-text-requires : tie.Need-some-text-requires
+some-text-requires c κs = search needs
 
 returns : tie.Need-returns
-returns c = fails _ _ (sym (c .before .some-mark .ensures) ∙ not-true _ (c .if1 .taken))
+returns c = fails _ _ (sym (c .before .some-text .ensures) ∙ not-true _ (c .if1 .taken))
 
 returns-2 : tie.Need-returns-2
-returns-2 c = fails _ _ (lt-leb _ _ (c .if2 .taken)) ∙ past _ _ (sym (c .before .before .some-mark .ensures) ∙ not-false _ (c .before .if1 .left))
+returns-2 c = fails _ _ (lt-leb _ _ (c .if2 .taken)) ∙ past _ _ (sym (c .before .before .some-text .ensures) ∙ not-false _ (c .before .if1 .left))
 
 valid-requires : tie.Need-valid-requires
 valid-requires c κs = search needs
@@ -22,8 +22,8 @@ returns-3 : tie.Need-returns-3
 returns-3 c =
     c .valid .ensures
     ∙ past _ _ (le-leb _ _ (c .before .if2 .left))
-    ∙ past _ _ (sym (c .before .before .before .some-mark .ensures) ∙ not-false _ (c .before .before .if1 .left))
+    ∙ past _ _ (sym (c .before .before .before .some-text .ensures) ∙ not-false _ (c .before .before .if1 .left))
 
 pub whole-page-spec : {M : Type 1} → statement M
 whole-page-spec =
-    tie.close (tie.spec some-mark-requires returns returns-2 valid-requires returns-3)
+    tie.close (tie.spec some-text-requires returns returns-2 valid-requires returns-3)

@@ -15,11 +15,11 @@ use Rattle.writes.proofs.entry.write_all.Statement.{statement}
 use Rattle.writes.proofs.entry.write_all.Tie as tie
 
 abbrev Inv-loop : tie.InvT-loop
-Inv-loop w g defaults edits₀ words₀ nulls₀ edited₀ versions₀ n s entries codes₀ i₀ edits words nulls edited versions codes i =
-    (i ≤ n) × (length edits ≡ textSize * textCount w) × Writing w g defaults s (heldOf words₀ nulls₀ edited₀ versions₀ edits₀) (take n entries) (heldOf words nulls edited versions edits) codes i
+Inv-loop w g defaults edits₀ words₀ nulls₀ texts₀ versions₀ n s entries codes₀ i₀ edits words nulls texts versions codes i =
+    (i ≤ n) × (length edits ≡ textSize * textCount w) × Writing w g defaults s (heldOf words₀ nulls₀ texts₀ versions₀ edits₀) (take n entries) (heldOf words nulls texts versions edits) codes i
 
 abbrev μ-loop : tie.MeasureT-loop
-μ-loop w g defaults edits₀ words₀ nulls₀ edited₀ versions₀ n s entries codes₀ i₀ edits words nulls edited versions codes i =
+μ-loop w g defaults edits₀ words₀ nulls₀ texts₀ versions₀ n s entries codes₀ i₀ edits words nulls texts versions codes i =
     n - i
 
 -- what owning the array tells: it has all its entries
@@ -48,7 +48,7 @@ loop-less : tie.Need-loop-less Inv-loop μ-loop
 loop-less c = omega (arith, c .before .before .before .before .before .before .before .before .before .loop-test .taken)
 
 loop-again : tie.Need-loop-again Inv-loop μ-loop
-loop-again c = let a = c .before .before .before .before .before .before .before .before .before .before .before .before .before .before .args in let l = c .before .before .before .before .before .before .before .before .before .before .loop in let e = c .before .before .write-entry .ensures in let h = heldOf (l .words) (l .nulls) (l .edited) (l .versions) (l .edits) in (
+loop-again c = let a = c .before .before .before .before .before .before .before .before .before .before .before .before .before .before .args in let l = c .before .before .before .before .before .before .before .before .before .before .loop in let e = c .before .before .write-entry .ensures in let h = heldOf (l .words) (l .nulls) (l .texts) (l .versions) (l .edits) in (
   omega (arith, c .before .before .before .before .before .before .before .before .before .loop-test .taken),
   ap (λ (o : Outcome). length (o .held .edits)) e ∙ entry-length (a .w .now) (a .defaults .now) h (a .g) (a .s .now) _ ∙ l .inv .1,
   writing-goes (a .w .now) (a .g) (a .defaults .now) (a .s .now) (l .inv .2) _ _ (omega (arith, c .before .before .before .before .before .before .before .before .before .before .before .before .before .before .pre .1 .0, c .before .before .before .before .before .before .before .before .before .loop-test .taken)) (taken-at (a .t9) (a .n) (l .i) noEntry (enough (c .before .before .before .before .before .before .before .before .before .before .before .before .before .before)) (c .before .before .before .before .before .before .before .before .before .loop-test .taken)) e,
