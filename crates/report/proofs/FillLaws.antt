@@ -1,6 +1,6 @@
 -- The turns of the loop that fills a part.
 use mathlib.Core.Path.{_≡_, refl, sym, ap, subst, _∙_}
-use mathlib.Core.Bool.{true, false}
+use mathlib.Core.Bool.{Bool, true, false}
 use mathlib.Core.List.{List, [], _∷_, _++_}
 use Prim.Native.Nat.{ℕ, _+_, _-_, _≤_, _<_}
 use native.Mathlib.Nat.{add-zero}
@@ -11,6 +11,8 @@ use Rattle.octets.specs.Store.{store, Stored}
 use Rattle.octets.proofs.StoreLaws.{then}
 use Rattle.interaction_writer.specs.Spelling.{spelling, joined}
 use Rattle.interaction_writer.specs.Block.{blockTree}
+use Rattle.acl.specs.declared.Grants.{Grants}
+use Rattle.values.specs.Values.{valuesOf}
 use Rattle.selection.specs.declared.asked.Asked.{Asked}
 use Rattle.selection.specs.declared.items.Item.{Item}
 use Rattle.selection.specs.Items.{span, itemAt}
@@ -23,6 +25,11 @@ use Rattle.report.specs.Part.{Filling}
 use Rattle.report.proofs.OfferLaws.{offered-just, offered-none, offered-some, offered-within}
 use Rattle.report.proofs.BlockLaws.{some-block, places-block}
 use Rattle.report.proofs.ChunkLaws.{sizes-joined, joined-both, after-both, taken-all, taken-both, taken-full}
+
+-- the view, of what is lent
+abbrev pub seen : List ℕ → List ℕ → List Bool → List ℕ → List ℕ → List ℕ → List ℕ → Grants → List Bool → View
+seen w words nulls texts versions defaults edits g skips =
+    record { schema = w; values = valuesOf words nulls texts versions; defaults = defaults; edits = edits; grants = g; skips = skips }
 
 stored-none : (o : List ℕ) (at : ℕ) → Stored o at [] o at
 unfolding store

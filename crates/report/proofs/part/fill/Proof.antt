@@ -1,14 +1,10 @@
 use mathlib.Core.Path.{_≡_, refl}
-use mathlib.Core.Bool.{Bool}
-use mathlib.Core.List.{List, _∷_, _++_}
-use Prim.Native.Nat.{ℕ, _+_, _-_, _≤_}
+use mathlib.Core.List.{List, _++_}
+use Prim.Native.Nat.{ℕ, _+_, _-_}
 use native.Mathlib.Omega.{arith}
-use borrow.Author.Needs.{needs}
-use lib.ListN.{length, drop}
-use Rattle.acl.specs.declared.Grants.{Grants}
+use lib.ListN.{length}
 use Rattle.selection.specs.declared.asked.Asked.{Asked}
 use Rattle.report.specs.declared.Filled.{Filled}
-use Rattle.values.specs.Values.{valuesOf}
 use Rattle.selection.specs.Request.{askedPaths}
 use Rattle.selection.proofs.RequestLaws.{paths-count, paths-here}
 use Rattle.report.specs.Blocks.{View, Placed, pathBlocks, blocksFrom}
@@ -16,14 +12,9 @@ use Rattle.report.specs.Chunk.{blockRoom}
 use Rattle.report.specs.Part.{Filling}
 use Rattle.report.proofs.BlockLaws.{ahead, ahead-done, ahead-path}
 use Rattle.report.proofs.PartLaws.{end-within}
-use Rattle.report.proofs.FillLaws.{fill-ends, filling-of, fill-full, fill-both}
+use Rattle.report.proofs.FillLaws.{seen, fill-ends, filling-of, fill-full, fill-both}
 use Rattle.report.proofs.part.fill.Statement.{statement}
 use Rattle.report.proofs.part.fill.Tie as tie
-
--- the view, of what is lent
-abbrev seen : List ℕ → List ℕ → List Bool → List ℕ → List ℕ → List ℕ → List ℕ → Grants → List Bool → View
-seen w words nulls texts versions defaults edits g skips =
-    record { schema = w; values = valuesOf words nulls texts versions; defaults = defaults; edits = edits; grants = g; skips = skips }
 
 abbrev Inv-loop : tie.InvT-loop
 Inv-loop w words nulls texts versions defaults edits g skips row asked out₀ start place₀ path₀ i₀ end₀ room₀ out place path i end room =

@@ -1,26 +1,18 @@
 use mathlib.Core.Path.{_≡_, refl, sym, _∙_}
-use mathlib.Core.Bool.{Bool, false}
 use mathlib.Core.List.{List}
-use Prim.Native.Nat.{ℕ, _+_, _-_, _≤_, _<_}
+use Prim.Native.Nat.{ℕ, _+_, _-_, _<_}
 use native.Mathlib.Omega.{arith}
 use borrow.Author.Needs.{needs}
 use lib.ListN.{length}
 use Rattle.bounds.specs.Bounds.{attributeLimit}
-use Rattle.acl.specs.declared.Grants.{Grants}
 use Rattle.selection.specs.Items.{span}
 use Rattle.report.specs.declared.Filled.{Filled}
-use Rattle.values.specs.Values.{valuesOf}
 use Rattle.report.specs.Blocks.{View, startOf, pathBlocks}
 use Rattle.report.specs.Part.{Filling}
 use Rattle.report.proofs.BlockLaws.{value-index, span-most, places-done, places-none}
-use Rattle.report.proofs.FillLaws.{fill-ends, filling-of, Turn, turn}
+use Rattle.report.proofs.FillLaws.{seen, fill-ends, filling-of, Turn, turn}
 use Rattle.report.proofs.part.fill_path.Statement.{statement}
 use Rattle.report.proofs.part.fill_path.Tie as tie
-
--- the view, of what is lent
-abbrev seen : List ℕ → List ℕ → List Bool → List ℕ → List ℕ → List ℕ → List ℕ → Grants → List Bool → View
-seen w words nulls texts versions defaults edits g skips =
-    record { schema = w; values = valuesOf words nulls texts versions; defaults = defaults; edits = edits; grants = g; skips = skips }
 
 abbrev Inv-loop : tie.InvT-loop
 Inv-loop w words nulls texts versions defaults edits g skips p path first out₀ start room span place₀ i₀ end₀ left₀ out place i end left =
