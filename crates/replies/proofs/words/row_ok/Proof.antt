@@ -1,5 +1,4 @@
 use mathlib.Core.Path.{refl}
-use Prim.Native.Nat.{_^_}
 use borrow.Author.Tests.{lt-ltb, le-ltb, lt-leb, le-leb, eq-eqb, ne-eqb}
 use Rattle.bounds.specs.Bounds.{attributeLimit, maxPaths}
 use Rattle.exchange.specs.Rules.{maxTurn, part}
