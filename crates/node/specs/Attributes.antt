@@ -31,7 +31,7 @@ kindOf a =
 abbrev pub ofText : Bool → ℕ → ℕ
 ofText text x = pick text x 0
 
--- the first value as it is stored: a text's is the length of the factory text of its rank
+-- the first value as one word: a text's is the length of the factory text of its rank
 abbrev pub firstWord : List ℕ → AttributeRow → ℕ
 firstWord w a = pick (isText a) (factoryLength w (a .first)) (a .first)
 

@@ -1,15 +1,19 @@
 -- The two pages of texts (document 01, A sign's plan): "A text never changed is shown from the factory page, and one that was changed from the edited
 -- page: the shown text is that very part of one page or the other."
 use mathlib.Core.Bool.{Bool, cond}
-use mathlib.Core.List.{List}
+use mathlib.Core.List.{List, _++_}
 use Prim.Native.Nat.{ℕ, _*_, _-_}
 use lib.Dec.{eqb}
-use lib.ListN.{take, drop}
+use lib.ListN.{length, take, drop, replicate}
 use Rattle.schema.specs.Layout.{textSize}
 
 -- where the text of a rank starts in the page of edits: 200 bytes for each text before it
 abbrev pub place : ℕ → ℕ
 place rank = textSize * rank
+
+-- what stands in the place of a stored text: its bytes, and zeros behind them
+abbrev pub padded : List ℕ → List ℕ
+padded text = text ++ replicate (textSize - length text) 0
 
 -- a text's mark: 0 never changed, n + 1 changed, and n bytes long
 abbrev pub unchanged : ℕ → Bool

@@ -52,7 +52,7 @@ fn of_text(text: bool, x: usize) -> usize
     if text { x } else { 0 }
 }
 
-// The first value as it is stored: of a text the length of the factory text of its rank.
+// The first value as one word: of a text the length of the factory text of its rank.
 pub fn first_word(w: &[u64; WORDS], i: usize) -> u64
     requires { ⌜ i < attributeLimit ⌝ }
     ensures { λ r. ⌜ r ≡ firstWord (now (w .entry)) (attributeRow (now (w .entry)) i) ⌝ }

@@ -19,7 +19,7 @@ pub struct Attribute {
     // The privilege that reading (writing) needs, 0 where the attribute is not readable (not writable).
     pub read: u64,
     pub write: u64,
-    // The first value as it is stored: of a text the length of its factory text.
+    // The first value as one word: of a text the length of its factory text.
     pub first: u64,
     // Where the factory text starts in the page of defaults, and its length; 0 for every other kind.
     pub text: usize,

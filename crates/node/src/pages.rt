@@ -3,10 +3,11 @@
 use octets::put_bytes;
 use schema::TEXT_SIZE;
 ghost use mathlib.Core.Path.{_≡_};
-ghost use Prim.Native.Nat.{_+_, _^_, _≤_, _<_};
-ghost use lib.ListN.{length, take, drop};
+ghost use Prim.Native.Nat.{_+_, _-_, _^_, _≤_, _<_};
+ghost use lib.ListN.{length, take, drop, replicate};
 ghost use Rattle.octets.specs.Store.{store};
-ghost use Rattle.node.specs.Pages.{place, shownText};
+ghost use Rattle.schema.specs.Layout.{textSize};
+ghost use Rattle.node.specs.Pages.{place, padded, shownText};
 
 // Where the text of this rank starts in the page of edits.
 pub fn place_of(rank: usize) -> usize
@@ -50,11 +51,24 @@ pub fn shown<'a>(
     part(edits, place_of(rank), n)
 }
 
-// Stores a text in its place: exactly its bytes, the rest of the page as it was.
+// Zeros from one place up to another.
+fn clear(b: &mut [u8], from: usize, to: usize)
+    requires { ⌜ (from ≤ to) × (to ≤ length (now b)) ⌝ }
+    ensures { λ _. ⌜ now (b .exit) ≡ store (now (b .entry)) from (replicate (to - from) 0) ⌝ }
+{
+    let mut i = from;
+    while i < to {
+        b[i] = 0;
+        i += 1;
+    }
+}
+
+// Stores a text in its place: its bytes, and zeros behind them, so that nothing is left of a longer one; the rest of the page stays as it was.
 pub fn store_text(edits: &mut [u8], rank: usize, text: &[u8])
-    requires { ⌜ place rank + length (now text) ≤ length (now edits) ⌝ }
-    ensures { λ _. ⌜ now (edits .exit) ≡ store (now (edits .entry)) (place rank) (now (text .entry)) ⌝ }
+    requires { ⌜ (length (now text) ≤ textSize) × (place rank + textSize ≤ length (now edits)) ⌝ }
+    ensures { λ _. ⌜ now (edits .exit) ≡ store (now (edits .entry)) (place rank) (padded (now (text .entry))) ⌝ }
 {
     let at = place_of(rank);
-    put_bytes(edits, at, text);
+    let end = put_bytes(edits, at, text);
+    clear(edits, end, at + TEXT_SIZE);
 }

@@ -9,12 +9,11 @@ use lib.Dec.{eqb}
 use lib.ListN.{length, getD, length-set}
 use lib.Seq.{getD-set-same, getD-set-other}
 use Rattle.bounds.specs.Bounds.{clusterLimit}
-use Rattle.octets.specs.Store.{store}
 use Rattle.octets.proofs.StoreLaws.{length-store}
 use Rattle.tlv.specs.Value.{Datum}
 use Rattle.kinds.specs.Limits.{isNull}
 use Rattle.kinds.specs.Stored.{nextVersion}
-use Rattle.schema.specs.Layout.{textLimit}
+use Rattle.schema.specs.Layout.{textLimit, textSize}
 use Rattle.schema.specs.Rows.{attributeRow, attributeCount, factoryStart, factoryLength}
 use Rattle.schema.specs.Rows as rows
 use Rattle.schema.specs.Rules.{Rules}
@@ -22,14 +21,15 @@ use Rattle.schema.proofs.BoolLaws.{by-test}
 use Rattle.schema.proofs.PathLaws.{cluster-there}
 use Rattle.schema.proofs.TextLaws.{text-inside}
 use Rattle.node.specs.Attributes.{kindOf}
-use Rattle.node.specs.Pages.{place}
-use Rattle.node.proofs.PageLaws.{stored-shown}
+use Rattle.node.specs.Pages.{place, padded}
+use Rattle.node.proofs.PageLaws.{padded-length, stored-shown}
 use Rattle.node.proofs.TextLaws.{place-fits, ranks-apart, text-stays}
+use Rattle.node.proofs.FormedLaws.{PlacesFormed, stored-placed}
 use Rattle.values.specs.declared.Values.{Values}
 use Rattle.values.specs.Values.{rankText, rankLength, markAt, textAt, shownOf, datumAt}
 use Rattle.values.specs.Change.{textOf, isText, wordFor, markFor, changes, setAt, editsSet, storedValues, storedEdits}
 use Rattle.values.specs.Valid.{markMax, textRight, valueRight, valuesRight}
-use Rattle.values.proofs.ChangeLaws.{no-bytes, null-no-text, null-word, text-word, mark-length}
+use Rattle.values.proofs.ChangeLaws.{null-no-text, null-word, text-word, mark-length}
 use Rattle.values.proofs.ValueLaws.{mark-there, text-row}
 use Rattle.values.proofs.AcceptedLaws.{Accepted, own-kind, text-present}
 use Rattle.values.proofs.ValidLaws.{whole-text, text-null, text-there, mark-right, number-right, text-right, rightAt, edits-size, right-at, right-all, text-here, Whole}
@@ -37,7 +37,8 @@ use Rattle.values.proofs.ValidLaws.{whole-text, text-null, text-there, 
 -- the page of edits keeps its length
 pub edits-length : (w edits : List ℕ) (i : ℕ) (d : Datum) → length (editsSet w edits i d) ≡ length edits
 unfolding editsSet
-edits-length w edits i d = length-store edits (place (attributeRow w i .first)) (textOf d)
+edits-length w edits i d =
+    by-test (isText d) (λ t. rw t (length-store edits (place (attributeRow w i .first)) (padded (textOf d)))) (λ t. rw t)
 
 -- ---- what is to be stored, and where
 
@@ -80,7 +81,9 @@ module _ (w defaults edits : List ℕ) (v : Values) (i : ℕ) (d : Datum) (s : S
 
   rank-set : isText d ≡ true → rankText w defaults (editsSet w edits i d) (attributeRow w i .first) (markFor d) ≡ textOf d
   unfolding editsSet
-  rank-set t = stored-shown defaults edits (attributeRow w i .first) (textOf d) (store-room t) (factoryStart w (attributeRow w i .first)) (factoryLength w (attributeRow w i .first))
+  rank-set t =
+      rw t
+      (stored-shown defaults edits (attributeRow w i .first) (textOf d) (store-room t) (factoryStart w (attributeRow w i .first)) (factoryLength w (attributeRow w i .first)))
 
   -- a text's word is 0, and null's
   no-word : rows.isText (attributeRow w i) ≡ true → wordFor d ≡ 0
@@ -116,13 +119,14 @@ module _ (w defaults edits : List ℕ) (v : Values) (i : ℕ) (d : Datum) (s : S
 
         -- what is shown of it
         text-kept : rankText w defaults (editsSet w edits i d) (attributeRow w j .first) (markAt w (v .texts) j) ≡ rankText w defaults edits (attributeRow w j .first) (markAt w (v .texts) j)
-        unfolding editsSet store
+        unfolding editsSet
         text-kept =
             by-test (isText d)
             (λ u.
-            text-stays w (s .rules) defaults edits (textOf d) i j (factoryStart w (attributeRow w j .first)) (factoryLength w (attributeRow w j .first)) (markAt w (v .texts) j) (s .there, text-goes u) (l, t) other (s .accepted .size)
-            (mark-right w defaults edits (attributeRow w j .first) (markAt w (v .texts) j) (getD (v .nulls) j false) (text-here w defaults edits v j t here)))
-            (λ u. rw (no-bytes d u))
+            rw u
+            (text-stays w (s .rules) defaults edits (padded (textOf d)) i j (factoryStart w (attributeRow w j .first)) (factoryLength w (attributeRow w j .first)) (markAt w (v .texts) j) (s .there, text-goes u) (l, t) other (omega (arith, padded-length (textOf d) (s .accepted .size)))
+            (mark-right w defaults edits (attributeRow w j .first) (markAt w (v .texts) j) (getD (v .nulls) j false) (text-here w defaults edits v j t here))))
+            (λ u. rw u)
 
       shown-stays : shownOf w defaults (editsSet w edits i d) (setAt w v i d) j ≡ shownOf w defaults edits v j
       unfolding textAt
@@ -183,7 +187,19 @@ module _ (w defaults edits : List ℕ) (v : Values) (i : ℕ) (d : Datum) (s : S
   unfolding storedEdits storedValues
   store-keeps = by-test (changes w defaults edits v i d) (λ c. rw c all-right) (λ c. rw c (s .right))
 
-  -- and the arrays their lengths
+  -- and a page of edits whose places are valid as it is: so it is valid as a whole (node, FormedLaws: page-formed)
+  pub formed-kept : (n : ℕ) → PlacesFormed edits n → PlacesFormed (storedEdits w defaults edits v i d) n
+  unfolding storedEdits editsSet
+  formed-kept n f =
+      by-test (changes w defaults edits v i d)
+      (λ c. by-test (isText d)
+      (λ t. rw (c, t)
+      (stored-placed edits (attributeRow w i .first) (textOf d) (s .accepted .size) (s .accepted .valid)
+      (omega (arith, place-fits w (s .rules) i textSize (s .there, text-goes t) (omega arith), edits-size w defaults edits v (s .right))) n f))
+      (λ t. rw (c, t) f))
+      (λ c. rw c f)
+
+  -- the arrays keep their lengths
   whole-set : Whole (setAt w v i d)
   unfolding setAt
   whole-set =

@@ -21,7 +21,7 @@ use Rattle.kinds.specs.declared.Kind.the-variants.{Text}
 use Rattle.kinds.specs.Stored.{held}
 use Rattle.node.specs.Attributes.{kindOf}
 use Rattle.node.specs.Check.{numberRight, numbersRight}
-use Rattle.node.specs.Pages.{shownText}
+use Rattle.node.specs.Pages.{place, shownText}
 use Rattle.node.proofs.KindLaws.{kind-text}
 use Rattle.values.specs.declared.Values.{Values}
 use Rattle.values.specs.Values.{rankText, rankLength, markAt, textAt, shownOf}
@@ -72,18 +72,14 @@ module _ (w defaults edits : List ℕ) (r mark : ℕ) where
   abbrev rankShown : Bool
   rankShown = shownRight (rankText w defaults edits r mark) (rankLength w r mark)
 
-  -- a changed text has its length by its mark
-  pub rank-changed : (mark ≡ 0 → ⊥) → shownRight (rankText w defaults edits r mark) (mark - 1) ≡ rankShown
+  -- a part of the page of defaults, or of the page of edits
+  pub rank-cut : mark ≡ 0 → shownRight (take (factoryLength w r) (drop (factoryStart w r) defaults)) (factoryLength w r) ≡ rankShown
+  unfolding shownText
+  rank-cut e = rw (eq-eqb mark 0 e)
+
+  pub rank-changed : (mark ≡ 0 → ⊥) → shownRight (take (mark - 1) (drop (place r) edits)) (mark - 1) ≡ rankShown
+  unfolding shownText
   rank-changed n = rw (ne-eqb mark 0 n)
-
-  module _ (e : mark ≡ 0) where
-    pub rank-factory : shownRight (rankText w defaults edits r mark) (factoryLength w r) ≡ rankShown
-    rank-factory = rw (eq-eqb mark 0 e)
-
-    -- and is a part of the page of defaults
-    pub rank-cut : shownRight (take (factoryLength w r) (drop (factoryStart w r) defaults)) (factoryLength w r) ≡ rankShown
-    unfolding shownText
-    rank-cut = rw (eq-eqb mark 0 e)
 
   module _ (isNull : Bool) where
     pub mark-large : markMax < mark → false ≡ textRight w defaults edits r isNull mark

@@ -4,7 +4,8 @@ use mathlib.Core.List.{List}
 use mathlib.Core.Bool.{Bool, true, false}
 use Prim.Native.Nat.{ℕ, _+_, _≤_, _<_}
 use native.Mathlib.Omega.{arith}
-use borrow.Author.Tests.{eqb-true, eq-eqb, lt-ltb}
+use borrow.Author.Tests.{eqb-true, eq-eqb, ltb-true, lt-ltb}
+use lib.Dec.{ltb}
 use lib.ListN.{length, getD, take, drop, length-take, length-drop}
 use lib.Seq.{take-length}
 use Rattle.tlv.specs.Octet.{pick}
@@ -25,6 +26,10 @@ use Rattle.values.specs.Values.{markOf, heldDatum, valueAt}
 -- a rank that there is has its mark
 pub mark-there : (texts : List ℕ) (r : ℕ) → r < textLimit → markOf texts r ≡ getD texts r 0
 mark-there texts r l = rw (lt-ltb r textLimit l)
+
+-- and one past the limit none
+pub mark-ranked : (texts : List ℕ) (r : ℕ) → (markOf texts r ≡ 0 → ⊥) → r < textLimit
+mark-ranked texts r n = by-test (ltb r textLimit) (λ t. ltb-true r textLimit t) (λ t. absurd (n (rw t)))
 
 -- a part that lies in its page is whole
 pub part-length : (page : List ℕ) (start n : ℕ) → start + n ≤ length page → length (take n (drop start page)) ≡ n

@@ -16,7 +16,7 @@ use Rattle.kinds.specs.Limits.{isNull}
 use Rattle.kinds.specs.Stored.{equal, nextVersion}
 use Rattle.schema.specs.Layout.{textLimit, textSize}
 use Rattle.schema.specs.Rows.{attributeRow}
-use Rattle.node.specs.Pages.{place}
+use Rattle.node.specs.Pages.{place, padded}
 use Rattle.values.specs.declared.Values.{Values}
 use Rattle.values.specs.Values.{shownOf}
 
@@ -72,9 +72,9 @@ setAt w v i d =
       versions = set (v .versions) (attributeRow w i .clusterIndex) (nextVersion (getD (v .versions) (attributeRow w i .clusterIndex) 0));
     }
 
--- the page of edits then: exactly the text's bytes at its place; null writes nothing
+-- the page of edits then: the text's bytes at its place and zeros behind them; null writes nothing
 unfoldable pub editsSet : List ℕ → List ℕ → ℕ → Datum → List ℕ
-editsSet w edits i d = store edits (place (attributeRow w i .first)) (textOf d)
+editsSet w edits i d = pick (isText d) (store edits (place (attributeRow w i .first)) (padded (textOf d))) edits
 
 -- what storing a text needs: a rank that there is, at most 200 bytes, and a place that the page has
 abbrev pub MarkFits : ℕ → Datum → Type 0

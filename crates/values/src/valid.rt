@@ -1,5 +1,5 @@
 // Whether what a sign holds keeps the rules of document 01: refusal 2 where it does not. It is asked at every call: a quick test first (quick.rt), and where
-// that does not pass, the factory page as a whole, or every text by itself.
+// that does not pass, each page as a whole, or every text of it by itself.
 ghost use mathlib.Core.Path.{_≡_};
 ghost use mathlib.Core.Bool.{true, false, _&&_};
 ghost use Prim.Native.Nat.{_<_, _≤_};
@@ -20,20 +20,25 @@ use super::quick::is_quick;
 use super::quick::nulls_ok;
 use super::quick::some_text;
 use super::quick::text_room;
-use super::rank_text;
 use bounds::ATTRIBUTES;
 use bounds::TEXT_MAX;
 use node::pages::part;
+use node::pages::place_of;
 use schema::TEXTS;
 use schema::WORDS;
 
-// Whether the factory page is valid UTF-8 as a whole. It is asked only where one of the first n texts is shown from it, and where it is no longer than the
-// limit.
-fn whole_page<'a>(page: &'a [u8], texts: &'a [u16; TEXTS], n: usize, limit: usize) -> bool
+// Whether a page is valid UTF-8 as a whole. It is asked only where one of the first n texts is shown from it, and where it is no longer than the limit.
+fn whole_page<'a>(
+    page: &'a [u8],
+    texts: &'a [u16; TEXTS],
+    n: usize,
+    factory: bool,
+    limit: usize,
+) -> bool
     requires { ⌜ n ≤ textLimit ⌝ }
-    ensures { λ r. ⌜ r ≡ (someText (now (texts .entry)) true n && (leb (length (now (page .entry))) limit && wellFormed (now (page .entry)))) ⌝ }
+    ensures { λ r. ⌜ r ≡ (someText (now (texts .entry)) factory n && (leb (length (now (page .entry))) limit && wellFormed (now (page .entry)))) ⌝ }
 {
-    if !some_text(texts, n, true) {
+    if !some_text(texts, n, factory) {
         return false;
     }
     if limit < page.len() {
@@ -42,9 +47,9 @@ fn whole_page<'a>(page: &'a [u8], texts: &'a [u16; TEXTS], n: usize, limit: usiz
     utf8::valid(page)
 }
 
-// A text of a valid page, at most TEXT_MAX bytes, lies in it, whole, and is valid UTF-8 itself: it is cut at boundaries.
-fn cut_ok(page: &[u8], start: usize, len: usize) -> bool
-    requires { ⌜ wellFormed (now page) ≡ true ⌝ }
+// A text of at most TEXT_MAX bytes lies in its page, whole, and is valid UTF-8. In a page that is valid as a whole it is valid if it is cut at boundaries.
+fn part_ok(page: &[u8], whole: bool, start: usize, len: usize) -> bool
+    requires { ⌜ (whole ≡ true → wellFormed (now page) ≡ true) ⌝ }
     ensures { λ r. ⌜ r ≡ shownRight (take len (drop start (now (page .entry)))) len ⌝ }
 {
     if TEXT_MAX < len {
@@ -54,46 +59,30 @@ fn cut_ok(page: &[u8], start: usize, len: usize) -> bool
     if text.len() != len {
         return false;
     }
-    utf8::is_cut_well(page, start, len)
-}
-
-// A shown text of n bytes, at most TEXT_MAX, lies in its page, whole, and is valid UTF-8.
-fn shown_ok(text: &[u8], n: usize) -> bool
-    ensures { λ r. ⌜ r ≡ shownRight (now (text .entry)) n ⌝ }
-{
-    if TEXT_MAX < n {
-        return false;
-    }
-    if text.len() != n {
-        return false;
+    if whole {
+        return utf8::is_cut_well(page, start, len);
     }
     utf8::valid(text)
 }
 
-// The text of a rank that is not null. `whole` says that the factory page is valid as a whole. A changed text is always judged by itself: in its page what is
-// left of an earlier, longer text may begin inside a sequence.
+// The text of a rank that is not null. `factory` and `edited` say that the page of defaults, and that of edits, is valid as a whole.
 fn rank_ok<'a>(
     w: &'a [u64; WORDS],
     defaults: &'a [u8],
     edits: &'a [u8],
-    whole: bool,
+    factory: bool,
+    edited: bool,
     rank: usize,
     mark: u16,
 ) -> bool
-    requires { ⌜ (whole ≡ true → wellFormed (now defaults) ≡ true) ⌝ }
+    requires { ⌜ (factory ≡ true → wellFormed (now defaults) ≡ true) × (edited ≡ true → wellFormed (now edits) ≡ true) × ((mark ≡ 0 → ⊥) → rank < textLimit) ⌝ }
     ensures { λ r. ⌜ r ≡ shownRight (rankText (now (w .entry)) (now (defaults .entry)) (now (edits .entry)) rank mark) (rankLength (now (w .entry)) rank mark) ⌝ }
 {
-    if mark != 0 {
-        return shown_ok(
-            rank_text(w, defaults, edits, rank, mark),
-            (mark - 1) as usize,
-        );
+    if mark == 0 {
+        let start = schema::factory_start(w, rank);
+        return part_ok(defaults, factory, start, schema::factory_length(w, rank));
     }
-    let len = schema::factory_length(w, rank);
-    if whole {
-        return cut_ok(defaults, schema::factory_start(w, rank), len);
-    }
-    shown_ok(rank_text(w, defaults, edits, rank, mark), len)
+    part_ok(edits, edited, place_of(rank), (mark - 1) as usize)
 }
 
 // The mark of attribute i, if it is a text, and what it shows, if it is not null.
@@ -101,12 +90,13 @@ fn text_ok<'a>(
     w: &'a [u64; WORDS],
     defaults: &'a [u8],
     edits: &'a [u8],
-    whole: bool,
+    factory: bool,
+    edited: bool,
     i: usize,
     null: bool,
     texts: &'a [u16; TEXTS],
 ) -> bool
-    requires { ⌜ (i < attributeLimit) × (whole ≡ true → wellFormed (now defaults) ≡ true) ⌝ }
+    requires { ⌜ (i < attributeLimit) × (factory ≡ true → wellFormed (now defaults) ≡ true) × (edited ≡ true → wellFormed (now edits) ≡ true) ⌝ }
     ensures { λ r. ⌜ r ≡ shownAt (now (w .entry)) (now (defaults .entry)) (now (edits .entry)) i null (markAt (now (w .entry)) (now (texts .entry)) i) ⌝ }
 {
     if !schema::is_text(w, i) {
@@ -120,7 +110,7 @@ fn text_ok<'a>(
     if null {
         return true;
     }
-    rank_ok(w, defaults, edits, whole, rank, mark)
+    rank_ok(w, defaults, edits, factory, edited, rank, mark)
 }
 
 // Every shown text.
@@ -128,17 +118,18 @@ fn all_texts<'a>(
     w: &'a [u64; WORDS],
     defaults: &'a [u8],
     edits: &'a [u8],
-    whole: bool,
+    factory: bool,
+    edited: bool,
     nulls: &'a [bool; ATTRIBUTES],
     texts: &'a [u16; TEXTS],
 ) -> bool
-    requires { ⌜ (whole ≡ true → wellFormed (now defaults) ≡ true) ⌝ }
+    requires { ⌜ (factory ≡ true → wellFormed (now defaults) ≡ true) × (edited ≡ true → wellFormed (now edits) ≡ true) ⌝ }
     ensures { λ r. ⌜ r ≡ allShown (now (w .entry)) (now (defaults .entry)) (now (edits .entry)) (now (nulls .entry)) (now (texts .entry)) ⌝ }
 {
     let n = schema::attribute_count(w);
     let mut i = 0;
     while i < n {
-        if !text_ok(w, defaults, edits, whole, i, nulls[i], texts) {
+        if !text_ok(w, defaults, edits, factory, edited, i, nulls[i], texts) {
             return false;
         }
         i += 1;
@@ -167,8 +158,10 @@ fn all_right<'a>(
         return false;
     }
     // By now the page of edits is known to have 200 bytes for each text.
-    let whole = whole_page(defaults, texts, text_room(edits.len()), edits.len());
-    all_texts(w, defaults, edits, whole, nulls, texts)
+    let shown = text_room(edits.len());
+    let factory = whole_page(defaults, texts, shown, true, edits.len());
+    let edited = whole_page(edits, texts, shown, false, edits.len());
+    all_texts(w, defaults, edits, factory, edited, nulls, texts)
 }
 
 // The ranks of the schema's texts, its first numbers, and all that is held: what no other test of a sign looks at.

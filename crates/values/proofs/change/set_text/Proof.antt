@@ -1,10 +1,7 @@
-use mathlib.Core.Bool.{true}
+use mathlib.Core.Bool.{true, false}
 use mathlib.Core.Path.{_≡_, sym, _∙_}
-use Rattle.octets.specs.Store.{store}
 use Rattle.tlv.specs.Value.{datumIn}
 use Rattle.values.specs.Change.{isText, editsSet}
-use Rattle.values.proofs.ChangeLaws.{no-bytes}
-use native.Mathlib.Omega.{arith}
 use borrow.Author.Needs.{needs}
 use Rattle.values.proofs.change.set_text.Statement.{statement}
 use Rattle.values.proofs.change.set_text.Tie as tie
@@ -22,18 +19,24 @@ store-text-requires : tie.Need-store-text-requires
 store-text-requires c κs =
     let s = c .before .before .before .before .before .before .before in
     let t : isText (datumIn (s .args .src .now) (s .args .new)) ≡ true = sym (c .before .before .before .before .is-text .ensures (s .args .src .now)) ∙ c .before .before .before .if1 .taken in
-    rw (c .before .before .first-value .ensures, c .bytes-of .ensures) (omega (arith, s .pre .1 .0 t .1, s .pre .1 .1 t))
+    rw (c .before .before .first-value .ensures, c .bytes-of .ensures) (s .pre .1 .0 t .1, s .pre .1 .1 t)
 
 same-length : tie.Need-same-length
 same-length c = search needs
 
 returns : tie.Need-returns
 unfolding editsSet
-returns c = c .before .before .store-text .ensures ∙ rw (c .before .before .before .before .before .first-value .ensures, c .before .before .before .bytes-of .ensures)
+returns c =
+    let s = c .before .before .before .before .before .before .before .before .before .before in
+    let t : isText (datumIn (s .args .src .now) (s .args .new)) ≡ true = sym (c .before .before .before .before .before .before .before .is-text .ensures (s .args .src .now)) ∙ c .before .before .before .before .before .before .if1 .taken in
+    rw t (c .before .before .store-text .ensures ∙ rw (c .before .before .before .before .before .first-value .ensures, c .before .before .before .bytes-of .ensures))
 
 returns-2 : tie.Need-returns-2
-unfolding editsSet store
-returns-2 c = rw (no-bytes (datumIn (c .before .before .before .before .args .src .now) (c .before .before .before .before .args .new)) (sym (c .before .is-text .ensures (c .before .before .before .before .args .src .now)) ∙ c .if1 .left))
+unfolding editsSet
+returns-2 c =
+    let a = c .before .before .before .before .args in
+    let t : isText (datumIn (a .src .now) (a .new)) ≡ false = sym (c .before .is-text .ensures (a .src .now)) ∙ c .if1 .left in
+    rw t
 
 pub set-text-spec : {M : Type 1} → statement M
 set-text-spec =

@@ -6,6 +6,7 @@ use borrow.Author.Tests.{not-true, not-false}
 use Rattle.schema.specs.Rows.{attributeRow, isText}
 use Rattle.values.specs.Values.{rankText, rankLength, markOf, markAt}
 use Rattle.values.specs.Valid.{markMax, shownRight}
+use Rattle.values.proofs.ValueLaws.{mark-ranked}
 use Rattle.values.proofs.ValidLaws.{mark-large, text-null, text-there, shown-none, shown-text}
 use Rattle.values.proofs.valid.text_ok.Statement.{statement}
 use Rattle.values.proofs.valid.text_ok.Tie as tie
@@ -47,7 +48,9 @@ returns-3 c =
     text-null (a .w .now) (a .defaults .now) (a .edits .now) r m (a .null) l (c .if3 .taken) ∙ shown-text (a .w .now) (a .defaults .now) (a .edits .now) (a .i) (a .null) m (text-here (c .before .before .before .before))
 
 rank-ok-requires : tie.Need-rank-ok-requires
-rank-ok-requires c κs = c .before .before .before .before .before .before .before .before .pre .1
+rank-ok-requires c κs =
+    let s = c .before .before .before .before .before .before .before .before in
+    (s .pre .1, s .pre .2, λ n. mark-ranked (s .args .texts .now) _ (λ q. n (c .before .before .mark-of .ensures ∙ q)))
 
 returns-4 : tie.Need-returns-4
 returns-4 c =
