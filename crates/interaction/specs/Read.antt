@@ -1,10 +1,10 @@
 -- The Read Request (chapter 10, 10.6.2; document 01, Spelling and On the wire).
-use Prim.Native.Nat.{ℕ}
+use Prim.Native.Nat.{ℕ, _-_}
 use mathlib.Core.List.{List, [], _∷_}
 use mathlib.Core.Bool.{Bool, true, false}
 use lib.ListN.{length, getD, replicate}
 use lib.Dec.{ltb, eqb}
-use Rattle.bounds.specs.Bounds.{maxPaths, maxFilters}
+use Rattle.bounds.specs.Bounds.{maxDepth, maxPaths, maxFilters}
 use Rattle.tlv.specs.Octet.{pick, structure, array}
 use Rattle.tlv.specs.Tree.{Tree, Trees}
 use Rattle.tlv.specs.Walk.{Got, bindG, foldAt}
@@ -146,7 +146,7 @@ readOf filtered revision ps fs =
 
 unfoldable pub readFrom : List ℕ → List ℕ → Opt Read
 readFrom s seen =
-    readOf (flagIn s (getD seen 3 0)) (numberIn 255 false s (getD seen 9 0)) (optionalIn [] (listAt askedAt 9 s) (getD seen 0 0)) (optionalIn [] (listAt wantedAt 9 s) (getD seen 4 0))
+    readOf (flagIn s (getD seen 3 0)) (numberIn 255 false s (getD seen 9 0)) (optionalIn [] (listAt askedAt (maxDepth - 1) s) (getD seen 0 0)) (optionalIn [] (listAt wantedAt (maxDepth - 1) s) (getD seen 4 0))
 
 unfoldable pub readIn : List ℕ → Opt Read
 readIn s = wholeIn readTags (readFrom s) s
@@ -174,7 +174,7 @@ pathsFound on (got l n) = record { pass = on n; paths = pathsStruct l }
 
 unfoldable pub passPaths : List ℕ → List Bool → Pass → Paths → PathsPass
 passPaths s stops m before =
-    pick (eqb (m .slot) 0) (pathsFound (passFrom 9 s structure readTags stops m) (listOn askedAt 9 s (m .head))) (record { pass = m; paths = before })
+    pick (eqb (m .slot) 0) (pathsFound (passFrom (maxDepth - 1) s structure readTags stops m) (listOn askedAt (maxDepth - 1) s (m .head))) (record { pass = m; paths = before })
 
 abbrev pub wantsFound : (ℕ → Pass) → Got (List Wanted) → WantsPass
 wantsFound on bad = record { pass = noPass; wants = wantsRead bad }
@@ -182,7 +182,7 @@ wantsFound on (got l n) = record { pass = on n; wants = wantsStruct l }
 
 unfoldable pub passWants : List ℕ → List Bool → Pass → WantsPass
 passWants s stops m =
-    pick (eqb (m .slot) 4) (wantsFound (passFrom 9 s structure readTags stops m) (listOn wantedAt 9 s (m .head))) (record { pass = m; wants = wantsStruct [] })
+    pick (eqb (m .slot) 4) (wantsFound (passFrom (maxDepth - 1) s structure readTags stops m) (listOn wantedAt (maxDepth - 1) s (m .head))) (record { pass = m; wants = wantsStruct [] })
 
 -- and the request is made of the pass that has ended, and of the lists
 unfoldable pub readBy : ℕ → Pass → Paths → Wants → ReadRequest

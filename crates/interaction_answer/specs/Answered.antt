@@ -1,8 +1,9 @@
 -- The Write Response (chapter 10, 10.6.7; document 01, Spelling): exactly one status.
-use Prim.Native.Nat.{ℕ}
+use Prim.Native.Nat.{ℕ, _-_}
 use mathlib.Core.List.{List, [], _∷_}
 use mathlib.Core.Bool.{Bool, true, false}
 use lib.ListN.{length, getD}
+use Rattle.bounds.specs.Bounds.{maxDepth}
 use Rattle.tlv.specs.Octet.{pick, array}
 use Rattle.tlv.specs.Tree.{Trees}
 use Rattle.tlv.specs.Walk.{Got, bindG, foldAt}
@@ -55,7 +56,7 @@ answeredOf revision xs = pick (given revision) (bindO xs only) nothing
 
 -- IN BYTES
 unfoldable pub answeredFrom : List ℕ → List ℕ → Opt Answer
-answeredFrom s seen = answeredOf (numberIn 255 false s (getD seen 9 0)) (requiredIn (listAt answerAt 9 s) (getD seen 0 0))
+answeredFrom s seen = answeredOf (numberIn 255 false s (getD seen 9 0)) (requiredIn (listAt answerAt (maxDepth - 1) s) (getD seen 0 0))
 
 unfoldable pub answeredIn : List ℕ → Opt Answer
 answeredIn s = wholeIn answeredTags (answeredFrom s) s

@@ -4,6 +4,7 @@ use mathlib.Core.List.{List, [], _∷_, map}
 use mathlib.Core.Bool.{Bool, true, false}
 use lib.ListN.{length, getD}
 use lib.Dec.{eqb}
+use Rattle.bounds.specs.Bounds.{maxDepth}
 use Rattle.tlv.specs.Octet.{pick, array}
 use Rattle.tlv.specs.Tree.{Tree, Trees}
 use Rattle.tlv.specs.Head.{headAt}
@@ -64,7 +65,7 @@ placed n (just p) = just (record { part = p; first = n })
 unfoldable pub partFrom : List ℕ → List ℕ → Opt PartAt
 partFrom s seen =
     placed (firstIn s (getD seen 1 0))
-    (partOf (numberIn 4294967295 false s (getD seen 0 0)) (flagIn s (getD seen 3 0)) (flagIn s (getD seen 4 0)) (numberIn 255 false s (getD seen 9 0)) (optionalIn [] (listAt reportAt 9 s) (getD seen 1 0)))
+    (partOf (numberIn 4294967295 false s (getD seen 0 0)) (flagIn s (getD seen 3 0)) (flagIn s (getD seen 4 0)) (numberIn 255 false s (getD seen 9 0)) (optionalIn [] (listAt reportAt (maxDepth - 1) s) (getD seen 1 0)))
 
 unfoldable pub partIn : List ℕ → Opt PartAt
 partIn s = wholeIn partTags (partFrom s) s

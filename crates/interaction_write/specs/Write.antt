@@ -1,11 +1,11 @@
 -- The Write Request (chapter 10, 10.6.6; document 01, Spelling and On the wire). In bytes an entry's data is the place where it
 -- stands, in trees it is a tree.
-use Prim.Native.Nat.{ℕ}
+use Prim.Native.Nat.{ℕ, _-_}
 use mathlib.Core.List.{List, [], _∷_, map}
 use mathlib.Core.Bool.{Bool, true, false}
 use lib.ListN.{length, getD, replicate}
 use lib.Dec.{ltb, eqb}
-use Rattle.bounds.specs.Bounds.{maxWrites}
+use Rattle.bounds.specs.Bounds.{maxDepth, maxWrites}
 use Rattle.tlv.specs.Octet.{pick, array}
 use Rattle.tlv.specs.Tree.{Tree, Trees}
 use Rattle.tlv.specs.Walk.{Got, bindG, foldAt}
@@ -126,7 +126,7 @@ writeOf suppress timed more revision es =
 
 unfoldable pub writeFrom : List ℕ → List ℕ → Opt (WriteOf ℕ)
 writeFrom s seen =
-    writeOf (flagIn s (getD seen 0 0)) (flagIn s (getD seen 1 0)) (flagIn s (getD seen 3 0)) (numberIn 255 false s (getD seen 9 0)) (requiredIn (listAt entryAt 9 s) (getD seen 2 0))
+    writeOf (flagIn s (getD seen 0 0)) (flagIn s (getD seen 1 0)) (flagIn s (getD seen 3 0)) (numberIn 255 false s (getD seen 9 0)) (requiredIn (listAt entryAt (maxDepth - 1) s) (getD seen 2 0))
 
 unfoldable pub writeIn : List ℕ → Opt (WriteOf ℕ)
 writeIn s = wholeIn writeTags (writeFrom s) s

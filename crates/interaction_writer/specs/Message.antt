@@ -1,8 +1,9 @@
 -- Messages that the server writes (chapter 10, 10.6): as trees, and the octets around the blocks that are written one by one.
-use Prim.Native.Nat.{ℕ, _≤_}
+use Prim.Native.Nat.{ℕ, _-_, _≤_}
 use mathlib.Core.Path.{_≡_}
 use mathlib.Core.Bool.{Bool, true}
 use mathlib.Core.List.{List, [], _∷_, _++_}
+use Rattle.bounds.specs.Bounds.{maxDepth}
 use Rattle.tlv.specs.Octet.{pick, structure, array}
 use Rattle.tlv.specs.Tree.{Tree, Trees, depth, stands, tagOfTree}
 use Rattle.tlv.specs.Tree.Tag.{anonymous, context}
@@ -56,4 +57,4 @@ responseClosing = endOctets ++ spellings revision
 pub record Listed (t : Tree) : Type 0 where
   pub ours : Ours t
   pub untagged : stands array (tagOfTree t) ≡ true
-  pub shallow : depth t ≤ 8
+  pub shallow : depth t ≤ maxDepth - 2
