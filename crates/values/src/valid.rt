@@ -27,6 +27,11 @@ use node::pages::place_of;
 use schema::TEXTS;
 use schema::WORDS;
 
+// The mark of a text of half a place, and what two places take.
+const LONG: u16 = 101;
+
+const TWO_PLACES: usize = 400;
+
 // Whether a page is valid UTF-8 as a whole. It is asked only where one of the first n texts is shown from it, and where it is no longer than the limit.
 fn whole_page<'a>(
     page: &'a [u8],
@@ -45,6 +50,24 @@ fn whole_page<'a>(
         return false;
     }
     utf8::valid(page)
+}
+
+// How many of the first n texts are changed, and longer than half their place. It decides how the page of edits is judged, and not the answer.
+fn long_texts(texts: &[u16; TEXTS], n: usize) -> usize
+    requires { ⌜ n ≤ textLimit ⌝ }
+    ensures { λ r. ⌜ r ≤ n ⌝ }
+{
+    let mut long: usize = 0;
+    let mut i = 0;
+    while i < n {
+        if LONG < texts[i] {
+            long += 1;
+            i += 1;
+        } else {
+            i += 1;
+        }
+    }
+    long
 }
 
 // A text of at most TEXT_MAX bytes lies in its page, whole, and is valid UTF-8. In a page that is valid as a whole it is valid if it is cut at boundaries.
@@ -160,7 +183,9 @@ fn all_right<'a>(
     // By now the page of edits is known to have 200 bytes for each text.
     let shown = text_room(edits.len());
     let factory = whole_page(defaults, texts, shown, true, edits.len());
-    let edited = whole_page(edits, texts, shown, false, edits.len());
+    // Where fewer than half of its texts are long, most of the page of edits is not shown: then each text is judged by itself.
+    let limit = TWO_PLACES * long_texts(texts, shown);
+    let edited = whole_page(edits, texts, shown, false, limit);
     all_texts(w, defaults, edits, factory, edited, nulls, texts)
 }
 

@@ -2,6 +2,7 @@ use mathlib.Core.Path.{sym, ap, _∙_}
 use mathlib.Core.Bool.{true, false}
 use borrow.Author.Needs.{needs}
 use borrow.Author.Tests.{not-true, not-false}
+use Prim.Native.Nat.{_*_}
 use lib.Dec.{leb}
 use lib.ListN.{length}
 use Rattle.schema.specs.Check.{every}
@@ -38,23 +39,29 @@ text-room-requires c κs = search needs
 whole-page-requires : tie.Need-whole-page-requires
 whole-page-requires c κs = search needs
 
+long-texts-requires : tie.Need-long-texts-requires
+long-texts-requires c κs = search needs
+
+mul-limit : tie.Need-mul-limit
+mul-limit c = search needs
+
 whole-page-requires-2 : tie.Need-whole-page-requires-2
 whole-page-requires-2 c κs = search needs
 
 all-texts-requires : tie.Need-all-texts-requires
 all-texts-requires c κs =
-    let a = c .before .before .before .before .before .before .before .before .before .before .before .args in (
-      λ h. right (leb (length (a .defaults .now)) (length (a .edits .now))) _ (right (someText (a .texts .now) true _) _ (sym (c .before .whole-page .ensures) ∙ h)),
-      λ h. right (leb (length (a .edits .now)) (length (a .edits .now))) _ (right (someText (a .texts .now) false _) _ (sym (c .whole-page2 .ensures) ∙ h)),
+    let a = c .before .before .before .before .before .before .before .before .before .before .before .before .args in (
+      λ h. right (leb (length (a .defaults .now)) (length (a .edits .now))) _ (right (someText (a .texts .now) true _) _ (sym (c .before .before .whole-page .ensures) ∙ h)),
+      λ h. right (leb (length (a .edits .now)) (400 * c .before .long-texts .result)) _ (right (someText (a .texts .now) false _) _ (sym (c .whole-page2 .ensures) ∙ h)),
     )
 
 returns-3 : tie.Need-returns-3
 returns-3 c =
-    let a = c .before .before .before .before .before .before .before .before .before .before .before .before .args in
-    let z = c .before .before .before .before .before .before .before .before .nulls-ok .ensures ∙ ap (every (nullAt (a .w .now) (a .words .now) (a .nulls .now))) (c .before .before .before .before .before .before .before .before .before .attribute-count .ensures) in
+    let a = c .before .before .before .before .before .before .before .before .before .before .before .before .before .args in
+    let z = c .before .before .before .before .before .before .before .before .before .nulls-ok .ensures ∙ ap (every (nullAt (a .w .now) (a .words .now) (a .nulls .now))) (c .before .before .before .before .before .before .before .before .before .before .attribute-count .ensures) in
     c .all-texts .ensures
-    ∙ past _ _ (sym (c .before .before .before .before .before .all-quick .ensures) ∙ not-false _ (c .before .before .before .before .if2 .left))
-    ∙ past _ _ (sym z ∙ not-false _ (c .before .before .before .before .before .before .before .if1 .left))
+    ∙ past _ _ (sym (c .before .before .before .before .before .before .all-quick .ensures) ∙ not-false _ (c .before .before .before .before .before .if2 .left))
+    ∙ past _ _ (sym z ∙ not-false _ (c .before .before .before .before .before .before .before .before .if1 .left))
     ∙ close-right (a .w .now) (a .defaults .now) (a .edits .now) (a .words .now) (a .nulls .now) (a .texts .now)
 
 pub all-right-spec : {M : Type 1} → statement M
@@ -68,6 +75,8 @@ all-right-spec =
     returns-2
     text-room-requires
     whole-page-requires
+    long-texts-requires
+    mul-limit
     whole-page-requires-2
     all-texts-requires
     returns-3)
