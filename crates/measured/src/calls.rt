@@ -7,7 +7,7 @@ ghost use Rattle.acl.specs.Access.{grantsOf};
 ghost use Rattle.acl.specs.Table.{tableRight};
 ghost use Rattle.values.specs.Values.{valuesOf};
 ghost use Rattle.writes.specs.Offer.{heldOf};
-ghost use Rattle.server.specs.State.{stateIn};
+ghost use Rattle.server.specs.State.{signIn};
 ghost use Rattle.server.specs.Receive.{received, Reacted};
 ghost use Rattle.server.specs.Start.{started, Starts, alteredBy, Alters};
 ghost use Rattle.measured.specs.Calls.{openEntries, outcomeOf, givenValue};
@@ -60,7 +60,7 @@ pub extern "C" fn sign_start<'a>(
     row: &mut [u64; ROW_WORDS],
     kept: &mut [u8; MAX_MESSAGE],
 ) -> u8
-    ensures { λ r. ⌜ Starts (started (now (w .entry)) (now (defaults .entry))) r (valuesOf (now (words .entry)) (now (nulls .entry)) (now (texts .entry)) (now (versions .entry))) (valuesOf (now (words .exit)) (now (nulls .exit)) (now (texts .exit)) (now (versions .exit))) (now (row .entry)) (now (row .exit)) (now (kept .entry)) (now (kept .exit)) ⌝ }
+    ensures { λ r. ⌜ ((edits : List ℕ) → Starts (started (now (w .entry)) (now (defaults .entry)) edits) r (valuesOf (now (words .entry)) (now (nulls .entry)) (now (texts .entry)) (now (versions .entry))) (valuesOf (now (words .exit)) (now (nulls .exit)) (now (texts .exit)) (now (versions .exit))) (now (row .entry)) (now (row .exit)) (now (kept .entry)) (now (kept .exit))) ⌝ }
 {
     start(w, defaults, words, nulls, texts, versions, row, kept)
 }
@@ -80,7 +80,7 @@ pub extern "C" fn sign_receive<'a>(
     message: &'a [u8],
     out: &mut [u8],
 ) -> Last
-    ensures { λ r. ⌜ Reacted (received (now (w .entry)) (now (defaults .entry)) (now (edits .entry)) (stateIn (valuesOf (now (words .entry)) (now (nulls .entry)) (now (texts .entry)) (now (versions .entry))) (now (row .entry)) (now (kept .entry))) (tableRight 1 openEntries) (grantsOf (take 1 openEntries) subject (now (w .entry))) subject (now (message .entry)) (length (now (out .entry)))) (outcomeOf r) (heldOf (now (words .exit)) (now (nulls .exit)) (now (texts .exit)) (now (versions .exit)) (now (edits .exit))) (now (row .entry)) (now (row .exit)) (now (kept .exit)) (now (out .entry)) (now (out .exit)) ⌝ }
+    ensures { λ r. ⌜ Reacted (received (signIn (now (w .entry)) (now (defaults .entry)) (heldOf (now (words .entry)) (now (nulls .entry)) (now (texts .entry)) (now (versions .entry)) (now (edits .entry))) (now (row .entry)) (now (kept .entry))) (record { subject = subject; grants = grantsOf (take 1 openEntries) subject (now (w .entry)); table = tableRight 1 openEntries }) (now (message .entry)) (length (now (out .entry)))) (outcomeOf r) (heldOf (now (words .exit)) (now (nulls .exit)) (now (texts .exit)) (now (versions .exit)) (now (edits .exit))) (now (row .entry)) (now (row .exit)) (now (kept .exit)) (now (out .entry)) (now (out .exit)) ⌝ }
 {
     let t = open_entries();
     let o = receive_in(
@@ -144,7 +144,7 @@ pub extern "C" fn sign_change<'a>(
     word: u64,
     text: &'a [u8],
 ) -> u8
-    ensures { λ r. ⌜ ((kept : List ℕ) → Alters (alteredBy (now (w .entry)) (now (defaults .entry)) (now (edits .entry)) (stateIn (valuesOf (now (words .entry)) (now (nulls .entry)) (now (texts .entry)) (now (versions .entry))) (now (row .entry)) kept) endpoint cluster attribute (now (text .entry)) (givenValue code word (length (now (text .entry))))) r (heldOf (now (words .exit)) (now (nulls .exit)) (now (texts .exit)) (now (versions .exit)) (now (edits .exit)))) ⌝ }
+    ensures { λ r. ⌜ ((kept : List ℕ) → Alters (alteredBy (signIn (now (w .entry)) (now (defaults .entry)) (heldOf (now (words .entry)) (now (nulls .entry)) (now (texts .entry)) (now (versions .entry)) (now (edits .entry))) (now (row .entry)) kept) endpoint cluster attribute (now (text .entry)) (givenValue code word (length (now (text .entry))))) r (heldOf (now (words .exit)) (now (nulls .exit)) (now (texts .exit)) (now (versions .exit)) (now (edits .exit)))) ⌝ }
 {
     let new = given_value(code, word, text.len());
     change(

@@ -16,7 +16,7 @@ use Rattle.cache.specs.Reaction.{Reaction}
 use Rattle.cache.specs.Begin as begin
 use Rattle.cache_request.specs.Filters.{filtersOf}
 use Rattle.cache_receive.specs.Receive as panel
-use Rattle.server.specs.Receive as sign
+use Rattle.replies.specs.Sign as sign
 use Rattle.cache_trip.proofs.BeginLaws.{write-envelope}
 use Rattle.protocol.specs.Model.{Filter, Message, read, success, Part, Cache, System, Store, exchangeOf, serve, beginRead, accept, awaited, receive, FiltersFor}
 use Rattle.protocol.specs.Steps as model
@@ -33,7 +33,7 @@ use Rattle.refinement.proofs.Sign.{Serves}
 use Rattle.panel_steps.proofs.Reactions.{Still, Begins, Takes}
 use Rattle.panel_steps.proofs.BeginLaws.{read-begins}
 use Rattle.interaction_writer.specs.Envelope.{panelEdition}
-use Rattle.promises.specs.World.{Plan, World, Start, subjectOf, granted, with, afterSign, afterPanel, answered}
+use Rattle.promises.specs.World.{Plan, World, Start, subjectOf, granted, signOf, with, afterSign, afterPanel, answered}
 use Rattle.promises.specs.Runs.{hears, gets, Run, none, then, Reach, Calm, Heard, Got}
 use Rattle.promises.specs.Claims.{In, Complete, Possible}
 use Rattle.promises.specs.Claims as claims
@@ -73,19 +73,19 @@ module _ (p : Plan) (b : Start p) where
     x = answered p t (subjectOf p) (k .newest) maxMessage
 
     abbrev t₁ : World
-    t₁ = afterSign t (x .state) (x .edits) (x .reply)
+    t₁ = afterSign t x
 
     full : maxMessage ≤ maxMessage
     full = omega arith
 
-    made : (size : ℕ) × (stores : List (Store Datum)) × Serves w (p .defaults) (granted p) (t .requests) (t .sign) (x .state) (x .edits) (x .reply) s (serve (node p b) s (k .message) size stores)
+    made : (size : ℕ) × (stores : List (Store Datum)) × Serves (signOf p (t .sign)) (granted p) (t .requests) x s (serve (node p b) s (k .message) size stores)
     made = serves-as p b t s (k .stands) (k .reach) (k .newest) maxMessage (k .there) (k .message) (k .means) full
 
     abbrev s₁ : System Datum
     s₁ = serve (node p b) s (k .message) (made .0) (made .1)
 
     stands₁ : Stands p t₁ s₁
-    stands₁ = sign-stands p t s s₁ (k .stands) (x .state) (x .edits) (x .reply) (made .2)
+    stands₁ = sign-stands p t s s₁ (k .stands) x (made .2)
 
     reach₁ : model.Reach (node p b) s₁
     reach₁ = model.then (k .reach) (model.serves (k .message) (made .0) (made .1) (k .here))

@@ -85,7 +85,7 @@ module _ (p : Plan) (rules : Rules (p .words)) where
   -- WHAT MAY BE READ of one path
   pub data Sees (u : World) (e c a : ℕ) : Type 0 where
     value : (i : ℕ) → i < attributeCount w → pathAt w i ≡ path e c a → mayRead w (granted p) i ≡ true
-        → entryFor (shown p u e c a) ≡ just (record { version = versionAt w (u .sign .values) i; value = datumAt w (p .defaults) (u .edits) (u .sign .values) i }) → Sees u e c a
+        → entryFor (shown p u e c a) ≡ just (record { version = versionAt w (u .sign .values) i; value = datumAt w (p .defaults) (u .sign .edits) (u .sign .values) i }) → Sees u e c a
     none : entryFor (shown p u e c a) ≡ nothing → ((i : ℕ) → i < attributeCount w → pathAt w i ≡ path e c a → mayRead w (granted p) i ≡ true → ⊥) → Sees u e c a
 
   -- attribute i, by whether it may be read
@@ -106,8 +106,8 @@ module _ (p : Plan) (rules : Rules (p .words)) where
       by-test (eqb (attributeRow w i .read) 0) (λ t. (unsupportedRead, e ∙ rw t refl)) (λ n. (unsupportedAccess, e ∙ rw (n, rw n at f) refl))
 
   module _ (u : World) (e c a : ℕ) where
-    by-item : (x : Item) → concreteItem w (granted p) [] (asked e c a) ≡ x → entryFor (shown p u e c a) ≡ entryFor (blockOf w (u .sign .values) (p .defaults) (u .edits) (asked e c a) x)
-    by-item x q = ap (λ (y : Item). entryFor (blockOf w (u .sign .values) (p .defaults) (u .edits) (asked e c a) y)) q
+    by-item : (x : Item) → concreteItem w (granted p) [] (asked e c a) ≡ x → entryFor (shown p u e c a) ≡ entryFor (blockOf w (u .sign .values) (p .defaults) (u .sign .edits) (asked e c a) x)
+    by-item x q = ap (λ (y : Item). entryFor (blockOf w (u .sign .values) (p .defaults) (u .sign .edits) (asked e c a) y)) q
 
     pub sees : Sees u e c a
     unfolding blockOf valueBlock

@@ -83,13 +83,13 @@ module _ (p : Plan) (b : Start p) where
                 let z : pathAt w (d .place .attribute) ≡ path e c a = ap (pathAt w) row-is ∙ q in
                 (λ j. lookup (u .panel .held) (u .page) (sym (ap (λ (y : Path). y .endpoint) z) j) (sym (ap (λ (y : Path). y .cluster) z) j) (sym (ap (λ (y : Path). y .attribute) z) j)) ∙ hu .panel .held .has d (had .1)
 
-            holds : d .value ≡ datumAt w (p .defaults) (x .edits) (x .sign .values) i
+            holds : d .value ≡ datumAt w (p .defaults) (x .sign .edits) (x .sign .values) i
             holds = only .2 ∙ ap (λ (n : ℕ). t .clusters k .values n) row-is ∙ ap (λ (n : ℕ). t .clusters n .values i) (sym cluster) ∙ hx .sign .held .values i l
 
             dated : d .version ≡ versionAt w (x .sign .values) i
             dated = only .1 ∙ sym held-version ∙ ap (λ (n : ℕ). getD (x .sign .values .versions) n 0) (sym cluster)
 
-            same : _≡_ {A = Opt cached.Entry} (just (record { version = d .version; value = d .value })) (just (record { version = versionAt w (x .sign .values) i; value = datumAt w (p .defaults) (x .edits) (x .sign .values) i }))
+            same : _≡_ {A = Opt cached.Entry} (just (record { version = d .version; value = d .value })) (just (record { version = versionAt w (x .sign .values) i; value = datumAt w (p .defaults) (x .sign .edits) (x .sign .values) i }))
             same j = just (record { version = dated j; value = holds j })
         go (none is never) = nothing-or (lookup (u .panel .held) (u .page) e c a) no ∙ sym is
           where

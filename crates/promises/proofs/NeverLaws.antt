@@ -14,7 +14,6 @@ use Rattle.schema.specs.declared.Found.{Found}
 use Rattle.schema.specs.declared.Found.the-variants as found
 use Rattle.schema.specs.Find.{findCluster, findAttribute, hasEndpoint}
 use Rattle.schema.proofs.BoolLaws.{by-test}
-use Rattle.acl.specs.Access.{grantsOf, tableOk}
 use Rattle.kinds.specs.declared.Verdict.{Verdict}
 use Rattle.kinds.specs.declared.Verdict.the-variants.{Success, ConstraintError, InvalidDataType}
 use Rattle.kinds.specs.Limits.{statusCode}
@@ -23,9 +22,10 @@ use Rattle.selection.specs.declared.locate.Located.the-variants.{Here, Refused}
 use Rattle.selection.specs.Locate.{attributeFound, clusterFound, located}
 use Rattle.writes.specs.Offer.{Held, byVerdict, storedIn, verdictOn, offered, byPlace, changed}
 use Rattle.envelope.specs.Envelope.{maxMessage}
-use Rattle.server.specs.Start.{Altered}
+use Rattle.replies.specs.Sign as sign
+use Rattle.replies.specs.Sign.{heldBy}
 use Rattle.server.proofs.StartLaws.{altered-right}
-use Rattle.server.proofs.ReceivedLaws as sign
+use Rattle.server.proofs.ReceivedLaws.{never-2}
 use Rattle.cache.specs.State.{isOpen}
 use Rattle.cache.specs.declared.State as cache
 use Rattle.cache.specs.Reaction.{Reaction}
@@ -40,7 +40,7 @@ use Rattle.panel_steps.proofs.Reactions.{Takes}
 use Rattle.panel_steps.proofs.AnswerLaws.{answer-taken}
 use Rattle.panel_steps.proofs.PartLaws.{part-taken}
 use Rattle.interaction_writer.specs.Envelope.{exchangeLimit}
-use Rattle.promises.specs.World.{Plan, World, Start, answered, altered}
+use Rattle.promises.specs.World.{Plan, World, Start, signOf, callerOf, answered, altered}
 use Rattle.promises.specs.Runs.{Reach}
 use Rattle.promises.specs.Never.{Never}
 use Rattle.promises.proofs.Stands.{ReplyOf, part, answer}
@@ -142,12 +142,12 @@ module _ (p : Plan) (b : Start p) (u : World) (reach : Reach p b u) where
       high (inr e) k = k .never-7 (z ∙ e)
 
   pub sign-fair : (subject : ℕ) (m : List ℕ) (room : ℕ) → answered p u subject m room .number ≡ 2 → ⊥
-  sign-fair subject m room = sign.never-2 (p .words) (p .defaults) (u .edits) (u .sign) (tableOk (p .table)) (grantsOf (p .table) subject (p .words)) subject m room (f .stands .sign .valid .right) (b .table-right)
+  sign-fair subject m room = never-2 (signOf p (u .sign)) (callerOf p subject) m room (f .stands .sign .valid .right) (b .table-right)
 
   pub change-fair : (e c a : ℕ) (src : List ℕ) (new : Value) → altered p u e c a src new .number ≡ 2 → ⊥
   change-fair e c a src new z =
-      changed-code (p .words) (p .defaults) (record { values = u .sign .values; edits = u .edits }) e c a src new
-      (ap (λ (x : Altered). x .number) (sym (altered-right (p .words) (p .defaults) (u .edits) (u .sign) e c a src new (f .stands .sign .valid .right))) ∙ z)
+      changed-code (p .words) (p .defaults) (heldBy (u .sign)) e c a src new
+      (ap (λ (x : sign.Reaction). x .number) (sym (altered-right (signOf p (u .sign)) e c a src new (f .stands .sign .valid .right))) ∙ z)
 
   pub panel-fair : (m : List ℕ) (room : ℕ) → receive.received (u .page) (u .panel) m room .number ≡ 2 → ⊥
   panel-fair m room = panel.never-2 (u .page) (u .panel) valid m room

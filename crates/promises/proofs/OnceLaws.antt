@@ -20,7 +20,7 @@ use Rattle.protocol.proofs.CacheLaws.{awaited-is}
 use Rattle.protocol.proofs.Inductive.{reach-inv}
 use Rattle.protocol.proofs.OnceLaws as protocol
 use Rattle.refinement.proofs.Bytes.{partBytes}
-use Rattle.promises.specs.World.{Plan, subjectOf, World, Start, afterSign, afterPanel, answered}
+use Rattle.promises.specs.World.{Plan, subjectOf, World, Start, afterSign, afterPanel, answered, altered}
 use Rattle.promises.specs.Runs.{Step, alters, beginsRead, beginsWrite, resends, hears, overhears, gets, Run, none, then, Reach, join, Passes, stepCount, indexOf, Same}
 use Rattle.promises.specs.Claims.{Taking, Making, Ending, Once}
 use Rattle.promises.proofs.MessageLaws.{part-envelope, answer-envelope}
@@ -95,7 +95,7 @@ module _ (p : Plan) (b : Start p) where
   -- THE MAKING of a reply: what is made stays
   made-stays : (m : List ℕ) (x y : World) → Reach p b x → Step p x y → List·Memᴰ m (x .replies) → List·Memᴰ m (y .replies)
   unfolding afterSign afterPanel
-  made-stays m x y r (alters e c a src new t) i = i
+  made-stays m x y r (alters e c a src new t) i = with-old (altered p x e c a src new .reply) (x .replies) m i
   made-stays m x y r (beginsRead room) i = i
   made-stays m x y r (beginsWrite e c a given version src new room f l t) i = i
   made-stays m x y r (resends room) i = i

@@ -10,7 +10,7 @@ use Rattle.round_trip.specs.Meant.{Outcome, OutcomeFits}
 use Rattle.envelope.specs.declared.Envelope.{Envelope}
 use Rattle.envelope.specs.declared.Envelope.the-variants.{Whole, Short}
 use Rattle.envelope.specs.Envelope.{envelopeIn}
-use Rattle.server.specs.declared.State as server
+use Rattle.replies.specs.Sign as sign
 use Rattle.cache.specs.declared.State as cache
 use Rattle.cache.specs.Reaction.{Reaction}
 use Rattle.protocol.specs.Model.{Message, Part, Cache, System}
@@ -18,7 +18,7 @@ use Rattle.refinement.proofs.Bytes.{MessageAs, PartRight, partBytes, answerByte
 use Rattle.refinement.proofs.Sign.{SignAs, Serves}
 use Rattle.refinement.proofs.Panel.{PanelAs}
 use Rattle.interaction_writer.specs.Envelope.{exchangeLimit}
-use Rattle.promises.specs.World.{Plan, World, granted, with, afterSign, afterPanel}
+use Rattle.promises.specs.World.{Plan, World, granted, signOf, with, afterSign, afterPanel}
 use Rattle.promises.proofs.MessageLaws.{part-envelope}
 
 -- a reply ever made: a part that the protocol has, or the answer to a write
@@ -27,7 +27,7 @@ pub data ReplyOf (w : List ℕ) (sent : List (List ℕ)) (parts : List (Part Dat
   answer : (x : ℕ) (o : Outcome) → m ≡ answerBytes x o → x < exchangeLimit → OutcomeFits o → Wrote sent x (o .endpoint) (o .cluster) (o .attribute) → ReplyOf w sent parts m
 
 pub record Stands (p : Plan) (u : World) (s : System Datum) : Type 0 where
-  pub sign : SignAs (p .words) (p .defaults) (granted p) (u .requests) (u .edits) (u .sign) (s .clusters) (s .row)
+  pub sign : SignAs (signOf p (u .sign)) (granted p) (u .requests) (s .clusters) (s .row)
   pub panel : PanelAs (p .words) (u .requests) (u .page) (u .panel) (s .cache)
   pub requests : (m : List ℕ) → List·Memᴰ m (u .requests) → (q : Message) × MessageAs (p .words) m q × List·Memᴰ q (s .messages)
   pub messages : (q : Message) → List·Memᴰ q (s .messages) → (m : List ℕ) × MessageAs (p .words) m q × List·Memᴰ m (u .requests)
@@ -81,7 +81,10 @@ only-one (List·Memᴰ·head e) = e
 only-one (List·Memᴰ·tail i) = absurd (List·Memᴰ·not-nil i)
 
 -- A CALL OF THE SIGN
-module _ (p : Plan) (u : World) (s t : System Datum) (h : Stands p u s) (new : server.State) (edits reply : List ℕ) (k : Serves (p .words) (p .defaults) (granted p) (u .requests) (u .sign) new edits reply s t) where
+module _ (p : Plan) (u : World) (s t : System Datum) (h : Stands p u s) (x : sign.Reaction) (k : Serves (signOf p (u .sign)) (granted p) (u .requests) x s t) where
+  abbrev reply : List ℕ
+  reply = x .reply
+
   abbrev w : List ℕ
   w = p .words
 
@@ -94,18 +97,18 @@ module _ (p : Plan) (u : World) (s t : System Datum) (h : Stands p u s) (new : s
   reply-of : ReplyAs w (u .requests) reply (k .made) → (m : List ℕ) → m ≡ reply → List·Memᴰ m (with reply (u .replies)) → ReplyOf w (u .requests) (t .parts) m
   reply-of (silent e f) m z i = reply-later w (u .requests) (u .requests) (s .parts) (t .parts) (λ _ j. j) older-part m (h .replies m (subst (λ (l : List (List ℕ)). List·Memᴰ m l) (with-none reply (u .replies) e) i))
   reply-of (reports r e f right) m z i = part r (made-part r f) (z ∙ e)
-  reply-of (answers x o e f fx fo z′) m z i = answer x o (z ∙ e) fx fo z′
+  reply-of (answers n o e f fn fo z′) m z i = answer n o (z ∙ e) fn fo z′
 
   part-of : ReplyAs w (u .requests) reply (k .made) → (r : Part Datum) → List·Memᴰ r (k .made) → List·Memᴰ (partBytes w r) (with reply (u .replies)) × PartRight w r
   part-of (silent e f) r i = absurd (List·Memᴰ·not-nil (subst (λ (l : List (Part Datum)). List·Memᴰ r l) f i))
-  part-of (answers x o e f fx fo z) r i = absurd (List·Memᴰ·not-nil (subst (λ (l : List (Part Datum)). List·Memᴰ r l) f i))
+  part-of (answers n o e f fn fo z) r i = absurd (List·Memᴰ·not-nil (subst (λ (l : List (Part Datum)). List·Memᴰ r l) f i))
   part-of (reports q e f right) r i =
       let same : r ≡ q = only-one (subst (λ (l : List (Part Datum)). List·Memᴰ r l) f i) in
       let bytes : reply ≡ partBytes w r = e ∙ ap (partBytes w) (sym same) in
       let sound : PartRight w r = subst (PartRight w) (sym same) right in
       (subst (λ (m : List ℕ). List·Memᴰ m (with reply (u .replies))) bytes (with-new reply (u .replies) (λ z. part-some w r sound (sym bytes ∙ z))), sound)
 
-  pub sign-stands : Stands p (afterSign u new edits reply) t
+  pub sign-stands : Stands p (afterSign u x) t
   unfolding afterSign
   sign-stands =
       record {
@@ -163,7 +166,7 @@ module _ (p : Plan) (u : World) (s t : System Datum) (h : Stands p u s) (x : Rea
       go (List·Memᴰ·head e) = (x .reply, subst (MessageAs (p .words) (x .reply)) (sym e) a, with-new (x .reply) (u .requests) n)
       go (List·Memᴰ·tail j) = let r = h .messages q j in (r .0, r .1, with-old (x .reply) (u .requests) (r .0) (r .2))
 
-  pub panel-stands : t .parts ≡ s .parts → SignAs (p .words) (p .defaults) (granted p) l (u .edits) (u .sign) (t .clusters) (t .row) → ((k : ℕ) → t .clusters k .changes ≡ s .clusters k .changes) → PanelAs (p .words) l (x .page) (x .state) (t .cache) → Stands p (afterPanel u x) t
+  pub panel-stands : t .parts ≡ s .parts → SignAs (signOf p (u .sign)) (granted p) l (t .clusters) (t .row) → ((k : ℕ) → t .clusters k .changes ≡ s .clusters k .changes) → PanelAs (p .words) l (x .page) (x .state) (t .cache) → Stands p (afterPanel u x) t
   unfolding afterPanel
   panel-stands parts sign counts panel =
       record {

@@ -16,7 +16,6 @@ use Rattle.tlv_writer.specs.Meaning.{Writable}
 use Rattle.schema.specs.Rules.{Rules}
 use Rattle.schema.proofs.RulesLaws.{well-formed-rules}
 use Rattle.schema.proofs.BoolLaws.{by-test}
-use Rattle.acl.specs.Access.{grantsOf, tableOk}
 use Rattle.kinds.proofs.StoredLaws.{Sized}
 use Rattle.interaction_writer.specs.Spelling.{primitiveD}
 use Rattle.interaction_writer.specs.Meaning.{PathFits}
@@ -25,8 +24,8 @@ use Rattle.envelope.specs.declared.Envelope.the-variants.{Whole, Short}
 use Rattle.round_trip.specs.Meant.{Outcome}
 use Rattle.envelope.specs.Envelope.{envelopeIn, maxMessage}
 use Rattle.exchange.specs.Rules.{maxTurn}
-use Rattle.server.specs.declared.State as server
-use Rattle.server.specs.Receive as sign
+use Rattle.replies.specs.Sign as sign
+use Rattle.server.specs.Receive.{received}
 use Rattle.server.proofs.ReceivedLaws.{Untouched}
 use Rattle.server.proofs.StartLaws.{accepted-schema}
 use Rattle.cache.specs.declared.State as cache
@@ -53,7 +52,7 @@ use Rattle.panel_steps.proofs.BeginLaws.{read-begins, write-begins, resent}
 use Rattle.panel_steps.proofs.AnswerLaws.{answer-taken, room-small}
 use Rattle.panel_steps.proofs.PartLaws.{part-taken}
 use Rattle.interaction_writer.specs.Envelope.{exchangeLimit}
-use Rattle.promises.specs.World.{Plan, subjectOf, World, Start, begin, granted, with, afterSign, afterPanel, answered, altered, Typed}
+use Rattle.promises.specs.World.{Plan, subjectOf, World, Start, begin, granted, signOf, callerOf, with, afterSign, afterPanel, answered, altered, Typed}
 use Rattle.promises.specs.Runs.{Step, alters, beginsRead, beginsWrite, resends, hears, overhears, gets, Quiet, Hears, Gets}
 use Rattle.promises.proofs.MessageLaws.{InExchange, message-one, message-in, part-envelope, answer-envelope}
 use Rattle.promises.proofs.ReadableLaws.{readable-few, parts-few}
@@ -155,36 +154,35 @@ module _ (p : Plan) (b : Start p) where
 
     -- THE SIGN
     -- a call that touched nothing
-    still-serves : (x : sign.Reaction) → Untouched (u .sign) (u .edits) x → Serves (p .words) (p .defaults) (granted p) (u .requests) (u .sign) (x .state) (x .edits) (x .reply) s s
+    still-serves : (x : sign.Reaction) → Untouched (u .sign) x → Serves (signOf p (u .sign)) (granted p) (u .requests) x s s
     still-serves x k =
         record {
-          sign = subst (λ (z : server.State). SignAs (p .words) (p .defaults) (granted p) (u .requests) (x .edits) z (s .clusters) (s .row)) (sym (k .state))
-              (subst (λ (z : List ℕ). SignAs (p .words) (p .defaults) (granted p) (u .requests) z (u .sign) (s .clusters) (s .row)) (sym (k .page)) (h .sign));
+          sign = subst (λ (z : sign.State). SignAs (signOf p z) (granted p) (u .requests) (s .clusters) (s .row)) (sym (k .state)) (h .sign);
           made = [];
           reply-is = silent (k .reply) refl;
           parts = refl;
           cache = refl;
           messages = refl;
-          counted = λ c _. same (getD (u .sign .values .versions) c 0) (getD (x .state .values .versions) c 0) (ap (λ (z : server.State). getD (z .values .versions) c 0) (sym (k .state))) (s .clusters c .changes);
+          counted = λ c _. same (getD (u .sign .values .versions) c 0) (getD (x .state .values .versions) c 0) (ap (λ (z : sign.State). getD (z .values .versions) c 0) (sym (k .state))) (s .clusters c .changes);
         }
       where
         same : (a d : ℕ) → a ≡ d → (n : ℕ) → n ≡ n + moved a d
         same a d e n = omega arith
 
-    unmoved : (x : sign.Reaction) → Untouched (u .sign) (u .edits) x → Stands p (afterSign u (x .state) (x .edits) (x .reply)) s
-    unmoved x k = sign-stands p u s s h (x .state) (x .edits) (x .reply) (still-serves x k)
+    unmoved : (x : sign.Reaction) → Untouched (u .sign) x → Stands p (afterSign u x) s
+    unmoved x k = sign-stands p u s s h x (still-serves x k)
 
     -- a change at the sign
     alter : (e c a : ℕ) (src : List ℕ) (new : Value) (t : Typed new) → Shadow {u = u} (alters e c a src new t) s
     alter e c a src new typed =
-        let r = change-served (p .words) (p .defaults) (b .edits) (granted p) (b .words-fit) (u .edits) (u .sign) s (u .requests) (h .sign) e c a src new (typed-sized new typed) in
+        let r = change-served (signOf p (u .sign)) (b .edits) (granted p) (b .words-fit) s (u .requests) (h .sign) e c a src new (typed-sized new typed) in
         go (r .0) (r .1) (r .2)
       where
         After : System Datum → Type 0
-        After t = Serves (p .words) (p .defaults) (granted p) (u .requests) (u .sign) (altered p u e c a src new .state) (altered p u e c a src new .edits) [] s t
+        After t = Serves (signOf p (u .sign)) (granted p) (u .requests) (altered p u e c a src new) s t
 
-        leaves : (t : System Datum) → After t → Stands p (afterSign u (altered p u e c a src new .state) (altered p u e c a src new .edits) []) t
-        leaves t k = sign-stands p u s t h (altered p u e c a src new .state) (altered p u e c a src new .edits) [] k
+        leaves : (t : System Datum) → After t → Stands p (afterSign u (altered p u e c a src new)) t
+        leaves t k = sign-stands p u s t h (altered p u e c a src new) k
 
         go : (t : System Datum) → (stores : List (Store Datum)) × (t ≡ storeAll s stores) → After t → Shadow {u = u} (alters e c a src new typed) s
         go t z k =
@@ -199,14 +197,13 @@ module _ (p : Plan) (b : Start p) where
 
     -- a message of the panel
     pub serves-as : (m : List ℕ) (room : ℕ) → List·Memᴰ m (u .requests) → (q : Message) → MessageAs (p .words) m q → maxMessage ≤ room
-        → let x = answered p u (subjectOf p) m room in
-        (size : ℕ) × (stores : List (Store Datum)) × Serves (p .words) (p .defaults) (granted p) (u .requests) (u .sign) (x .state) (x .edits) (x .reply) s (serve node s q size stores)
+        → (size : ℕ) × (stores : List (Store Datum)) × Serves (signOf p (u .sign)) (granted p) (u .requests) (answered p u (subjectOf p) m room) s (serve node s q size stores)
     serves-as m room i q a l =
-        let r = message-served (p .words) (p .defaults) (b .edits) (granted p) (b .words-fit) (u .edits) (u .sign) s (u .requests) (h .sign) row-low m q a i room l in
-        (r .0, r .1, subst (λ (z : Bool). Serves (p .words) (p .defaults) (granted p) (u .requests) (u .sign) (by-table z .state) (by-table z .edits) (by-table z .reply) s (serve node s q (r .0) (r .1))) (sym (b .table-right)) (r .2))
+        let r = message-served (signOf p (u .sign)) (b .edits) (granted p) (b .words-fit) s (u .requests) (h .sign) row-low m q a i room l in
+        (r .0, r .1, subst (λ (z : Bool). Serves (signOf p (u .sign)) (granted p) (u .requests) (by-table z) s (serve node s q (r .0) (r .1))) (sym (b .table-right)) (r .2))
       where
         by-table : Bool → sign.Reaction
-        by-table t = sign.received (p .words) (p .defaults) (u .edits) (u .sign) t (granted p) (subjectOf p) m room
+        by-table t = received (signOf p (u .sign)) (record { subject = subjectOf p; grants = granted p; table = t }) m room
 
     hear : (m : List ℕ) (room : ℕ) (i : List·Memᴰ m (u .requests)) → Shadow {u = u} (hears m room i) s
     hear m room i = by-test (ltb room maxMessage) (λ t. small (ltb-true room maxMessage t)) (λ f. full (ltb-false room maxMessage f))
@@ -219,7 +216,7 @@ module _ (p : Plan) (b : Start p) where
             record {
               next = s;
               move = stays;
-              stands = unmoved x (too-small (p .words) (p .defaults) (b .edits) (granted p) (b .words-fit) (u .edits) (u .sign) s (u .requests) (h .sign) (tableOk (p .table)) (granted p) (subjectOf p) m room l);
+              stands = unmoved x (too-small (signOf p (u .sign)) (b .edits) (granted p) (b .words-fit) s (u .requests) (h .sign) (callerOf p (subjectOf p)) m room l);
               quiet = λ _. tt;
               heard = λ z y. absurd (omega (arith, l, y .1));
               got = λ z y. absurd y;
@@ -232,7 +229,7 @@ module _ (p : Plan) (b : Start p) where
             record {
               next = serve node s (q .0) (r .0) (r .1);
               move = steps (model.serves (q .0) (r .0) (r .1) (q .2));
-              stands = sign-stands p u s (serve node s (q .0) (r .0) (r .1)) h (x .state) (x .edits) (x .reply) (r .2);
+              stands = sign-stands p u s (serve node s (q .0) (r .0) (r .1)) h x (r .2);
               quiet = λ _. tt;
               heard = λ z y v a. message-one (p .words) m (q .0) v (q .1) (subst (λ (y : List ℕ). MessageAs (p .words) y v) (sym (y .0)) a);
               got = λ z y. absurd y;
@@ -244,7 +241,7 @@ module _ (p : Plan) (b : Start p) where
         record {
           next = s;
           move = stays;
-          stands = unmoved (answered p u subject m room) (other-silent (p .words) (p .defaults) (b .edits) (granted p) (b .words-fit) (u .edits) (u .sign) s (u .requests) (h .sign) (tableOk (p .table)) (grantsOf (p .table) subject (p .words)) subject m room n);
+          stands = unmoved (answered p u subject m room) (other-silent (signOf p (u .sign)) (b .edits) (granted p) (b .words-fit) s (u .requests) (h .sign) (callerOf p subject) m room n);
           quiet = λ _. tt;
           heard = λ z y. absurd y;
           got = λ z y. absurd y;
@@ -255,7 +252,7 @@ module _ (p : Plan) (b : Start p) where
     unchanged : (x : Reaction) → x .state ≡ u .panel → x .page ≡ u .page → x .reply ≡ [] → Stands p (afterPanel u x) s
     unchanged x es ep er =
         panel-stands p u s s h x (nothing-sent er refl) refl
-        (subst (λ (z : List (List ℕ)). SignAs (p .words) (p .defaults) (granted p) z (u .edits) (u .sign) (s .clusters) (s .row)) (sym (with-none (x .reply) (u .requests) er)) (h .sign)) (λ k. refl)
+        (subst (λ (z : List (List ℕ)). SignAs (signOf p (u .sign)) (granted p) z (s .clusters) (s .row)) (sym (with-none (x .reply) (u .requests) er)) (h .sign)) (λ k. refl)
         (subst (λ (z : List (List ℕ)). PanelAs (p .words) z (x .page) (x .state) (s .cache)) (sym (with-none (x .reply) (u .requests) er))
         (moved-panel (sym es) (sym ep)))
       where
@@ -273,10 +270,10 @@ module _ (p : Plan) (b : Start p) where
         → Begins (p .words) (u .requests) x q (t .cache) → Stands p (afterPanel u x) t
     begun x q t em ep ec er k =
         panel-stands p u s t h x (new-one q (k .message) em (some-message (x .reply) q (k .message))) ep
-        (subst (λ (z : List (List ℕ)). SignAs (p .words) (p .defaults) (granted p) z (u .edits) (u .sign) (t .clusters) (t .row)) (sym (with-some (x .reply) (u .requests) (some-message (x .reply) q (k .message))))
-        (subst (λ (z : Row Datum). SignAs (p .words) (p .defaults) (granted p) (x .reply ∷ u .requests) (u .edits) (u .sign) (t .clusters) z) (sym er)
-        (subst (λ (z : ℕ → Cluster Datum). SignAs (p .words) (p .defaults) (granted p) (x .reply ∷ u .requests) (u .edits) (u .sign) z (s .row)) (sym ec)
-        (more-sent (p .words) (p .defaults) (b .edits) (granted p) (b .words-fit) (u .edits) (u .sign) s (u .requests) (h .sign) (x .reply)))))
+        (subst (λ (z : List (List ℕ)). SignAs (signOf p (u .sign)) (granted p) z (t .clusters) (t .row)) (sym (with-some (x .reply) (u .requests) (some-message (x .reply) q (k .message))))
+        (subst (λ (z : Row Datum). SignAs (signOf p (u .sign)) (granted p) (x .reply ∷ u .requests) (t .clusters) z) (sym er)
+        (subst (λ (z : ℕ → Cluster Datum). SignAs (signOf p (u .sign)) (granted p) (x .reply ∷ u .requests) z (s .row)) (sym ec)
+        (more-sent (signOf p (u .sign)) (b .edits) (granted p) (b .words-fit) s (u .requests) (h .sign) (x .reply)))))
         (λ j. ap (λ (z : ℕ → Cluster Datum). z j .changes) ec)
         (subst (λ (z : List (List ℕ)). PanelAs (p .words) z (x .page) (x .state) (t .cache)) (sym (with-some (x .reply) (u .requests) (some-message (x .reply) q (k .message)))) (k .panel))
 
@@ -345,9 +342,9 @@ module _ (p : Plan) (b : Start p) where
         k : (x .state ≡ u .panel) × (x .page ≡ u .page) × ((x .reply ≡ []) ⊎ List·Memᴰ (x .reply) (u .requests))
         k = resent (p .words) rules (u .page) (u .panel) s (u .requests) (h .panel) older room
 
-        again : (m : List ℕ) → List·Memᴰ m (u .requests) → SignAs (p .words) (p .defaults) (granted p) (with m (u .requests)) (u .edits) (u .sign) (s .clusters) (s .row) × PanelAs (p .words) (with m (u .requests)) (u .page) (u .panel) (s .cache)
+        again : (m : List ℕ) → List·Memᴰ m (u .requests) → SignAs (signOf p (u .sign)) (granted p) (with m (u .requests)) (s .clusters) (s .row) × PanelAs (p .words) (with m (u .requests)) (u .page) (u .panel) (s .cache)
         again [] i = (h .sign, h .panel)
-        again (d ∷ m) i = (more-sent (p .words) (p .defaults) (b .edits) (granted p) (b .words-fit) (u .edits) (u .sign) s (u .requests) (h .sign) (d ∷ m), panel-known (p .words) (u .requests) (d ∷ m) (u .page) (u .panel) (s .cache) i (h .panel))
+        again (d ∷ m) i = (more-sent (signOf p (u .sign)) (b .edits) (granted p) (b .words-fit) s (u .requests) (h .sign) (d ∷ m), panel-known (p .words) (u .requests) (d ∷ m) (u .page) (u .panel) (s .cache) i (h .panel))
 
         go : (x .reply ≡ []) ⊎ List·Memᴰ (x .reply) (u .requests) → Stands p (afterPanel u x) s
         go (inl e) = unchanged x (k .0) (k .1) e
@@ -359,17 +356,17 @@ module _ (p : Plan) (b : Start p) where
     pub taken : (x : Reaction) (t : System Datum) → t .parts ≡ s .parts → t .clusters ≡ s .clusters → t .row ≡ s .row → Takes (p .words) (u .requests) s x t → Stands p (afterPanel u x) t
     taken x t ep ec er k =
         panel-stands p u s t h x (go (k .told)) ep
-        (subst (λ (z : Row Datum). SignAs (p .words) (p .defaults) (granted p) (with (x .reply) (u .requests)) (u .edits) (u .sign) (t .clusters) z) (sym er)
-        (subst (λ (z : ℕ → Cluster Datum). SignAs (p .words) (p .defaults) (granted p) (with (x .reply) (u .requests)) (u .edits) (u .sign) z (s .row)) (sym ec) (grown (x .reply))))
+        (subst (λ (z : Row Datum). SignAs (signOf p (u .sign)) (granted p) (with (x .reply) (u .requests)) (t .clusters) z) (sym er)
+        (subst (λ (z : ℕ → Cluster Datum). SignAs (signOf p (u .sign)) (granted p) (with (x .reply) (u .requests)) z (s .row)) (sym ec) (grown (x .reply))))
         (λ j. ap (λ (z : ℕ → Cluster Datum). z j .changes) ec) (k .panel)
       where
         go : ((x .reply ≡ []) × (t .messages ≡ s .messages)) ⊎ ((q : Message) × MessageAs (p .words) (x .reply) q × (t .messages ≡ q ∷ s .messages) × (x .reply ≡ [] → ⊥)) → Told p u s t (x .reply)
         go (inl z) = nothing-sent (z .0) (z .1)
         go (inr z) = new-one (z .0) (z .1) (z .2) (z .3)
 
-        grown : (m : List ℕ) → SignAs (p .words) (p .defaults) (granted p) (with m (u .requests)) (u .edits) (u .sign) (s .clusters) (s .row)
+        grown : (m : List ℕ) → SignAs (signOf p (u .sign)) (granted p) (with m (u .requests)) (s .clusters) (s .row)
         grown [] = h .sign
-        grown (d ∷ m) = more-sent (p .words) (p .defaults) (b .edits) (granted p) (b .words-fit) (u .edits) (u .sign) s (u .requests) (h .sign) (d ∷ m)
+        grown (d ∷ m) = more-sent (signOf p (u .sign)) (b .edits) (granted p) (b .words-fit) s (u .requests) (h .sign) (d ∷ m)
 
     pub receive-same : (q : Part Datum) → ((receive s q) .parts ≡ s .parts) × ((receive s q) .clusters ≡ s .clusters) × ((receive s q) .row ≡ s .row)
     unfolding receive accept
@@ -429,7 +426,7 @@ module _ (p : Plan) (b : Start p) where
   pub stands-fresh : Stands p (begin p b) (Model.start node)
   stands-fresh =
       record {
-        sign = fresh-as (p .words) (p .defaults) (b .edits) (granted p) (b .words-fit) (b .accepts) (b .edits-size) [];
+        sign = fresh-as (p .words) (p .defaults) (b .edits) (granted p) (b .accepts) (b .edits-size) [];
         panel = fresh-panel (p .words) rules node (b .page) (b .page-size) [];
         requests = λ m i. absurd (List·Memᴰ·not-nil i);
         messages = λ q i. absurd (List·Memᴰ·not-nil i);

@@ -54,7 +54,7 @@ asked endpoint cluster attribute =
 
 abbrev pub shown : Plan → World → ℕ → ℕ → ℕ → Opt Block
 shown p u endpoint cluster attribute =
-    blockOf (p .words) (u .sign .values) (p .defaults) (u .edits) (asked endpoint cluster attribute) (concreteItem (p .words) (granted p) [] (asked endpoint cluster attribute))
+    blockOf (p .words) (u .sign .values) (p .defaults) (u .sign .edits) (asked endpoint cluster attribute) (concreteItem (p .words) (granted p) [] (asked endpoint cluster attribute))
 
 -- what it may read, as an entry: a status is none
 abbrev pub entryFor : Opt Block → Opt Entry

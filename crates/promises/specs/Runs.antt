@@ -2,7 +2,7 @@
 use mathlib.Core.Path.{_≡_}
 use mathlib.Core.Logic.{_⊎_, inl, inr}
 use mathlib.Core.Bool.{Bool}
-use mathlib.Core.List.{List, [], List·Memᴰ}
+use mathlib.Core.List.{List, List·Memᴰ}
 use Prim.Native.Nat.{ℕ, suc, _^_, _≤_, _<_}
 use Rattle.bounds.specs.Bounds.{versionLimit}
 use Rattle.tlv.specs.declared.Value.{Value}
@@ -17,15 +17,15 @@ module _ (p : Plan) where
   -- the sign ever made is handed to the panel. Every buffer is of any length
   pub data Step (u : World) : World → Type 0 where
     alters : (endpoint cluster attribute : ℕ) (src : List ℕ) (new : Value) → Typed new
-        → Step u (afterSign u (altered p u endpoint cluster attribute src new .state) (altered p u endpoint cluster attribute src new .edits) [])
+        → Step u (afterSign u (altered p u endpoint cluster attribute src new))
     beginsRead : (room : ℕ) → Step u (afterPanel u (begin.beginsRead (u .page) (u .panel) room))
     beginsWrite : (endpoint cluster attribute : ℕ) (given : Bool) (version : ℕ) (src : List ℕ) (new : Value) (room : ℕ) → PathFits endpoint cluster attribute → version < versionLimit → Typed new
         → Step u (afterPanel u (begin.beginsWrite (u .page) (u .panel) endpoint cluster attribute given version src new room))
     resends : (room : ℕ) → Step u (afterPanel u (begin.resends (u .page) (u .panel) room))
     hears : (m : List ℕ) (room : ℕ) → List·Memᴰ m (u .requests)
-        → Step u (afterSign u (answered p u (subjectOf p) m room .state) (answered p u (subjectOf p) m room .edits) (answered p u (subjectOf p) m room .reply))
+        → Step u (afterSign u (answered p u (subjectOf p) m room))
     overhears : (subject : ℕ) (m : List ℕ) (room : ℕ) → (subject ≡ subjectOf p → ⊥)
-        → Step u (afterSign u (answered p u subject m room .state) (answered p u subject m room .edits) (answered p u subject m room .reply))
+        → Step u (afterSign u (answered p u subject m room))
     gets : (m : List ℕ) (room : ℕ) → List·Memᴰ m (u .replies) → Step u (afterPanel u (receive.received (u .page) (u .panel) m room))
 
   pub data Run (u : World) : World → Type 0 where

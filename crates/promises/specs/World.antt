@@ -15,9 +15,9 @@ use Rattle.node.specs.Check.{accepted}
 use Rattle.acl.specs.declared.Entry.{Entry}
 use Rattle.acl.specs.declared.Grants.{Grants}
 use Rattle.acl.specs.Access.{grantsOf, tableOk}
-use Rattle.server.specs.declared.State as server
-use Rattle.server.specs.Receive as sign
-use Rattle.server.specs.Start.{Altered, started, alteredBy}
+use Rattle.replies.specs.Sign.{State, Sign, Caller, Reaction}
+use Rattle.server.specs.Receive.{received}
+use Rattle.server.specs.Start.{started, alteredBy}
 use Rattle.cached.specs.Limits.{pageSize}
 use Rattle.cache.specs.declared.State as cache
 use Rattle.cache.specs.Reaction as panel
@@ -37,11 +37,17 @@ subjectOf p = getD (p .words) subjectWord 0
 abbrev pub granted : Plan → Grants
 granted p = grantsOf (p .table) (subjectOf p) (p .words)
 
--- the sign and its edited page, the panel and its page of texts; every message that the panel has made, and every reply of the sign, the newest first. How often each of
+-- the sign as it is lent to a call, and who calls
+abbrev pub signOf : Plan → State → Sign
+signOf p u = record { schema = p .words; defaults = p .defaults; state = u }
+
+abbrev pub callerOf : Plan → ℕ → Caller
+callerOf p subject = record { subject = subject; grants = grantsOf (p .table) subject (p .words); table = tableOk (p .table) }
+
+-- what the sign holds, the panel and its page of texts; every message that the panel has made, and every reply of the sign, the newest first. How often each of
 -- the schema's clusters has changed is for the statements alone
 pub record World : Type 0 where
-  pub sign : server.State
-  pub edits : List ℕ
+  pub sign : State
   pub panel : cache.State
   pub page : List ℕ
   pub requests : List (List ℕ)
@@ -62,8 +68,7 @@ pub record Start (p : Plan) : Type 0 where
 abbrev pub begin : (p : Plan) → Start p → World
 begin p b =
     record {
-      sign = started (p .words) (p .defaults) .state;
-      edits = b .edits;
+      sign = started (p .words) (p .defaults) (b .edits) .state;
       panel = fresh;
       page = b .page;
       requests = [];
@@ -81,17 +86,16 @@ with (b ∷ m) l = (b ∷ m) ∷ l
 abbrev pub moved : ℕ → ℕ → ℕ
 moved old new = (new + versionLimit - old) % versionLimit
 
--- after a call of the sign, which leaves this state, page and reply
-unfoldable pub afterSign : World → server.State → List ℕ → List ℕ → World
-afterSign u s edits reply =
+-- after a call of the sign
+unfoldable pub afterSign : World → Reaction → World
+afterSign u x =
     record {
-      sign = s;
-      edits = edits;
+      sign = x .state;
       panel = u .panel;
       page = u .page;
       requests = u .requests;
-      replies = with reply (u .replies);
-      changes = λ k. u .changes k + moved (getD (u .sign .values .versions) k 0) (getD (s .values .versions) k 0);
+      replies = with (x .reply) (u .replies);
+      changes = λ k. u .changes k + moved (getD (u .sign .values .versions) k 0) (getD (x .state .values .versions) k 0);
     }
 
 -- after a call of the panel
@@ -99,7 +103,6 @@ unfoldable pub afterPanel : World → panel.Reaction → World
 afterPanel u x =
     record {
       sign = u .sign;
-      edits = u .edits;
       panel = x .state;
       page = x .page;
       requests = with (x .reply) (u .requests);
@@ -108,12 +111,12 @@ afterPanel u x =
     }
 
 -- a message handed to the sign, by anyone
-abbrev pub answered : Plan → World → ℕ → List ℕ → ℕ → sign.Reaction
-answered p u subject m room =
-    sign.received (p .words) (p .defaults) (u .edits) (u .sign) (tableOk (p .table)) (grantsOf (p .table) subject (p .words)) subject m room
+abbrev pub answered : Plan → World → ℕ → List ℕ → ℕ → Reaction
+answered p u subject m room = received (signOf p (u .sign)) (callerOf p subject) m room
 
-abbrev pub altered : Plan → World → ℕ → ℕ → ℕ → List ℕ → Value → Altered
-altered p u endpoint cluster attribute src new = alteredBy (p .words) (p .defaults) (u .edits) (u .sign) endpoint cluster attribute src new
+-- a change at the sign
+abbrev pub altered : Plan → World → ℕ → ℕ → ℕ → List ℕ → Value → Reaction
+altered p u endpoint cluster attribute src new = alteredBy (signOf p (u .sign)) endpoint cluster attribute src new
 
 -- a value as the code's types have it
 abbrev pub Typed : Value → Type 0

@@ -149,7 +149,7 @@ stays-whole =
     uncounted x e = rw (sign-calls .row6) e
 
     some : MayReadSome plan changed 1 6
-    some = (0, sign-calls .may-read6 .0, omega arith, rw (changed-holds .sign-is, changed-holds .edits-are) (sign-calls .may-read6 .1))
+    some = (0, sign-calls .may-read6 .0, omega arith, rw (changed-holds .sign-is) (sign-calls .may-read6 .1))
 
     version5 : versionOf plan changed 1 6 ≡ just 5
     version5 = rw (sign-calls .row6, changed-holds .sign-is) (ap just (sign-calls .stands .2))

@@ -9,9 +9,9 @@ use Rattle.cache.specs.Begin.{fresh}
 use Rattle.cache_receive.specs.Receive as receive
 use Rattle.promises.specs.World.{World, afterSign, afterPanel, altered}
 use Rattle.promises.specs.World as world
-use Rattle.promises_example.specs.Plan.{plan, edits, page}
+use Rattle.promises_example.specs.Plan.{plan, page}
 use Rattle.promises_example.specs.Messages.{request, success, part1, part2, new}
-use Rattle.promises_example.specs.Sign.{sign0, sign1, sign2, sign3, changedEdits}
+use Rattle.promises_example.specs.Sign.{sign0, sign1, sign2, sign3}
 use Rattle.promises_example.specs.Panel.{panel1, panel2, panel3, page2, page3}
 use Rattle.promises_example.specs.Calls.{renewed}
 use Rattle.promises_example.proofs.SignCalls.{sign-calls}
@@ -45,7 +45,7 @@ refused = got taken part1
 
 -- a text of cluster 8 changed; the second part sent, and taken
 unfoldable pub changed : World
-changed = afterSign refused (altered plan refused 1 8 2 new (Text 0 3) .state) (altered plan refused 1 8 2 new (Text 0 3) .edits) []
+changed = afterSign refused (altered plan refused 1 8 2 new (Text 0 3))
 
 unfoldable pub sent : World
 sent = heard changed success
@@ -54,12 +54,11 @@ unfoldable pub ended : World
 ended = got sent part2
 
 -- what stands in each
-fresh-holds : Holds (world.begin plan start) sign0 edits fresh page [] []
+fresh-holds : Holds (world.begin plan start) sign0 fresh page [] []
 unfolding start
 fresh-holds =
     record {
       sign-is = ap (λ x. x .state) (sign-calls .made);
-      edits-are = refl;
       panel-is = refl;
       page-is = refl;
       requests-are = refl;
@@ -67,39 +66,38 @@ fresh-holds =
       unchanged = refl;
     }
 
-pub begun-holds : Holds begun sign0 edits panel1 page (request ∷ []) []
+pub begun-holds : Holds begun sign0 panel1 page (request ∷ []) []
 unfolding begun
 begun-holds = reacted fresh-holds (λ t c. begin.beginsRead t c maxMessage) (panel-calls .begins) (panel-calls .request-sent [])
 
-pub lost-holds : Holds lost sign1 edits panel1 page (request ∷ []) (part1 ∷ [])
+pub lost-holds : Holds lost sign1 panel1 page (request ∷ []) (part1 ∷ [])
 unfolding lost
 lost-holds = hearing begun-holds request (sign-calls .begins) (sign-calls .part1-sent []) (sign-calls .stands .0) (sign-calls .stands .1)
 
-pub resent-holds : Holds resent sign1 edits panel1 page (request ∷ request ∷ []) (part1 ∷ [])
+pub resent-holds : Holds resent sign1 panel1 page (request ∷ request ∷ []) (part1 ∷ [])
 unfolding resent
 resent-holds = reacted lost-holds (λ t c. begin.resends t c maxMessage) (panel-calls .resends) (panel-calls .request-sent (request ∷ []))
 
-pub repeated-holds : Holds repeated sign1 edits panel1 page (request ∷ request ∷ []) (part1 ∷ part1 ∷ [])
+pub repeated-holds : Holds repeated sign1 panel1 page (request ∷ request ∷ []) (part1 ∷ part1 ∷ [])
 unfolding repeated
 repeated-holds = hearing resent-holds request (sign-calls .repeats) (sign-calls .part1-sent (part1 ∷ [])) (sign-calls .stands .1) (sign-calls .stands .1)
 
-pub taken-holds : Holds taken sign1 edits panel2 page2 (success ∷ request ∷ request ∷ []) (part1 ∷ part1 ∷ [])
+pub taken-holds : Holds taken sign1 panel2 page2 (success ∷ request ∷ request ∷ []) (part1 ∷ part1 ∷ [])
 unfolding taken
 taken-holds = reacted repeated-holds (λ t c. receive.received t c part1 maxMessage) (panel-calls .takes) (panel-calls .success-sent (request ∷ request ∷ []))
 
-pub refused-holds : Holds refused sign1 edits panel2 page2 (success ∷ request ∷ request ∷ []) (part1 ∷ part1 ∷ [])
+pub refused-holds : Holds refused sign1 panel2 page2 (success ∷ request ∷ request ∷ []) (part1 ∷ part1 ∷ [])
 unfolding refused
 refused-holds = reacted taken-holds (λ t c. receive.received t c part1 maxMessage) (panel-calls .refuses) refl
 
-pub changed-holds : Holds changed sign2 changedEdits panel2 page2 (success ∷ request ∷ request ∷ []) (part1 ∷ part1 ∷ [])
+pub changed-holds : Holds changed sign2 panel2 page2 (success ∷ request ∷ request ∷ []) (part1 ∷ part1 ∷ [])
 unfolding changed
-changed-holds = served refused-holds (λ e s. renewed e s .state) (λ e s. renewed e s .edits) (λ e s. []) (ap (λ x. x .state) (sign-calls .alters)) (ap (λ x. x .edits) (sign-calls .alters)) refl
-    (sign-calls .stands .1) (sign-calls .stands .2)
+changed-holds = served refused-holds renewed (sign-calls .alters) refl (sign-calls .stands .1) (sign-calls .stands .2)
 
-pub sent-holds : Holds sent sign3 changedEdits panel2 page2 (success ∷ request ∷ request ∷ []) (part2 ∷ part1 ∷ part1 ∷ [])
+pub sent-holds : Holds sent sign3 panel2 page2 (success ∷ request ∷ request ∷ []) (part2 ∷ part1 ∷ part1 ∷ [])
 unfolding sent
 sent-holds = hearing changed-holds success (sign-calls .goes-on) (sign-calls .part2-sent (part1 ∷ part1 ∷ [])) (sign-calls .stands .2) (sign-calls .stands .3)
 
-pub ended-holds : Holds ended sign3 changedEdits panel3 page3 (success ∷ request ∷ request ∷ []) (part2 ∷ part1 ∷ part1 ∷ [])
+pub ended-holds : Holds ended sign3 panel3 page3 (success ∷ request ∷ request ∷ []) (part2 ∷ part1 ∷ part1 ∷ [])
 unfolding ended
 ended-holds = reacted sent-holds (λ t c. receive.received t c part2 maxMessage) (panel-calls .ends) refl

@@ -16,9 +16,9 @@ use Rattle.node.specs.Check.{accepted}
 use Rattle.acl.specs.Access.{tableOk}
 use Rattle.selection.specs.Items.{concreteItem}
 use Rattle.report.specs.Blocks.{blockOf}
-use Rattle.server.specs.declared.State as server
-use Rattle.server.specs.Receive as sign
-use Rattle.server.specs.Start.{Altered, started, alteredBy}
+use Rattle.replies.specs.Sign.{State, Reaction}
+use Rattle.server.specs.Receive.{received}
+use Rattle.server.specs.Start.{started, alteredBy}
 use Rattle.cached.specs.Limits.{pageSize}
 use Rattle.cached.specs.Entries.{Entry}
 use Rattle.cache.specs.declared.State as cache
@@ -27,26 +27,26 @@ use Rattle.cache.specs.Begin as begin
 use Rattle.cache.specs.Begin.{fresh}
 use Rattle.cache_receive.specs.Receive as receive
 use Rattle.cache_ask.specs.Ask.{said, saysWhole}
-use Rattle.promises.specs.World.{subjectOf, granted, with}
+use Rattle.promises.specs.World.{subjectOf, granted, signOf, callerOf, with}
 use Rattle.promises.specs.Claims.{asked, entryFor}
 use Rattle.promises_example.specs.Plan.{edits, page, plan}
 use Rattle.promises_example.specs.Messages.{request, success, part1, part2, new}
-use Rattle.promises_example.specs.Sign.{sign0, sign1, sign2, sign3, changedEdits}
+use Rattle.promises_example.specs.Sign.{sign0, sign1, sign2, sign3}
 use Rattle.promises_example.specs.Panel.{panel1, panel2, panel3, page2, page3}
 
 -- the plan's subject hands a message to the sign, with a buffer of full size
-abbrev pub given : List ℕ → server.State → List ℕ → sign.Reaction
-given e s m = sign.received (plan .words) (plan .defaults) e s (tableOk (plan .table)) (granted plan) (subjectOf plan) m maxMessage
+abbrev pub given : State → List ℕ → Reaction
+given s m = received (signOf plan s) (callerOf plan (subjectOf plan)) m maxMessage
 
 -- the last text of cluster 8 is changed at the sign
-abbrev pub renewed : List ℕ → server.State → Altered
-renewed e s = alteredBy (plan .words) (plan .defaults) e s 1 8 2 new (Text 0 3)
+abbrev pub renewed : State → Reaction
+renewed s = alteredBy (signOf plan s) 1 8 2 new (Text 0 3)
 
-abbrev pub answers : server.State → List ℕ → List ℕ → sign.Reaction
-answers s e reply = record { number = 0; state = s; edits = e; reply = reply }
+abbrev pub answers : State → List ℕ → Reaction
+answers s reply = record { number = 0; state = s; reply = reply }
 
 -- the version of cluster 6, the schema's first
-abbrev pub version6 : server.State → ℕ
+abbrev pub version6 : State → ℕ
 version6 s = getD (s .values .versions) 0 0
 
 -- a message is one: it is not silence
@@ -59,19 +59,19 @@ pub record SignCalls : Type 0 where
   pub words-fit : allBelow (2 ^ 64) (plan .words) ≡ true
   pub table-right : tableOk (plan .table) ≡ true
   pub edits-size : length edits ≡ textSize * textCount (plan .words)
-  pub made : started (plan .words) (plan .defaults) ≡ record { number = 0; state = sign0 }
+  pub made : started (plan .words) (plan .defaults) edits ≡ answers sign0 []
   -- the request begins the exchange, and once more gets the very same bytes
-  pub begins : given edits sign0 request ≡ answers sign1 edits part1
-  pub repeats : given edits sign1 request ≡ answers sign1 edits part1
-  pub alters : renewed edits sign1 ≡ record { number = 0; state = sign2; edits = changedEdits }
+  pub begins : given sign0 request ≡ answers sign1 part1
+  pub repeats : given sign1 request ≡ answers sign1 part1
+  pub alters : renewed sign1 ≡ answers sign2 []
   -- the success gets the second part
-  pub goes-on : given changedEdits sign2 success ≡ answers sign3 changedEdits part2
+  pub goes-on : given sign2 success ≡ answers sign3 part2
   pub turns : (getD part1 7 0 ≡ 1) × (getD part2 7 0 ≡ 2)
   pub part1-sent : Sent part1
   pub part2-sent : Sent part2
   -- cluster 6 has something to read, and is at version 5 throughout
   pub row6 : findCluster (plan .words) 1 6 ≡ At 0
-  pub may-read6 : (e : Entry) × (entryFor (blockOf (plan .words) (sign2 .values) (plan .defaults) changedEdits (asked 1 6 0) (concreteItem (plan .words) (granted plan) [] (asked 1 6 0))) ≡ just e)
+  pub may-read6 : (e : Entry) × (entryFor (blockOf (plan .words) (sign2 .values) (plan .defaults) (sign2 .edits) (asked 1 6 0) (concreteItem (plan .words) (granted plan) [] (asked 1 6 0))) ≡ just e)
   pub stands : (version6 sign0 ≡ 5) × (version6 sign1 ≡ 5) × (version6 sign2 ≡ 5) × (version6 sign3 ≡ 5)
 
 -- a panel reacts so

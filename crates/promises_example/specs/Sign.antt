@@ -15,9 +15,9 @@ use Rattle.report.specs.Blocks.{startOf}
 use Rattle.values.specs.declared.Values.{Values}
 use Rattle.values.specs.Fresh.{freshValues}
 use Rattle.replies.specs.declared.Row.{Row}
-use Rattle.server.specs.declared.State.{State}
+use Rattle.replies.specs.Sign.{State}
 use Rattle.server.specs.Start.{freshRow}
-use Rattle.promises_example.specs.Plan.{words}
+use Rattle.promises_example.specs.Plan.{words, edits}
 use Rattle.promises_example.specs.Messages.{part1, part2, new, keptOver}
 
 -- every attribute of every cluster is asked for, without a filter
@@ -57,13 +57,13 @@ unfoldable pub changedEdits : List ℕ
 changedEdits = replicate (4 * textSize) 0 ++ (new ++ replicate (textSize - 3) 0)
 
 unfoldable pub sign0 : State
-sign0 = record { values = freshValues words; row = freshRow }
+sign0 = record { values = freshValues words; edits = edits; row = freshRow }
 
 unfoldable pub sign1 : State
-sign1 = record { values = freshValues words; row = row1 }
+sign1 = record { values = freshValues words; edits = edits; row = row1 }
 
 unfoldable pub sign2 : State
-sign2 = record { values = changedValues; row = row1 }
+sign2 = record { values = changedValues; edits = changedEdits; row = row1 }
 
 unfoldable pub sign3 : State
-sign3 = record { values = changedValues; row = row2 }
+sign3 = record { values = changedValues; edits = changedEdits; row = row2 }

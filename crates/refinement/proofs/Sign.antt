@@ -17,8 +17,8 @@ use Rattle.exchange.specs.declared.Progress.{Progress}
 use Rattle.exchange.specs.Rules.{nothing}
 use Rattle.replies.specs.declared.Row as replies
 use Rattle.replies.specs.Messages.{maxMessage}
+use Rattle.replies.specs.Sign.{Sign, Reaction, withState}
 use Rattle.replies.specs.Row.{keptReply, pathsOf}
-use Rattle.server.specs.declared.State.{State}
 use Rattle.server.proofs.KeptLaws.{ValidSign}
 use Rattle.protocol.specs.Model.{Part, Row, Cluster, System}
 use Rattle.protocol.specs.Claims.{moved}
@@ -47,18 +47,18 @@ pub record RowAs (w : List ℕ) (g : Grants) (sent : List (List ℕ)) (x : repli
   pub kept : ReplyAs w sent (keptReply x) (r .kept)
   pub whole : length (x .kept) ≡ maxMessage
 
-pub record SignAs (w defaults : List ℕ) (g : Grants) (sent : List (List ℕ)) (edits : List ℕ) (s : State) (clusters : ℕ → Cluster Datum) (r : Row Datum) : Type 0 where
-  pub valid : ValidSign w defaults edits s
-  pub versions-fit : (k : ℕ) → getD (s .values .versions) k 0 < versionLimit
-  pub held : ClustersAs w defaults edits (s .values) clusters
-  pub row : RowAs w g sent (s .row) r
+pub record SignAs (n : Sign) (g : Grants) (sent : List (List ℕ)) (clusters : ℕ → Cluster Datum) (r : Row Datum) : Type 0 where
+  pub valid : ValidSign n
+  pub versions-fit : (k : ℕ) → getD (n .state .values .versions) k 0 < versionLimit
+  pub held : ClustersAs (n .schema) (n .defaults) (n .state .edits) (n .state .values) clusters
+  pub row : RowAs (n .schema) g sent (n .state .row) r
 
--- WHAT A CALL OF THE SIGN LEAVES: the state and page after it, the reply, and the step that the protocol takes
-pub record Serves (w defaults : List ℕ) (g : Grants) (sent : List (List ℕ)) (old new : State) (edits reply : List ℕ) (s t : System Datum) : Type 0 where
-  pub sign : SignAs w defaults g sent edits new (t .clusters) (t .row)
+-- WHAT A CALL OF THE SIGN LEAVES: what the sign holds after it, the reply, and the step that the protocol takes
+pub record Serves (n : Sign) (g : Grants) (sent : List (List ℕ)) (x : Reaction) (s t : System Datum) : Type 0 where
+  pub sign : SignAs (withState n (x .state)) g sent (t .clusters) (t .row)
   pub made : List (Part Datum)
-  pub reply-is : ReplyAs w sent reply made
+  pub reply-is : ReplyAs (n .schema) sent (x .reply) made
   pub parts : t .parts ≡ made ++ s .parts
   pub cache : t .cache ≡ s .cache
   pub messages : t .messages ≡ s .messages
-  pub counted : (k : ℕ) → k < clusterCount w → t .clusters k .changes ≡ s .clusters k .changes + moved (getD (old .values .versions) k 0) (getD (new .values .versions) k 0)
+  pub counted : (k : ℕ) → k < clusterCount (n .schema) → t .clusters k .changes ≡ s .clusters k .changes + moved (getD (n .state .values .versions) k 0) (getD (x .state .values .versions) k 0)

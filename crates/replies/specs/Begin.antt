@@ -13,7 +13,6 @@ use Rattle.interaction_write.specs.declared.WriteRequest.{WriteRequest}
 use Rattle.interaction_write.specs.Write.{writeIn, writeRead}
 use Rattle.interaction_writer.specs.Envelope.{panelEdition}
 use Rattle.acl.specs.declared.Grants.{Grants}
-use Rattle.values.specs.declared.Values.{Values}
 use Rattle.selection.specs.Request.{pathsWords}
 use Rattle.selection.specs.Filters.{filterWords}
 use Rattle.exchange.specs.declared.Progress.{Progress}
@@ -27,6 +26,7 @@ use Rattle.replies.specs.declared.Row.{Row}
 use Rattle.replies.specs.declared.Standing.{Standing}
 use Rattle.replies.specs.Refusal.{readRefusal, writeRefusal}
 use Rattle.replies.specs.Messages.{statusMessage, responseMessage}
+use Rattle.replies.specs.Sign.{State, Sign, heldBy, stateWith, withRow}
 use Rattle.replies.specs.Row.{keeping, keptReply, reported, blocksOf, standingOf, putRequest}
 
 -- an exchange whose one reply was given, and that promised nothing
@@ -54,37 +54,33 @@ requestOf w r =
     }
 
 -- a read: a status if it is refused whole, else reply 1
-abbrev pub readBy : List ℕ → Values → List ℕ → List ℕ → Grants → Row → ℕ → ReadRequest → Row
-readBy w v defaults edits g x exchange r =
-    pick (eqb (readRefusal r) 0)
-    (reported x exchange firstReply (requestOf w r) beginningPlace (blocksOf w v defaults edits g (requestOf w r) beginningPlace))
-    (once x exchange (refusalOf exchange (readRefusal r)))
+abbrev pub readBy : Sign → Grants → ℕ → ReadRequest → Row
+readBy s g exchange r =
+    let q = requestOf (s .schema) r in
+    pick (eqb (readRefusal r) 0) (reported (s .state .row) exchange firstReply q beginningPlace (blocksOf s g q beginningPlace))
+    (once (s .state .row) exchange (refusalOf exchange (readRefusal r)))
 
-unfoldable pub readBegun : List ℕ → Values → List ℕ → List ℕ → Grants → Row → ℕ → List ℕ → Row
-readBegun w v defaults edits g x exchange payload = readBy w v defaults edits g x exchange (readRead (readIn payload))
-
--- what a write leaves: what is held, and the row
-pub record Left : Type 0 where
-  pub held : Held
-  pub row : Row
+unfoldable pub readBegun : Sign → Grants → ℕ → List ℕ → Row
+readBegun s g exchange payload = readBy s g exchange (readRead (readIn payload))
 
 abbrev pub entriesOf : WriteRequest → List Entry
 entriesOf r = take (r .entries .count) (r .entries .kept)
 
 -- "SuppressResponse true: stored, silence .. a refusal of the whole request is still sent"
-abbrev pub responseTo : List ℕ → Grants → List ℕ → List ℕ → Held → ℕ → WriteRequest → List ℕ
-responseTo w g defaults payload h exchange r =
-    pick (eqb (r .suppress) 1) [] (responseMessage panelEdition exchange firstReply (entriesOf r) (codesOf w g defaults payload h (entriesOf r)))
+abbrev pub responseTo : Sign → Grants → ℕ → List ℕ → WriteRequest → List ℕ
+responseTo s g exchange payload r =
+    pick (eqb (r .suppress) 1) []
+    (responseMessage panelEdition exchange firstReply (entriesOf r) (codesOf (s .schema) g (s .defaults) payload (heldBy (s .state)) (entriesOf r)))
 
-abbrev pub writeBy : List ℕ → Grants → List ℕ → Held → Row → ℕ → List ℕ → WriteRequest → Left
-writeBy w g defaults h x exchange payload r =
+abbrev pub writeBy : Sign → Grants → ℕ → List ℕ → WriteRequest → State
+writeBy s g exchange payload r =
     pick (eqb (writeRefusal r) 0)
-    (record { held = heldAfter w g defaults payload h (entriesOf r); row = once x exchange (responseTo w g defaults payload h exchange r) })
-    (record { held = h; row = once x exchange (refusalOf exchange (writeRefusal r)) })
+    (stateWith (heldAfter (s .schema) g (s .defaults) payload (heldBy (s .state)) (entriesOf r)) (once (s .state .row) exchange (responseTo s g exchange payload r)))
+    (withRow (s .state) (once (s .state .row) exchange (refusalOf exchange (writeRefusal r))))
 
 -- a write: nothing stored if it is refused whole
-unfoldable pub writeBegun : List ℕ → Grants → List ℕ → Held → Row → ℕ → List ℕ → Left
-writeBegun w g defaults h x exchange payload = writeBy w g defaults h x exchange payload (writeRead (writeIn payload))
+unfoldable pub writeBegun : Sign → Grants → ℕ → List ℕ → State
+writeBegun s g exchange payload = writeBy s g exchange payload (writeRead (writeIn payload))
 
 -- as the code has it: how the exchange stands, the request in the row's words, the kept reply, and the reply in the buffer
 pub record Begins (x : Row) (t : Standing) (row newRow kept old new : List ℕ) : Type 0 where
@@ -95,6 +91,6 @@ pub record Begins (x : Row) (t : Standing) (row newRow kept old new : List ℕ) 
   pub full : length (keptReply x) ≡ x .len
 
 -- and what is held
-pub record Wrote (l : Left) (t : Standing) (h : Held) (row newRow kept old new : List ℕ) : Type 0 where
-  pub held : h ≡ l .held
-  pub begins : Begins (l .row) t row newRow kept old new
+pub record Wrote (u : State) (t : Standing) (h : Held) (row newRow kept old new : List ℕ) : Type 0 where
+  pub held : h ≡ heldBy u
+  pub begins : Begins (u .row) t row newRow kept old new

@@ -9,7 +9,6 @@ use Rattle.octets.specs.Store.{store}
 use Rattle.tlv.specs.Octet.{pick}
 use Rattle.interaction_writer.specs.Envelope.{panelEdition, exchangeLimit}
 use Rattle.acl.specs.declared.Grants.{Grants}
-use Rattle.values.specs.declared.Values.{Values}
 use Rattle.selection.specs.declared.asked.Asked.{Asked}
 use Rattle.selection.specs.Request.{filtersAt, standingAt, pathsIn, filtersIn, askedPaths}
 use Rattle.exchange.specs.declared.Progress.{Progress}
@@ -21,6 +20,7 @@ use Rattle.report.specs.Chunk.{blockRoom, taken, left, after, any}
 use Rattle.replies.specs.declared.Row.{Row}
 use Rattle.replies.specs.declared.Standing.{Standing}
 use Rattle.replies.specs.Messages.{maxMessage, reportMessage}
+use Rattle.replies.specs.Sign.{Sign}
 
 -- where the reply is kept in the bytes lent for it
 abbrev pub keptAt : ℕ
@@ -40,8 +40,8 @@ abbrev pub pathsOf : Request → List Asked
 pathsOf r = askedPaths (r .paths) (r .asked)
 
 -- the blocks of a request from a place on, as the sign stands
-abbrev pub blocksOf : List ℕ → Values → List ℕ → List ℕ → Grants → Request → Place → List Placed
-blocksOf w v defaults edits g r at = blocksFrom (viewOf w v defaults edits g (r .filters)) (pathsOf r) at
+abbrev pub blocksOf : Sign → Grants → Request → Place → List Placed
+blocksOf s g r at = blocksFrom (viewOf (s .schema) (s .state .values) (s .defaults) (s .state .edits) g (r .filters)) (pathsOf r) at
 
 -- what a success for a part brings: the next one where more is promised
 abbrev pub nextOf : Bool → ℕ
@@ -54,9 +54,10 @@ reported x exchange turn r at l =
     (reportMessage panelEdition exchange turn l)
 
 -- "turn k, when more was promised, gets reply k + 1"
-unfoldable pub nextPart : List ℕ → Values → List ℕ → List ℕ → Grants → Row → Row
-nextPart w v defaults edits g x =
-    reported x (x .progress .last) (x .progress .turn + 1) (x .request) (x .place) (blocksOf w v defaults edits g (x .request) (x .place))
+unfoldable pub nextPart : Sign → Grants → Row
+nextPart s g =
+    let x = s .state .row in
+    reported x (x .progress .last) (x .progress .turn + 1) (x .request) (x .place) (blocksOf s g (x .request) (x .place))
 
 -- refusal 2: numbers in their widths, counts, the place reached, of which nothing was sent, and the kept reply's length
 unfoldable pub rowRight : Row → Bool

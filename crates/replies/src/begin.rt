@@ -8,9 +8,9 @@ ghost use Rattle.octets.specs.Store.{store};
 ghost use Rattle.interaction_writer.specs.Envelope.{exchangeLimit};
 ghost use Rattle.schema.specs.Layout.{textSize};
 ghost use Rattle.schema.specs.Check.{wellFormed, textCount};
-ghost use Rattle.values.specs.Values.{valuesOf};
 ghost use Rattle.writes.specs.Offer.{heldOf};
 ghost use Rattle.replies.specs.Messages.{maxMessage};
+ghost use Rattle.replies.specs.Sign.{signWith};
 ghost use Rattle.replies.specs.Row.{rowIn, keptReply};
 ghost use Rattle.replies.specs.Begin.{refusalOf, once, readBegun, writeBegun, Begins, Wrote};
 use super::MAX_MESSAGE;
@@ -94,7 +94,7 @@ pub fn begin_read<'a>(
     out: &mut [u8],
 ) -> Standing
     requires { ⌜ (wellFormed (now w) ≡ true) × ((exchange < exchangeLimit) × (maxMessage ≤ length (now out))) ⌝ }
-    ensures { λ r. ⌜ Begins (readBegun (now (w .entry)) (valuesOf (now (words .entry)) (now (nulls .entry)) (now (texts .entry)) (now (versions .entry))) (now (defaults .entry)) (now (edits .entry)) g (rowIn (now (row .entry)) t (now (kept .entry))) exchange (now (payload .entry))) r (now (row .entry)) (now (row .exit)) (now (kept .exit)) (now (out .entry)) (now (out .exit)) ⌝ }
+    ensures { λ r. ⌜ Begins (readBegun (signWith (now (w .entry)) (now (defaults .entry)) (heldOf (now (words .entry)) (now (nulls .entry)) (now (texts .entry)) (now (versions .entry)) (now (edits .entry))) (rowIn (now (row .entry)) t (now (kept .entry)))) g exchange (now (payload .entry))) r (now (row .entry)) (now (row .exit)) (now (kept .exit)) (now (out .entry)) (now (out .exit)) ⌝ }
 {
     let r = read_request(payload);
     let paths = r.paths;
@@ -169,7 +169,7 @@ pub fn begin_write<'a>(
     out: &mut [u8],
 ) -> Standing
     requires { ⌜ (wellFormed (now w) ≡ true) × ((length (now edits) ≡ textSize * textCount (now w)) × ((exchange < exchangeLimit) × (maxMessage ≤ length (now out)))) ⌝ }
-    ensures { λ r. ⌜ ((row : List ℕ) → Wrote (writeBegun (now (w .entry)) g (now (defaults .entry)) (heldOf (now (words .entry)) (now (nulls .entry)) (now (texts .entry)) (now (versions .entry)) (now (edits .entry))) (rowIn row t (now (kept .entry))) exchange (now (payload .entry))) r (heldOf (now (words .exit)) (now (nulls .exit)) (now (texts .exit)) (now (versions .exit)) (now (edits .exit))) row row (now (kept .exit)) (now (out .entry)) (now (out .exit))) ⌝ }
+    ensures { λ r. ⌜ ((row : List ℕ) → Wrote (writeBegun (signWith (now (w .entry)) (now (defaults .entry)) (heldOf (now (words .entry)) (now (nulls .entry)) (now (texts .entry)) (now (versions .entry)) (now (edits .entry))) (rowIn row t (now (kept .entry)))) g exchange (now (payload .entry))) r (heldOf (now (words .exit)) (now (nulls .exit)) (now (texts .exit)) (now (versions .exit)) (now (edits .exit))) row row (now (kept .exit)) (now (out .entry)) (now (out .exit))) ⌝ }
 {
     let r = write_request(payload);
     let entries = r.entries;

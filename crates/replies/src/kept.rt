@@ -6,8 +6,9 @@ ghost use lib.ListN.{length, take, drop};
 ghost use Rattle.octets.specs.Store.{store};
 ghost use Rattle.schema.specs.Check.{wellFormed};
 ghost use Rattle.exchange.specs.Rules.{maxTurn};
-ghost use Rattle.values.specs.Values.{valuesOf};
+ghost use Rattle.writes.specs.Offer.{heldOf};
 ghost use Rattle.replies.specs.Messages.{maxMessage};
+ghost use Rattle.replies.specs.Sign.{signWith};
 ghost use Rattle.replies.specs.Row.{keptAt, nextOf, nextPart, rowRight, rowIn};
 ghost use Rattle.replies.specs.Begin.{Begins};
 use super::MAX_MESSAGE;
@@ -70,7 +71,7 @@ pub fn next_part<'a>(
     out: &mut [u8],
 ) -> Standing
     requires { ⌜ (wellFormed (now w) ≡ true) × ((rowRight (rowIn (now row) t (now kept)) ≡ true) × ((t .progress .turn < maxTurn) × (maxMessage ≤ length (now out)))) ⌝ }
-    ensures { λ r. ⌜ Begins (nextPart (now (w .entry)) (valuesOf (now (words .entry)) (now (nulls .entry)) (now (texts .entry)) (now (versions .entry))) (now (defaults .entry)) (now (edits .entry)) g (rowIn (now (row .entry)) t (now (kept .entry)))) r (now (row .entry)) (now (row .entry)) (now (kept .exit)) (now (out .entry)) (now (out .exit)) ⌝ }
+    ensures { λ r. ⌜ Begins (nextPart (signWith (now (w .entry)) (now (defaults .entry)) (heldOf (now (words .entry)) (now (nulls .entry)) (now (texts .entry)) (now (versions .entry)) (now (edits .entry))) (rowIn (now (row .entry)) t (now (kept .entry)))) g) r (now (row .entry)) (now (row .entry)) (now (kept .exit)) (now (out .entry)) (now (out .exit)) ⌝ }
 {
     let was = t.progress;
     let from = t.place;

@@ -11,7 +11,9 @@ ghost use Rattle.interaction_writer.specs.Envelope.{exchangeLimit};
 ghost use Rattle.writes.specs.Entry.{InWidth};
 ghost use Rattle.replies.specs.Messages.{maxMessage, statusMessage, responseMessage};
 ghost use Rattle.values.specs.Values.{valuesOf};
-ghost use Rattle.replies.specs.Row.{blocksOf, requestIn};
+ghost use Rattle.selection.specs.Request.{filtersIn};
+ghost use Rattle.report.specs.Blocks.{viewOf, blocksFrom};
+ghost use Rattle.replies.specs.Row.{pathsOf, requestIn};
 ghost use Rattle.replies.specs.Sent.{Sent};
 use super::ENVELOPE;
 use acl::Grants;
@@ -77,7 +79,7 @@ pub fn put_part<'a>(
     turn: u16,
 ) -> Filled
     requires { ⌜ (wellFormed (now w) ≡ true) × ((asked ≤ maxPaths) × ((edition < 16) × ((exchange < exchangeLimit) × (maxMessage ≤ length (now out))))) ⌝ }
-    ensures { λ r. ⌜ Sent (now (out .entry)) edition exchange turn from (blocksOf (now (w .entry)) (valuesOf (now (words .entry)) (now (nulls .entry)) (now (texts .entry)) (now (versions .entry))) (now (defaults .entry)) (now (edits .entry)) g (requestIn (now (row .entry)) asked) from) (now (out .exit)) r ⌝ }
+    ensures { λ r. ⌜ Sent (now (out .entry)) edition exchange turn from (blocksFrom (viewOf (now (w .entry)) (valuesOf (now (words .entry)) (now (nulls .entry)) (now (texts .entry)) (now (versions .entry))) (now (defaults .entry)) (now (edits .entry)) g (filtersIn (now (row .entry)))) (pathsOf (requestIn (now (row .entry)) asked)) from) (now (out .exit)) r ⌝ }
 {
     let p = put_envelope(out, 0, edition, REPORT as u8, exchange, turn);
     make_part(

@@ -15,9 +15,9 @@ use Rattle.node.specs.Rules.{SchemaRules}
 use Rattle.node.proofs.RulesLaws.{check-done}
 use Rattle.values.specs.Fresh.{freshValues}
 use Rattle.values.proofs.FreshLaws.{fresh-right, fresh-whole}
+use Rattle.replies.specs.Sign.{Sign}
 use Rattle.replies.specs.Row.{rowRight, standingIn}
 use Rattle.replies.proofs.RowLaws.{right-row}
-use Rattle.server.specs.declared.State.{State}
 use Rattle.server.specs.Start.{freshRow, started}
 use Rattle.server.proofs.SignLaws.{RightSign, right-sign}
 use Rattle.server.proofs.StartLaws.{accepted-schema}
@@ -30,9 +30,16 @@ fresh-row-right =
     (record { exchange = omega arith; turn = omega arith; next = omega arith; closed = omega arith; asked = omega arith; phase = refl; path = omega arith; index = omega arith; sent = refl; len = omega arith })
 
 module _ (w defaults : List ℕ) (h : accepted w defaults ≡ true) where
-  fresh-state : started w defaults .state ≡ record { values = freshValues w; row = freshRow }
+  -- a sign with this page of edits
+  abbrev fresh : List ℕ → Sign
+  fresh edits = record { schema = w; defaults = defaults; state = started w defaults edits .state }
+
+  abbrev made : List ℕ → Sign
+  made edits = record { schema = w; defaults = defaults; state = record { values = freshValues w; edits = edits; row = freshRow } }
+
+  fresh-made : (edits : List ℕ) → fresh edits ≡ made edits
   unfolding started
-  fresh-state = rw h
+  fresh-made edits = rw h
 
   fresh-numbers : numbersRight w ≡ true
   unfolding accepted
@@ -42,13 +49,12 @@ module _ (w defaults : List ℕ) (h : accepted w defaults ≡ true) where
   unfolding checked
   fresh-rules = check-done w defaults .0 (ap (λ (b : Bool). pick b done schemaRefused) h)
 
-  pub fresh-valid : (edits : List ℕ) → length edits ≡ textSize * textCount w → ValidSign w defaults edits (started w defaults .state)
+  pub fresh-valid : (edits : List ℕ) → length edits ≡ textSize * textCount w → ValidSign (fresh edits)
   fresh-valid edits size =
-      let s : State = record { values = freshValues w; row = freshRow } in
-      let r : RightSign w defaults edits s = record {
+      let r : RightSign (made edits) = record {
         schema = accepted-schema w defaults h;
         numbers = fresh-numbers;
         values = fresh-right w defaults fresh-rules edits size;
         row = fresh-row-right;
       } in
-      rw fresh-state (record { whole = fresh-whole w; right = right-sign w defaults edits s r })
+      rw (fresh-made edits) (record { whole = fresh-whole w; right = right-sign (made edits) r })

@@ -12,31 +12,30 @@ use Rattle.envelope.specs.declared.Envelope.the-variants.{Whole}
 use Rattle.envelope.specs.Envelope.{envelopeIn}
 use Rattle.interaction.specs.Status.{responseIn}
 use Rattle.schema.specs.Layout.{subjectWord}
-use Rattle.acl.specs.declared.Grants.{Grants}
 use Rattle.exchange.specs.declared.Progress.{Progress}
 use Rattle.exchange.specs.declared.Step.the-variants.{Next}
 use Rattle.exchange.specs.declared.Action.the-variants.{Status}
 use Rattle.exchange.specs.Rules.{statusOpcode, maxTurn, part, actionOf, onStatus}
 use Rattle.exchange.proofs.ActionLaws.{status-action}
 use Rattle.replies.specs.Messages.{envelopeLength, maxMessage}
+use Rattle.replies.specs.Sign.{Sign, Caller, withRow}
 use Rattle.replies.specs.Row.{keptReply, nextPart}
 use Rattle.replies.proofs.KeptLaws.{next-right, next-some}
 use Rattle.interaction_writer.specs.Envelope.{panelEdition}
-use Rattle.server.specs.declared.State.{State}
 use Rattle.server.specs.State.{signRight}
 use Rattle.server.specs.Receive.{numberFor, replied, stepOf, reacted, received, forServer}
 use Rattle.server.proofs.ReactLaws.{kept-length, next-whole, len-of}
 use Rattle.server.proofs.ReceiveLaws.{served, right-row-of}
 
 -- a success for the newest reply of an exchange that promised more and was not closed
-pub record Success (w : List ℕ) (s : State) (subject : ℕ) (m : List ℕ) (e : Fields) : Type 0 where
+pub record Success (s : Sign) (c : Caller) (m : List ℕ) (e : Fields) : Type 0 where
   pub found : envelopeIn m ≡ Whole e
   pub fits : length m ≤ maxMessage
   pub edition : e .edition ≡ panelEdition
   pub opcode : e .opcode ≡ statusOpcode
-  pub ours : subject ≡ getD w subjectWord 0
-  pub exchange : e .exchange ≡ s .row .progress .last
-  pub turn : e .turn ≡ s .row .progress .turn
+  pub ours : c .subject ≡ getD (s .schema) subjectWord 0
+  pub exchange : e .exchange ≡ s .state .row .progress .last
+  pub turn : e .turn ≡ s .state .row .progress .turn
   pub status : responseIn (drop envelopeLength m) ≡ just 0
 
 pub record Promised (x : Progress) : Type 0 where
@@ -57,16 +56,16 @@ some-number : (l : List ℕ) → envelopeLength ≤ length l → numberFor l ≡
 some-number [] h = absurd (omega arith)
 some-number (x ∷ l) h = refl
 
-module _ (w defaults edits : List ℕ) (s : State) (g : Grants) (subject : ℕ) (m : List ℕ) (room : ℕ) (h : signRight w defaults edits s ≡ true) (enough : maxMessage ≤ room) {e : Fields} (y : Success w s subject m e) (p : Promised (s .row .progress)) where
-  pub promised-part : received w defaults edits s true g subject m room ≡ replied s edits (nextPart w (s .values) defaults edits g (s .row))
+module _ (s : Sign) (c : Caller) (m : List ℕ) (room : ℕ) (h : signRight s ≡ true) (table : c .table ≡ true) (enough : maxMessage ≤ room) {e : Fields} (y : Success s c m e) (p : Promised (s .state .row .progress)) where
+  pub promised-part : received s c m room ≡ replied (withRow (s .state) (nextPart s (c .grants)))
   unfolding reacted
   promised-part =
-      served w defaults edits s true g subject m room h refl enough (y .found) (ap actionOf (y .opcode) ∙ status-action) (y .fits) (for-status (e .edition) (y .edition)) (y .ours)
-      ∙ ap (reacted w defaults g s edits e (drop envelopeLength m) Status) (step-next (s .row .progress) e (drop envelopeLength m) (y .exchange) (y .turn) (y .status) p)
+      served s c m room h table enough (y .found) (ap actionOf (y .opcode) ∙ status-action) (y .fits) (for-status (e .edition) (y .edition)) (y .ours)
+      ∙ ap (reacted s (c .grants) e (drop envelopeLength m) Status) (step-next (s .state .row .progress) e (drop envelopeLength m) (y .exchange) (y .turn) (y .status) p)
 
   -- so it is never silence
-  pub promised-answered : length (s .row .kept) ≡ maxMessage → received w defaults edits s true g subject m room .number ≡ 0
+  pub promised-answered : length (s .state .row .kept) ≡ maxMessage → received s c m room .number ≡ 0
   promised-answered whole =
-      let x = nextPart w (s .values) defaults edits g (s .row) in
+      let x = nextPart s (c .grants) in
       ap (λ r. r .number) promised-part
-      ∙ some-number (keptReply x) (omega (arith, next-some w (s .values) defaults edits g (s .row), kept-length x (next-whole w (s .values) defaults edits g (s .row) ∙ whole) (len-of x (next-right w (s .values) defaults edits g (s .row) (right-row-of w defaults edits s h) (p .left)))))
+      ∙ some-number (keptReply x) (omega (arith, next-some s (c .grants), kept-length x (next-whole s (c .grants) ∙ whole) (len-of x (next-right s (c .grants) (right-row-of s h) (p .left)))))

@@ -17,36 +17,35 @@ use Rattle.schema.specs.Layout.{subjectWord, textSize}
 use Rattle.schema.specs.Check.{wellFormed, textCount}
 use Rattle.schema.proofs.BoolLaws.{left, right, by-test}
 use Rattle.node.specs.Check.{numbersRight}
-use Rattle.acl.specs.declared.Grants.{Grants}
 use Rattle.exchange.specs.declared.Step.{Step}
 use Rattle.values.specs.Valid.{valuesRight}
 use Rattle.values.proofs.ValidLaws.{edits-size}
 use Rattle.replies.specs.Messages.{envelopeLength, maxMessage}
+use Rattle.replies.specs.Sign.{Sign, Caller}
 use Rattle.replies.specs.Row.{rowRight}
 use Rattle.exchange.specs.declared.Action.{Action}
 use Rattle.exchange.specs.Rules.{actionOf}
-use Rattle.server.specs.declared.State.{State}
 use Rattle.server.specs.State.{signRight}
 use Rattle.server.specs.Receive.{refusal, silence, stepOf, reacted, inEnvelope, received, forServer, byAction}
 
 -- what a valid sign has
-module _ (w defaults edits : List ℕ) (s : State) (h : signRight w defaults edits s ≡ true) where
-  pub right-schema : wellFormed w ≡ true
+module _ (s : Sign) (h : signRight s ≡ true) where
+  pub right-schema : wellFormed (s .schema) ≡ true
   unfolding signRight
   right-schema = left _ _ h
 
-  rest : (valuesRight w defaults edits (s .values) && rowRight (s .row)) ≡ true
+  rest : (valuesRight (s .schema) (s .defaults) (s .state .edits) (s .state .values) && rowRight (s .state .row)) ≡ true
   unfolding signRight
-  rest = right (numbersRight w) _ (right (wellFormed w) _ h)
+  rest = right (numbersRight (s .schema)) _ (right (wellFormed (s .schema)) _ h)
 
-  pub right-values : valuesRight w defaults edits (s .values) ≡ true
+  pub right-values : valuesRight (s .schema) (s .defaults) (s .state .edits) (s .state .values) ≡ true
   right-values = left _ _ rest
 
-  pub right-row-of : rowRight (s .row) ≡ true
-  right-row-of = right (valuesRight w defaults edits (s .values)) _ rest
+  pub right-row-of : rowRight (s .state .row) ≡ true
+  right-row-of = right (valuesRight (s .schema) (s .defaults) (s .state .edits) (s .state .values)) _ rest
 
-  pub right-size : length edits ≡ textSize * textCount w
-  right-size = edits-size w defaults edits (s .values) right-values
+  pub right-size : length (s .state .edits) ≡ textSize * textCount (s .schema)
+  right-size = edits-size (s .schema) (s .defaults) (s .state .edits) (s .state .values) right-values
 
 -- an envelope's exchange has 40 bits
 pub exchange-below : (m : List ℕ) {e : Fields} → envelopeIn m ≡ Whole e → e .exchange < exchangeLimit
@@ -62,52 +61,52 @@ pub long-enough : (m : List ℕ) {e : Fields} → envelopeIn m ≡ Whole e → e
 unfolding envelopeIn
 long-enough m {e} h = by-test (ltb (length m) envelopeLength) (λ t. let q : Short ≡ Whole e = rw t at h in let z : _≡_ {A = ℕ} 0 1 = cc in absurd (omega arith)) (λ f. ltb-false _ _ f)
 
-module _ (w defaults edits : List ℕ) (s : State) (table : Bool) (g : Grants) (subject : ℕ) (m : List ℕ) (room : ℕ) where
-  pub broken : signRight w defaults edits s ≡ false → received w defaults edits s table g subject m room ≡ refusal 2 s edits
+module _ (s : Sign) (c : Caller) (m : List ℕ) (room : ℕ) where
+  pub broken : signRight s ≡ false → received s c m room ≡ refusal 2 (s .state)
   unfolding received
   broken h = rw h refl
 
-  pub bad-table : signRight w defaults edits s ≡ true → table ≡ false → received w defaults edits s table g subject m room ≡ refusal 2 s edits
+  pub bad-table : signRight s ≡ true → c .table ≡ false → received s c m room ≡ refusal 2 (s .state)
   unfolding received
   bad-table h t = rw (h, t) refl
 
-  module _ (h : signRight w defaults edits s ≡ true) (t : table ≡ true) where
-    pub small : room < maxMessage → received w defaults edits s table g subject m room ≡ refusal 3 s edits
+  module _ (h : signRight s ≡ true) (t : c .table ≡ true) where
+    pub small : room < maxMessage → received s c m room ≡ refusal 3 (s .state)
     unfolding received
     small l = rw (h, t, lt-ltb room maxMessage l) refl
 
     module _ (l : maxMessage ≤ room) where
-      opened : received w defaults edits s table g subject m room ≡ inEnvelope w defaults g s edits subject m (envelopeIn m)
+      opened : received s c m room ≡ inEnvelope s c m (envelopeIn m)
       unfolding received
       opened = rw (h, t, le-ltb room maxMessage l) refl
 
-      pub short : envelopeIn m ≡ Short → received w defaults edits s table g subject m room ≡ refusal 4 s edits
-      short e = opened ∙ ap (inEnvelope w defaults g s edits subject m) e
+      pub short : envelopeIn m ≡ Short → received s c m room ≡ refusal 4 (s .state)
+      short e = opened ∙ ap (inEnvelope s c m) e
 
       module _ {e : Fields} (q : envelopeIn m ≡ Whole e) {action : Action} (d : actionOf (e .opcode) ≡ action) where
-        whole : received w defaults edits s table g subject m room ≡ byAction w defaults g s edits subject m e action
-        whole = opened ∙ ap (inEnvelope w defaults g s edits subject m) q ∙ ap (byAction w defaults g s edits subject m e) d
+        whole : received s c m room ≡ byAction s c m e action
+        whole = opened ∙ ap (inEnvelope s c m) q ∙ ap (byAction s c m e) d
 
-        pub too-long : maxMessage < length m → received w defaults edits s table g subject m room ≡ refusal 4 s edits
+        pub too-long : maxMessage < length m → received s c m room ≡ refusal 4 (s .state)
         too-long k = whole ∙ rw (lt-leb (length m) maxMessage k) refl
 
         module _ (k : length m ≤ maxMessage) where
-          pub not-for-server : forServer (e .edition) action ≡ false → received w defaults edits s table g subject m room ≡ refusal 4 s edits
+          pub not-for-server : forServer (e .edition) action ≡ false → received s c m room ≡ refusal 4 (s .state)
           not-for-server o = whole ∙ rw (le-leb (length m) maxMessage k, o) refl
 
           module _ (o : forServer (e .edition) action ≡ true) where
-            pub other-subject : (subject ≡ getD w subjectWord 0 → ⊥) → received w defaults edits s table g subject m room ≡ silence s edits
-            other-subject u = whole ∙ rw (le-leb (length m) maxMessage k, o, ne-eqb subject (getD w subjectWord 0) u) refl
+            pub other-subject : (c .subject ≡ getD (s .schema) subjectWord 0 → ⊥) → received s c m room ≡ silence (s .state)
+            other-subject u = whole ∙ rw (le-leb (length m) maxMessage k, o, ne-eqb (c .subject) (getD (s .schema) subjectWord 0) u) refl
 
-            pub served : subject ≡ getD w subjectWord 0 → received w defaults edits s table g subject m room ≡ reacted w defaults g s edits e (drop envelopeLength m) action (stepOf (s .row .progress) action e (drop envelopeLength m))
-            served u = whole ∙ rw (le-leb (length m) maxMessage k, o, eq-eqb subject (getD w subjectWord 0) u) refl
+            pub served : c .subject ≡ getD (s .schema) subjectWord 0 → received s c m room ≡ reacted s (c .grants) e (drop envelopeLength m) action (stepOf (s .state .row .progress) action e (drop envelopeLength m))
+            served u = whole ∙ rw (le-leb (length m) maxMessage k, o, eq-eqb (c .subject) (getD (s .schema) subjectWord 0) u) refl
 
             -- the payload and the step as the code has them
-            pub served-as : subject ≡ getD w subjectWord 0 → {p : List ℕ} {k : Step} → p ≡ drop envelopeLength m → k ≡ stepOf (s .row .progress) action e p → received w defaults edits s table g subject m room ≡ reacted w defaults g s edits e p action k
+            pub served-as : c .subject ≡ getD (s .schema) subjectWord 0 → {p : List ℕ} {k : Step} → p ≡ drop envelopeLength m → k ≡ stepOf (s .state .row .progress) action e p → received s c m room ≡ reacted s (c .grants) e p action k
             served-as u {p} {k} a b =
                 served u
-                ∙ ap (λ (l : List ℕ). reacted w defaults g s edits e l action (stepOf (s .row .progress) action e l)) (sym a)
-                ∙ ap (reacted w defaults g s edits e p action) (sym b)
+                ∙ ap (λ (l : List ℕ). reacted s (c .grants) e l action (stepOf (s .state .row .progress) action e l)) (sym a)
+                ∙ ap (reacted s (c .grants) e p action) (sym b)
 
 -- what follows the envelope
 pub payload-of : (m : List ℕ) → take (length m - envelopeLength) (drop envelopeLength m) ≡ drop envelopeLength m

@@ -1,6 +1,6 @@
 -- What receiving answers, over all its cases: no 2 from a valid sign, refusals touch nothing, silence has no reply.
 use mathlib.Core.Path.{_≡_, refl, sym, _∙_}
-use mathlib.Core.Bool.{Bool, true, false, _&&_, true≢false}
+use mathlib.Core.Bool.{true, false, _&&_, true≢false}
 use mathlib.Core.List.{List, [], _∷_}
 use Prim.Native.Nat.{ℕ, _<_}
 use native.Mathlib.Omega.{arith}
@@ -15,19 +15,18 @@ use Rattle.envelope.specs.Envelope.{fieldsOf, envelopeIn}
 use Rattle.interaction_writer.specs.Envelope.{bigNumber, exchangeLimit}
 use Rattle.schema.specs.Layout.{subjectWord}
 use Rattle.schema.proofs.BoolLaws.{both}
-use Rattle.acl.specs.declared.Grants.{Grants}
 use Rattle.exchange.specs.declared.Step.{Step}
 use Rattle.exchange.specs.declared.Step.the-variants.{Silence, Begin, Repeat, Next, Close}
 use Rattle.exchange.specs.Rules.{maxTurn, actionOf}
 use Rattle.replies.specs.Messages.{envelopeLength, maxMessage}
+use Rattle.replies.specs.Sign.{State, Sign, Caller, Reaction}
 use Rattle.replies.specs.Row.{keptReply, nextPart}
 use Rattle.replies.specs.Begin.{readBegun, writeBegun}
 use Rattle.exchange.specs.declared.Action.{Action}
 use Rattle.exchange.specs.declared.Action.the-variants.{Status, Read, Write, Other}
 use Rattle.server.proofs.StepLaws.{next-turn}
-use Rattle.server.specs.declared.State.{State}
 use Rattle.server.specs.State.{signRight}
-use Rattle.server.specs.Receive.{Reaction, refusal, numberFor, answering, silence, stepOf, reacted, inEnvelope, received, forServer}
+use Rattle.server.specs.Receive.{refusal, numberFor, answering, silence, stepOf, reacted, inEnvelope, received, forServer}
 
 -- ---- an envelope's exchange has 40 bits
 
@@ -45,49 +44,46 @@ envelope-below m = pick-elim Below (ltb (length m) envelopeLength) envelope.Shor
 
 -- ---- a property of what is answered: of the refusals, of silence, and of every reaction
 
-module _ (P : Reaction → Type 0) (w defaults edits : List ℕ) (s : State) (g : Grants) where
-  module _ (no-message : P (refusal 4 s edits)) (silent : P (silence s edits)) (each : (e : Fields) → e .exchange < exchangeLimit → (payload : List ℕ) (action : Action) (step : Step) → (step ≡ Next → s .row .progress .turn < maxTurn) → P (reacted w defaults g s edits e payload action step)) where
-    enveloped : (subject : ℕ) (m : List ℕ) (x : Envelope) → Below x → P (inEnvelope w defaults g s edits subject m x)
-    enveloped subject m envelope.Short b = no-message
-    enveloped subject m (envelope.Whole e) b =
+module _ (P : Reaction → Type 0) (s : Sign) (c : Caller) where
+  module _ (no-message : P (refusal 4 (s .state))) (silent : P (silence (s .state))) (each : (e : Fields) → e .exchange < exchangeLimit → (payload : List ℕ) (action : Action) (step : Step) → (step ≡ Next → s .state .row .progress .turn < maxTurn) → P (reacted s (c .grants) e payload action step)) where
+    enveloped : (m : List ℕ) (x : Envelope) → Below x → P (inEnvelope s c m x)
+    enveloped m envelope.Short b = no-message
+    enveloped m (envelope.Whole e) b =
         let payload = drop envelopeLength m in
         let action = actionOf (e .opcode) in
-        let r = reacted w defaults g s edits e payload action (stepOf (s .row .progress) action e payload) in
-        pick-elim P (leb (length m) maxMessage && forServer (e .edition) action) (pick (eqb subject (getD w subjectWord 0)) r (silence s edits)) (refusal 4 s edits)
-        (λ _. pick-elim P (eqb subject (getD w subjectWord 0)) r (silence s edits) (λ _. each e b payload action (stepOf (s .row .progress) action e payload) (λ z. next-turn (s .row .progress) action e payload z)) (λ _. silent))
+        let r = reacted s (c .grants) e payload action (stepOf (s .state .row .progress) action e payload) in
+        pick-elim P (leb (length m) maxMessage && forServer (e .edition) action) (pick (eqb (c .subject) (getD (s .schema) subjectWord 0)) r (silence (s .state))) (refusal 4 (s .state))
+        (λ _. pick-elim P (eqb (c .subject) (getD (s .schema) subjectWord 0)) r (silence (s .state)) (λ _. each e b payload action (stepOf (s .state .row .progress) action e payload) (λ z. next-turn (s .state .row .progress) action e payload z)) (λ _. silent))
         (λ _. no-message)
 
-    pub received-holds : (table : Bool) (subject : ℕ) (m : List ℕ) (room : ℕ) → ((signRight w defaults edits s && table) ≡ false → P (refusal 2 s edits)) → P (refusal 3 s edits) → P (received w defaults edits s table g subject m room)
+    pub received-holds : (m : List ℕ) (room : ℕ) → ((signRight s && c .table) ≡ false → P (refusal 2 (s .state))) → P (refusal 3 (s .state)) → P (received s c m room)
     unfolding received
-    received-holds table subject m room broken small =
-        let x = inEnvelope w defaults g s edits subject m (envelopeIn m) in
-        pick-elim P (signRight w defaults edits s && table) (pick (ltb room maxMessage) (refusal 3 s edits) x) (refusal 2 s edits)
-        (λ _. pick-elim P (ltb room maxMessage) (refusal 3 s edits) x (λ _. small) (λ _. enveloped subject m (envelopeIn m) (envelope-below m)))
+    received-holds m room broken small =
+        let x = inEnvelope s c m (envelopeIn m) in
+        pick-elim P (signRight s && c .table) (pick (ltb room maxMessage) (refusal 3 (s .state)) x) (refusal 2 (s .state))
+        (λ _. pick-elim P (ltb room maxMessage) (refusal 3 (s .state)) x (λ _. small) (λ _. enveloped m (envelopeIn m) (envelope-below m)))
         broken
 
   -- every reaction answers with a reply or with silence
-  reacted-holds : ((t : State) (page reply : List ℕ) → P (answering t page reply)) → (e : Fields) (payload : List ℕ) (action : Action) (step : Step) → P (reacted w defaults g s edits e payload action step)
+  reacted-holds : ((u : State) (reply : List ℕ) → P (answering u reply)) → (e : Fields) (payload : List ℕ) (action : Action) (step : Step) → P (reacted s (c .grants) e payload action step)
   unfolding reacted
-  reacted-holds f e payload action Silence = f s edits []
-  reacted-holds f e payload Read Begin = f _ edits (keptReply (readBegun w (s .values) defaults edits g (s .row) (e .exchange) payload))
-  reacted-holds f e payload Write Begin =
-      let l = writeBegun w g defaults (record { values = s .values; edits = edits }) (s .row) (e .exchange) payload in
-      f _ (l .held .edits) (keptReply (l .row))
-  reacted-holds f e payload Status Begin = f s edits []
-  reacted-holds f e payload Other Begin = f s edits []
-  reacted-holds f e payload action Repeat = f s edits (keptReply (s .row))
-  reacted-holds f e payload action Next = f _ edits (keptReply (nextPart w (s .values) defaults edits g (s .row)))
-  reacted-holds f e payload action Close = f _ edits []
+  reacted-holds f e payload action Silence = f (s .state) []
+  reacted-holds f e payload Read Begin = f _ (keptReply (readBegun s (c .grants) (e .exchange) payload))
+  reacted-holds f e payload Write Begin = f _ (keptReply (writeBegun s (c .grants) (e .exchange) payload .row))
+  reacted-holds f e payload Status Begin = f (s .state) []
+  reacted-holds f e payload Other Begin = f (s .state) []
+  reacted-holds f e payload action Repeat = f (s .state) (keptReply (s .state .row))
+  reacted-holds f e payload action Next = f _ (keptReply (nextPart s (c .grants)))
+  reacted-holds f e payload action Close = f _ []
 
-  answers-hold : ((t : State) (page reply : List ℕ) → P (answering t page reply)) → P (refusal 4 s edits) → (table : Bool) (subject : ℕ) (m : List ℕ) (room : ℕ) → ((signRight w defaults edits s && table) ≡ false → P (refusal 2 s edits)) → P (refusal 3 s edits) → P (received w defaults edits s table g subject m room)
-  answers-hold f no-message = received-holds no-message (f s edits []) (λ e b payload action step t. reacted-holds f e payload action step)
+  answers-hold : ((u : State) (reply : List ℕ) → P (answering u reply)) → P (refusal 4 (s .state)) → (m : List ℕ) (room : ℕ) → ((signRight s && c .table) ≡ false → P (refusal 2 (s .state))) → P (refusal 3 (s .state)) → P (received s c m room)
+  answers-hold f no-message = received-holds no-message (f (s .state) []) (λ e b payload action step t. reacted-holds f e payload action step)
 
 -- ---- the laws
 
 -- nothing moved, and no reply was written
-pub record Untouched (s : State) (edits : List ℕ) (x : Reaction) : Type 0 where
-  pub state : x .state ≡ s
-  pub page : x .edits ≡ edits
+pub record Untouched (u : State) (x : Reaction) : Type 0 where
+  pub state : x .state ≡ u
   pub reply : x .reply ≡ []
 
 reply-number : (reply : List ℕ) → numberFor reply < 2
@@ -98,23 +94,23 @@ no-reply : (reply : List ℕ) → numberFor reply ≡ 1 → reply ≡ []
 no-reply [] h = refl
 no-reply (x ∷ l) h = absurd (omega arith)
 
-module _ (w defaults edits : List ℕ) (s : State) (table : Bool) (g : Grants) (subject : ℕ) (m : List ℕ) (room : ℕ) where
+module _ (s : Sign) (c : Caller) (m : List ℕ) (room : ℕ) where
   -- NEVER 2 from a right sign whose access table is right
-  pub never-2 : signRight w defaults edits s ≡ true → table ≡ true → received w defaults edits s table g subject m room .number ≡ 2 → ⊥
+  pub never-2 : signRight s ≡ true → c .table ≡ true → received s c m room .number ≡ 2 → ⊥
   never-2 h t =
-      answers-hold (λ (x : Reaction). x .number ≡ 2 → ⊥) w defaults edits s g
-      (λ _ _ reply q. let l : numberFor reply < 2 = reply-number reply in omega (arith, l, q)) (λ q. omega (arith, q)) table subject m room
+      answers-hold (λ (x : Reaction). x .number ≡ 2 → ⊥) s c
+      (λ _ reply q. let l : numberFor reply < 2 = reply-number reply in omega (arith, l, q)) (λ q. omega (arith, q)) m room
       (λ f _. absurd (true≢false (sym (both _ _ h t) ∙ f))) (λ q. omega (arith, q))
 
   -- REFUSALS 2, 3 and 4 touch nothing
-  pub refused-untouched : 1 < received w defaults edits s table g subject m room .number → Untouched s edits (received w defaults edits s table g subject m room)
+  pub refused-untouched : 1 < received s c m room .number → Untouched (s .state) (received s c m room)
   refused-untouched =
-      let still : (n : ℕ) → 1 < n → Untouched s edits (refusal n s edits) = λ n _. record { state = refl; page = refl; reply = refl } in
-      answers-hold (λ (x : Reaction). 1 < x .number → Untouched s edits x) w defaults edits s g
-      (λ _ _ reply q. let l : numberFor reply < 2 = reply-number reply in absurd (omega (arith, l, q))) (still 4) table subject m room (λ _. still 2) (still 3)
+      let still : (n : ℕ) → 1 < n → Untouched (s .state) (refusal n (s .state)) = λ n _. record { state = refl; reply = refl } in
+      answers-hold (λ (x : Reaction). 1 < x .number → Untouched (s .state) x) s c
+      (λ _ reply q. let l : numberFor reply < 2 = reply-number reply in absurd (omega (arith, l, q))) (still 4) m room (λ _. still 2) (still 3)
 
   -- SILENCE has no reply: the buffer is as it was
-  pub silence-untouched : received w defaults edits s table g subject m room .number ≡ 1 → received w defaults edits s table g subject m room .reply ≡ []
+  pub silence-untouched : received s c m room .number ≡ 1 → received s c m room .reply ≡ []
   silence-untouched =
-      answers-hold (λ (x : Reaction). x .number ≡ 1 → x .reply ≡ []) w defaults edits s g (λ _ _. no-reply) (λ _. refl) table subject m room
+      answers-hold (λ (x : Reaction). x .number ≡ 1 → x .reply ≡ []) s c (λ _. no-reply) (λ _. refl) m room
       (λ _ _. refl) (λ _. refl)

@@ -12,9 +12,10 @@ use Rattle.node.specs.Check.{accepted, done, schemaRefused, checked}
 use Rattle.values.specs.declared.Values.{Values}
 use Rattle.values.specs.Fresh.{freshValues}
 use Rattle.writes.specs.Offer.{Outcome, changed}
-use Rattle.server.specs.declared.State.{State}
+use Rattle.replies.specs.Sign.{Sign, Reaction, heldBy}
 use Rattle.server.specs.State.{signRight}
-use Rattle.server.specs.Start.{freshWords, freshKept, started, Starts, Altered, altered, alteredBy, Alters}
+use Rattle.server.specs.Start.{freshWords, freshKept, started, Starts, altered, alteredBy, Alters}
+use Rattle.server.specs.Receive.{refusal}
 
 -- ---- a fresh sign
 
@@ -38,41 +39,41 @@ module _ (w defaults : List ℕ) where
     is-refused f = by-test (accepted w defaults) (λ t. absurd (f (e ∙ ap (λ (b : Bool). pick b done schemaRefused) t))) (λ t. t)
 
   -- and what it leaves
-  module _ {v : Values} {row kept : List ℕ} where
-    pub none-started : accepted w defaults ≡ false → Starts (started w defaults) 11 v v row row kept kept
+  module _ (edits : List ℕ) {v : Values} {row kept : List ℕ} where
+    pub none-started : accepted w defaults ≡ false → Starts (started w defaults edits) 11 v v row row kept kept
     unfolding started
     none-started h = rw h (record { code = refl; held = refl; words = refl; bytes = refl })
 
-    pub is-started : accepted w defaults ≡ true → {new : Values} {newRow newKept : List ℕ} → new ≡ freshValues w → newRow ≡ freshWords → newKept ≡ freshKept → Starts (started w defaults) 0 v new row newRow kept newKept
+    pub is-started : accepted w defaults ≡ true → {new : Values} {newRow newKept : List ℕ} → new ≡ freshValues w → newRow ≡ freshWords → newKept ≡ freshKept → Starts (started w defaults edits) 0 v new row newRow kept newKept
     unfolding started
     is-started h e p q = rw h (record { code = refl; held = e; words = p; bytes = q })
 
 -- ---- a local change
 
-module _ (w defaults edits : List ℕ) (s : State) (e c a : ℕ) (src : List ℕ) (new : Value) where
+module _ (s : Sign) (e c a : ℕ) (src : List ℕ) (new : Value) where
   -- the change of what is held
   abbrev made : Outcome
-  made = changed w defaults (record { values = s .values; edits = edits }) e c a src new
+  made = changed (s .schema) (s .defaults) (heldBy (s .state)) e c a src new
 
-  pub altered-right : signRight w defaults edits s ≡ true → alteredBy w defaults edits s e c a src new ≡ altered s made
+  pub altered-right : signRight s ≡ true → alteredBy s e c a src new ≡ altered (s .state) made
   unfolding alteredBy
   altered-right h = rw h
 
-  altered-broken : signRight w defaults edits s ≡ false → alteredBy w defaults edits s e c a src new ≡ record { number = 2; state = s; edits = edits }
+  altered-broken : signRight s ≡ false → alteredBy s e c a src new ≡ refusal 2 (s .state)
   unfolding alteredBy
   altered-broken h = rw h
 
   -- a broken sign: 2, and nothing moves
-  pub broken-alters : signRight w defaults edits s ≡ false → Alters (alteredBy w defaults edits s e c a src new) 2 (record { values = s .values; edits = edits })
+  pub broken-alters : signRight s ≡ false → Alters (alteredBy s e c a src new) 2 (heldBy (s .state))
   broken-alters h =
       let q = sym (altered-broken h) in
-      record { code = ap (λ (x : Altered). x .number) q; held = λ j. record { values = q j .state .values; edits = q j .edits } }
+      record { code = ap (λ (x : Reaction). x .number) q; held = ap (λ (x : Reaction). heldBy (x .state)) q }
 
   -- a right one
-  pub right-alters : signRight w defaults edits s ≡ true → {o : Outcome} → o ≡ made → Alters (alteredBy w defaults edits s e c a src new) (o .code) (o .held)
+  pub right-alters : signRight s ≡ true → {o : Outcome} → o ≡ made → Alters (alteredBy s e c a src new) (o .code) (o .held)
   right-alters h {o} p =
       let q = sym (altered-right h) in
       record {
-        code = ap (λ (x : Outcome). x .code) p ∙ ap (λ (x : Altered). x .number) q;
-        held = ap (λ (x : Outcome). x .held) p ∙ (λ j. record { values = q j .state .values; edits = q j .edits });
+        code = ap (λ (x : Outcome). x .code) p ∙ ap (λ (x : Reaction). x .number) q;
+        held = ap (λ (x : Outcome). x .held) p ∙ ap (λ (x : Reaction). heldBy (x .state)) q;
       }

@@ -1,6 +1,6 @@
 -- An access table that breaks the rules: whatever else is wrong or right, the answer is 2 and nothing is touched.
 use mathlib.Core.Path.{_≡_, refl, sym, _∙_}
-use mathlib.Core.Bool.{Bool, true, false, and-false, false≢true}
+use mathlib.Core.Bool.{true, false, and-false, false≢true}
 use mathlib.Core.List.{List, List·Memᴰ}
 use Prim.Native.Nat.{ℕ, _<_}
 use native.Mathlib.Omega.{arith}
@@ -10,30 +10,30 @@ use Rattle.bounds.specs.Bounds.{entryLimit}
 use Rattle.schema.specs.Layout.{administer}
 use Rattle.schema.proofs.BoolLaws.{by-test, both}
 use Rattle.acl.specs.declared.Entry.{Entry}
-use Rattle.acl.specs.declared.Grants.{Grants}
 use Rattle.acl.specs.Access.{view, privilegeOk, tableOk}
 use Rattle.acl.specs.Table.{tableRight}
 use Rattle.acl.proofs.RuleLaws.{table-exactly}
-use Rattle.server.specs.declared.State.{State}
+use Rattle.replies.specs.Sign.{Sign, Caller}
 use Rattle.server.specs.State.{signRight}
 use Rattle.server.specs.Receive.{refusal, received}
 
-module _ (w defaults edits : List ℕ) (s : State) (g : Grants) (subject : ℕ) (m : List ℕ) (room : ℕ) where
-  broken-table : (table : Bool) → table ≡ false → received w defaults edits s table g subject m room ≡ refusal 2 s edits
+module _ (s : Sign) (c : Caller) (m : List ℕ) (room : ℕ) where
+  broken-table : c .table ≡ false → received s c m room ≡ refusal 2 (s .state)
   unfolding received
-  broken-table table f = rw (f, and-false (signRight w defaults edits s)) refl
+  broken-table f = rw (f, and-false (signRight s)) refl
 
   -- more than 16 entries
-  pub too-many : (es : List Entry) → entryLimit < length es → received w defaults edits s (tableOk es) g subject m room ≡ refusal 2 s edits
-  too-many es l =
-      broken-table (tableOk es) (by-test (tableOk es) (λ h. absurd (omega (arith, table-exactly es .0 h .0))) (λ h. h))
+  pub too-many : (es : List Entry) → c .table ≡ tableOk es → entryLimit < length es → received s c m room ≡ refusal 2 (s .state)
+  too-many es t l =
+      broken-table (t ∙ by-test (tableOk es) (λ h. absurd (omega (arith, table-exactly es .0 h .0))) (λ h. h))
 
   -- an entry whose privilege there is none of: 0, or above Administer
-  pub no-privilege : (es : List Entry) (e : Entry) → List·Memᴰ e es → privilegeOk (e .privilege) ≡ false → received w defaults edits s (tableOk es) g subject m room ≡ refusal 2 s edits
+  pub no-privilege : (es : List Entry) (e : Entry) → c .table ≡ tableOk es → List·Memᴰ e es → privilegeOk (e .privilege) ≡ false → received s c m room ≡ refusal 2 (s .state)
   unfolding privilegeOk
-  no-privilege es e i f =
-      broken-table (tableOk es)
-      (by-test (tableOk es)
+  no-privilege es e t i f =
+      broken-table
+      (t
+      ∙ by-test (tableOk es)
       (λ h.
       let l = table-exactly es .0 h .1 e i in
       let p : privilegeOk (e .privilege) ≡ true = both _ _ (le-leb view (e .privilege) (l .0)) (le-leb (e .privilege) administer (l .1)) in
@@ -41,6 +41,6 @@ module _ (w defaults edits : List ℕ) (s : State) (g : Grants) (subject : ℕ) 
       (λ h. h))
 
   -- a count above 16, whatever the entries are
-  pub count-above : (n : ℕ) (es : List Entry) → entryLimit < n → received w defaults edits s (tableRight n es) g subject m room ≡ refusal 2 s edits
+  pub count-above : (n : ℕ) (es : List Entry) → c .table ≡ tableRight n es → entryLimit < n → received s c m room ≡ refusal 2 (s .state)
   unfolding tableRight
-  count-above n es l = let q : tableRight n es ≡ false = rw (lt-leb n entryLimit l) in broken-table (tableRight n es) q
+  count-above n es t l = let q : tableRight n es ≡ false = rw (lt-leb n entryLimit l) in broken-table (t ∙ q)

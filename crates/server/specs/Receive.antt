@@ -25,41 +25,31 @@ use Rattle.exchange.specs.declared.Step.the-variants.{Silence, Begin, Repeat, N
 use Rattle.exchange.specs.Rules.{actionOf, beginning, serverTakes, onRequest, onStatus}
 use Rattle.writes.specs.Offer.{Held}
 use Rattle.replies.specs.declared.Row.{Row}
+use Rattle.replies.specs.Sign.{State, Sign, Caller, Reaction, heldBy, withRow}
 use Rattle.replies.specs.Messages.{envelopeLength, maxMessage}
 use Rattle.replies.specs.Row.{keptReply, nextPart, putRow}
-use Rattle.replies.specs.Begin.{Left, readBegun, writeBegun}
-use Rattle.server.specs.declared.State.{State}
+use Rattle.replies.specs.Begin.{readBegun, writeBegun}
 use Rattle.server.specs.declared.Outcome.{Outcome}
 use Rattle.server.specs.State.{signRight}
 
--- what a call answers and leaves: document 01's number, the state, the page of edits, and the reply, which may be none
-pub record Reaction : Type 0 where
-  pub number : ℕ
-  pub state : State
-  pub edits : List ℕ
-  pub reply : List ℕ
-
 -- a refusal leaves everything as it was
-abbrev pub refusal : ℕ → State → List ℕ → Reaction
-refusal n s edits = record { number = n; state = s; edits = edits; reply = [] }
+abbrev pub refusal : ℕ → State → Reaction
+refusal n u = record { number = n; state = u; reply = [] }
 
 -- 0 and a reply, or 1 and silence
 abbrev pub numberFor : List ℕ → ℕ
 numberFor [] = 1
 numberFor (x ∷ l) = 0
 
-abbrev pub answering : State → List ℕ → List ℕ → Reaction
-answering s edits reply = record { number = numberFor reply; state = s; edits = edits; reply = reply }
+abbrev pub answering : State → List ℕ → Reaction
+answering u reply = record { number = numberFor reply; state = u; reply = reply }
 
-abbrev pub silence : State → List ℕ → Reaction
-silence s edits = answering s edits []
+abbrev pub silence : State → Reaction
+silence u = answering u []
 
--- with another row
-abbrev pub withRow : State → Row → State
-withRow s x = record { values = s .values; row = x }
-
-abbrev pub replied : State → List ℕ → Row → Reaction
-replied s edits x = answering (withRow s x) edits (keptReply x)
+-- with the reply that its row keeps
+abbrev pub replied : State → Reaction
+replied u = answering u (keptReply (u .row))
 
 abbrev pub closing : Row → Row
 closing x =
@@ -71,9 +61,6 @@ closing x =
       len = x .len;
     }
 
-abbrev pub wrote : Left → Reaction
-wrote l = answering (record { values = l .held .values; row = l .row }) (l .held .edits) (keptReply (l .row))
-
 -- what a message means for the exchange; "a malformed status included: silence"
 abbrev pub byStatus : Progress → Fields → Opt ℕ → Step
 byStatus x e nothing = Silence
@@ -82,45 +69,43 @@ byStatus x e (just code) = onStatus x (e .exchange) (e .turn) code
 unfoldable pub stepOf : Progress → Action → Fields → List ℕ → Step
 stepOf x action e payload = pick (beginning action) (onRequest x (e .exchange) (e .turn)) (byStatus x e (responseIn payload))
 
-module _ (w defaults : List ℕ) (g : Grants) (s : State) (edits : List ℕ) (e : Fields) (payload : List ℕ) where
+module _ (s : Sign) (g : Grants) (e : Fields) (payload : List ℕ) where
   -- a request that begins an exchange; a status, or what is not for a server, begins none
   abbrev pub begun : Action → Reaction
-  begun Read = replied s edits (readBegun w (s .values) defaults edits g (s .row) (e .exchange) payload)
-  begun Write = wrote (writeBegun w g defaults (record { values = s .values; edits = edits }) (s .row) (e .exchange) payload)
-  begun Status = silence s edits
-  begun Other = silence s edits
+  begun Read = replied (withRow (s .state) (readBegun s g (e .exchange) payload))
+  begun Write = replied (writeBegun s g (e .exchange) payload)
+  begun Status = silence (s .state)
+  begun Other = silence (s .state)
 
   unfoldable pub reacted : Action → Step → Reaction
-  reacted action Silence = silence s edits
+  reacted action Silence = silence (s .state)
   reacted action Begin = begun action
-  reacted action Repeat = answering s edits (keptReply (s .row))
-  reacted action Next = replied s edits (nextPart w (s .values) defaults edits g (s .row))
-  reacted action Close = silence (withRow s (closing (s .row))) edits
+  reacted action Repeat = replied (s .state)
+  reacted action Next = replied (withRow (s .state) (nextPart s g))
+  reacted action Close = silence (withRow (s .state) (closing (s .state .row)))
 
 -- refusal 4, "edition not 0, opcode not for this end"
 unfoldable pub forServer : ℕ → Action → Bool
 forServer edition action = eqb edition panelEdition && serverTakes action
 
 -- 4: "message .. over 1,032 bytes, edition not 0, opcode not for this end"; then another subject's silence
-abbrev pub byAction : List ℕ → List ℕ → Grants → State → List ℕ → ℕ → List ℕ → Fields → Action → Reaction
-byAction w defaults g s edits subject m e action =
+abbrev pub byAction : Sign → Caller → List ℕ → Fields → Action → Reaction
+byAction s c m e action =
     pick (leb (length m) maxMessage && forServer (e .edition) action)
-    (pick (eqb subject (getD w subjectWord 0))
-    (reacted w defaults g s edits e (drop envelopeLength m) action (stepOf (s .row .progress) action e (drop envelopeLength m)))
-    (silence s edits))
-    (refusal 4 s edits)
+    (pick (eqb (c .subject) (getD (s .schema) subjectWord 0))
+    (reacted s (c .grants) e (drop envelopeLength m) action (stepOf (s .state .row .progress) action e (drop envelopeLength m)))
+    (silence (s .state)))
+    (refusal 4 (s .state))
 
 -- 4: "message under 8 .. bytes"; else by the action that its opcode stands for
-abbrev pub inEnvelope : List ℕ → List ℕ → Grants → State → List ℕ → ℕ → List ℕ → Envelope → Reaction
-inEnvelope w defaults g s edits subject m Short = refusal 4 s edits
-inEnvelope w defaults g s edits subject m (Whole e) = byAction w defaults g s edits subject m e (actionOf (e .opcode))
+abbrev pub inEnvelope : Sign → Caller → List ℕ → Envelope → Reaction
+inEnvelope s c m Short = refusal 4 (s .state)
+inEnvelope s c m (Whole e) = byAction s c m e (actionOf (e .opcode))
 
--- RECEIVING a message: 2, 3, 4, then the rules; `table` says whether the access table keeps the rules, `room` is the buffer's length
-unfoldable pub received : List ℕ → List ℕ → List ℕ → State → Bool → Grants → ℕ → List ℕ → ℕ → Reaction
-received w defaults edits s table g subject m room =
-    pick (signRight w defaults edits s && table)
-    (pick (ltb room maxMessage) (refusal 3 s edits) (inEnvelope w defaults g s edits subject m (envelopeIn m)))
-    (refusal 2 s edits)
+-- RECEIVING a message: 2, 3, 4, then the rules; `room` is the buffer's length
+unfoldable pub received : Sign → Caller → List ℕ → ℕ → Reaction
+received s c m room =
+    pick (signRight s && c .table) (pick (ltb room maxMessage) (refusal 3 (s .state)) (inEnvelope s c m (envelopeIn m))) (refusal 2 (s .state))
 
 -- a reply of so many bytes, or silence
 abbrev pub outcomeWith : ℕ → Outcome
@@ -130,7 +115,7 @@ outcomeWith len = record { number = pick (eqb len 0) 1 0; len = len }
 pub record Reacted (x : Reaction) (r : Outcome) (h : Held) (row newRow kept old new : List ℕ) : Type 0 where
   pub number : r .number ≡ x .number
   pub len : r .len ≡ length (x .reply)
-  pub held : h ≡ record { values = x .state .values; edits = x .edits }
+  pub held : h ≡ heldBy (x .state)
   pub words : newRow ≡ putRow row (x .state .row)
   pub bytes : kept ≡ x .state .row .kept
   pub buffer : new ≡ store old 0 (x .reply)

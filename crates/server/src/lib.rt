@@ -2,27 +2,20 @@
 ghost use mathlib.Core.Path.{_≡_};
 ghost use mathlib.Core.List.{List};
 ghost use Prim.Native.Nat.{ℕ};
-ghost use Rattle.values.specs.Values.{valuesOf};
+ghost use Rattle.writes.specs.Offer.{heldOf};
+ghost use Rattle.replies.specs.Sign.{signWith};
 ghost use Rattle.replies.specs.Row.{rowIn};
 ghost use Rattle.server.specs.State.{signRight};
 use bounds::ATTRIBUTES;
-use replies::Row;
 use replies::Standing;
 use replies::words::row_ok;
 use schema::TEXTS;
 use schema::WORDS;
 use schema::check::columns_right;
-use values::Values;
 use values::valid::values_ok;
 
 pub mod receive; // receive.rt: a message answered
 pub mod start; // start.rt: a fresh sign, and a change made at the sign itself
-
-// What a sign holds, and the exchange that it serves. It is lent: the values column by column, the exchange's row as words, the kept reply as bytes.
-pub struct State {
-    pub values: Values,
-    pub row: Row,
-}
 
 // Document 01's number, and the reply's length in the buffer.
 pub struct Outcome {
@@ -53,7 +46,7 @@ pub fn sign_ok<'a>(
     texts: &'a [u16; TEXTS],
     t: Standing,
 ) -> bool
-    ensures { λ r. ⌜ ((versions row kept : List ℕ) → r ≡ signRight (now (w .entry)) (now (defaults .entry)) (now (edits .entry)) (record { values = valuesOf (now (words .entry)) (now (nulls .entry)) (now (texts .entry)) versions; row = rowIn row t kept })) ⌝ }
+    ensures { λ r. ⌜ ((versions row kept : List ℕ) → r ≡ signRight (signWith (now (w .entry)) (now (defaults .entry)) (heldOf (now (words .entry)) (now (nulls .entry)) (now (texts .entry)) versions (now (edits .entry))) (rowIn row t kept))) ⌝ }
 {
     if !columns_right(w) {
         return false;

@@ -9,11 +9,10 @@ ghost use Rattle.exchange.specs.declared.Step.the-variants as steps;
 ghost use Rattle.exchange.specs.Rules.{maxTurn};
 ghost use Rattle.acl.specs.Access.{grantsOf, tableOk};
 ghost use Rattle.acl.specs.Table.{tableRight};
-ghost use Rattle.values.specs.Values.{valuesOf};
 ghost use Rattle.writes.specs.Offer.{heldOf};
 ghost use Rattle.replies.specs.Messages.{maxMessage};
 ghost use Rattle.replies.specs.Row.{rowIn, standingIn};
-ghost use Rattle.server.specs.State.{signRight, stateIn};
+ghost use Rattle.server.specs.State.{signRight, signIn};
 ghost use Rattle.server.specs.Receive.{closing, stepOf, begun, reacted, forServer, inEnvelope, received, outcomeWith, Reacted};
 use super::BROKEN;
 use super::DONE;
@@ -126,8 +125,8 @@ fn begin<'a>(
     payload: &'a [u8],
     out: &mut [u8],
 ) -> Outcome
-    requires { ⌜ (t ≡ standingIn (now row)) × ((signRight (now w) (now defaults) (now edits) (stateIn (valuesOf (now words) (now nulls) (now texts) (now versions)) (now row) (now kept)) ≡ true) × ((e .exchange < exchangeLimit) × (maxMessage ≤ length (now out)))) ⌝ }
-    ensures { λ r. ⌜ Reacted (begun (now (w .entry)) (now (defaults .entry)) g (stateIn (valuesOf (now (words .entry)) (now (nulls .entry)) (now (texts .entry)) (now (versions .entry))) (now (row .entry)) (now (kept .entry))) (now (edits .entry)) e (now (payload .entry)) action) r (heldOf (now (words .exit)) (now (nulls .exit)) (now (texts .exit)) (now (versions .exit)) (now (edits .exit))) (now (row .entry)) (now (row .exit)) (now (kept .exit)) (now (out .entry)) (now (out .exit)) ⌝ }
+    requires { ⌜ (t ≡ standingIn (now row)) × ((signRight (signIn (now w) (now defaults) (heldOf (now words) (now nulls) (now texts) (now versions) (now edits)) (now row) (now kept)) ≡ true) × ((e .exchange < exchangeLimit) × (maxMessage ≤ length (now out)))) ⌝ }
+    ensures { λ r. ⌜ Reacted (begun (signIn (now (w .entry)) (now (defaults .entry)) (heldOf (now (words .entry)) (now (nulls .entry)) (now (texts .entry)) (now (versions .entry)) (now (edits .entry))) (now (row .entry)) (now (kept .entry))) g e (now (payload .entry)) action) r (heldOf (now (words .exit)) (now (nulls .exit)) (now (texts .exit)) (now (versions .exit)) (now (edits .exit))) (now (row .entry)) (now (row .exit)) (now (kept .exit)) (now (out .entry)) (now (out .exit)) ⌝ }
 {
     match action {
         Action::Read => {
@@ -193,8 +192,8 @@ fn react<'a>(
     step: Step,
     out: &mut [u8],
 ) -> Outcome
-    requires { ⌜ (t ≡ standingIn (now row)) × ((signRight (now w) (now defaults) (now edits) (stateIn (valuesOf (now words) (now nulls) (now texts) (now versions)) (now row) (now kept)) ≡ true) × ((e .exchange < exchangeLimit) × ((step ≡ steps.Next → t .progress .turn < maxTurn) × (maxMessage ≤ length (now out))))) ⌝ }
-    ensures { λ r. ⌜ Reacted (reacted (now (w .entry)) (now (defaults .entry)) g (stateIn (valuesOf (now (words .entry)) (now (nulls .entry)) (now (texts .entry)) (now (versions .entry))) (now (row .entry)) (now (kept .entry))) (now (edits .entry)) e (now (payload .entry)) action step) r (heldOf (now (words .exit)) (now (nulls .exit)) (now (texts .exit)) (now (versions .exit)) (now (edits .exit))) (now (row .entry)) (now (row .exit)) (now (kept .exit)) (now (out .entry)) (now (out .exit)) ⌝ }
+    requires { ⌜ (t ≡ standingIn (now row)) × ((signRight (signIn (now w) (now defaults) (heldOf (now words) (now nulls) (now texts) (now versions) (now edits)) (now row) (now kept)) ≡ true) × ((e .exchange < exchangeLimit) × ((step ≡ steps.Next → t .progress .turn < maxTurn) × (maxMessage ≤ length (now out))))) ⌝ }
+    ensures { λ r. ⌜ Reacted (reacted (signIn (now (w .entry)) (now (defaults .entry)) (heldOf (now (words .entry)) (now (nulls .entry)) (now (texts .entry)) (now (versions .entry)) (now (edits .entry))) (now (row .entry)) (now (kept .entry))) g e (now (payload .entry)) action step) r (heldOf (now (words .exit)) (now (nulls .exit)) (now (texts .exit)) (now (versions .exit)) (now (edits .exit))) (now (row .entry)) (now (row .exit)) (now (kept .exit)) (now (out .entry)) (now (out .exit)) ⌝ }
 {
     match step {
         Step::Silence => answer(0),
@@ -271,7 +270,7 @@ pub fn serve<'a>(
     message: &'a [u8],
     out: &mut [u8],
 ) -> Outcome
-    ensures { λ r. ⌜ Reacted (received (now (w .entry)) (now (defaults .entry)) (now (edits .entry)) (stateIn (valuesOf (now (words .entry)) (now (nulls .entry)) (now (texts .entry)) (now (versions .entry))) (now (row .entry)) (now (kept .entry))) table g subject (now (message .entry)) (length (now (out .entry)))) r (heldOf (now (words .exit)) (now (nulls .exit)) (now (texts .exit)) (now (versions .exit)) (now (edits .exit))) (now (row .entry)) (now (row .exit)) (now (kept .exit)) (now (out .entry)) (now (out .exit)) ⌝ }
+    ensures { λ r. ⌜ Reacted (received (signIn (now (w .entry)) (now (defaults .entry)) (heldOf (now (words .entry)) (now (nulls .entry)) (now (texts .entry)) (now (versions .entry)) (now (edits .entry))) (now (row .entry)) (now (kept .entry))) (record { subject = subject; grants = g; table = table }) (now (message .entry)) (length (now (out .entry)))) r (heldOf (now (words .exit)) (now (nulls .exit)) (now (texts .exit)) (now (versions .exit)) (now (edits .exit))) (now (row .entry)) (now (row .exit)) (now (kept .exit)) (now (out .entry)) (now (out .exit)) ⌝ }
 {
     let t = read_standing(row);
     if !sign_ok(w, defaults, edits, words, nulls, texts, t) {
@@ -334,7 +333,7 @@ pub fn receive<'a>(
     message: &'a [u8],
     out: &mut [u8],
 ) -> Outcome
-    ensures { λ r. ⌜ Reacted (received (now (w .entry)) (now (defaults .entry)) (now (edits .entry)) (stateIn (valuesOf (now (words .entry)) (now (nulls .entry)) (now (texts .entry)) (now (versions .entry))) (now (row .entry)) (now (kept .entry))) (tableOk (now (table .entry))) (grantsOf (now (table .entry)) subject (now (w .entry))) subject (now (message .entry)) (length (now (out .entry)))) r (heldOf (now (words .exit)) (now (nulls .exit)) (now (texts .exit)) (now (versions .exit)) (now (edits .exit))) (now (row .entry)) (now (row .exit)) (now (kept .exit)) (now (out .entry)) (now (out .exit)) ⌝ }
+    ensures { λ r. ⌜ Reacted (received (signIn (now (w .entry)) (now (defaults .entry)) (heldOf (now (words .entry)) (now (nulls .entry)) (now (texts .entry)) (now (versions .entry)) (now (edits .entry))) (now (row .entry)) (now (kept .entry))) (record { subject = subject; grants = grantsOf (now (table .entry)) subject (now (w .entry)); table = tableOk (now (table .entry)) }) (now (message .entry)) (length (now (out .entry)))) r (heldOf (now (words .exit)) (now (nulls .exit)) (now (texts .exit)) (now (versions .exit)) (now (edits .exit))) (now (row .entry)) (now (row .exit)) (now (kept .exit)) (now (out .entry)) (now (out .exit)) ⌝ }
 {
     let access = search(table, table.len(), subject, w);
     serve(
@@ -372,7 +371,7 @@ pub fn receive_in<'a>(
     message: &'a [u8],
     out: &mut [u8],
 ) -> Outcome
-    ensures { λ r. ⌜ Reacted (received (now (w .entry)) (now (defaults .entry)) (now (edits .entry)) (stateIn (valuesOf (now (words .entry)) (now (nulls .entry)) (now (texts .entry)) (now (versions .entry))) (now (row .entry)) (now (kept .entry))) (tableRight count entries) (grantsOf (take count entries) subject (now (w .entry))) subject (now (message .entry)) (length (now (out .entry)))) r (heldOf (now (words .exit)) (now (nulls .exit)) (now (texts .exit)) (now (versions .exit)) (now (edits .exit))) (now (row .entry)) (now (row .exit)) (now (kept .exit)) (now (out .entry)) (now (out .exit)) ⌝ }
+    ensures { λ r. ⌜ Reacted (received (signIn (now (w .entry)) (now (defaults .entry)) (heldOf (now (words .entry)) (now (nulls .entry)) (now (texts .entry)) (now (versions .entry)) (now (edits .entry))) (now (row .entry)) (now (kept .entry))) (record { subject = subject; grants = grantsOf (take count entries) subject (now (w .entry)); table = tableRight count entries }) (now (message .entry)) (length (now (out .entry)))) r (heldOf (now (words .exit)) (now (nulls .exit)) (now (texts .exit)) (now (versions .exit)) (now (edits .exit))) (now (row .entry)) (now (row .exit)) (now (kept .exit)) (now (out .entry)) (now (out .exit)) ⌝ }
 {
     let access = search_in(entries, count, subject, w);
     let grants = access.grants;

@@ -4,12 +4,11 @@ ghost use mathlib.Core.List.{List};
 ghost use Prim.Native.Nat.{ℕ};
 ghost use Rattle.values.specs.Values.{valuesOf};
 ghost use Rattle.writes.specs.Offer.{heldOf};
-ghost use Rattle.server.specs.State.{stateIn};
+ghost use Rattle.server.specs.State.{signIn};
 ghost use Rattle.server.specs.Start.{started, Starts, alteredBy, Alters};
 use super::BROKEN;
 use super::DONE;
 use super::SCHEMA_REFUSED;
-use super::State;
 use super::sign_ok;
 use bounds::ATTRIBUTES;
 use bounds::CLUSTERS;
@@ -20,12 +19,6 @@ use schema::WORDS;
 use selection::request::ROW_WORDS;
 use tlv::Value;
 use values::fresh::fresh;
-
-// 0 and a fresh sign, or 11 and none.
-pub struct Started {
-    pub number: u8,
-    pub state: State,
-}
 
 // A fresh sign of a schema and a factory page; where they break the rules there is none, and what was lent stays as it was. Its page of edits may be any bytes
 // of the size that the schema leads to.
@@ -39,7 +32,7 @@ pub fn start<'a>(
     row: &mut [u64; ROW_WORDS],
     kept: &mut [u8; MAX_MESSAGE],
 ) -> u8
-    ensures { λ r. ⌜ Starts (started (now (w .entry)) (now (defaults .entry))) r (valuesOf (now (words .entry)) (now (nulls .entry)) (now (texts .entry)) (now (versions .entry))) (valuesOf (now (words .exit)) (now (nulls .exit)) (now (texts .exit)) (now (versions .exit))) (now (row .entry)) (now (row .exit)) (now (kept .entry)) (now (kept .exit)) ⌝ }
+    ensures { λ r. ⌜ ((edits : List ℕ) → Starts (started (now (w .entry)) (now (defaults .entry)) edits) r (valuesOf (now (words .entry)) (now (nulls .entry)) (now (texts .entry)) (now (versions .entry))) (valuesOf (now (words .exit)) (now (nulls .exit)) (now (texts .exit)) (now (versions .exit))) (now (row .entry)) (now (row .exit)) (now (kept .entry)) (now (kept .exit))) ⌝ }
 {
     if node::check(w, defaults) != 0 {
         return SCHEMA_REFUSED;
@@ -66,7 +59,7 @@ pub fn change<'a>(
     new: Value,
     src: &'a [u8],
 ) -> u8
-    ensures { λ r. ⌜ ((kept : List ℕ) → Alters (alteredBy (now (w .entry)) (now (defaults .entry)) (now (edits .entry)) (stateIn (valuesOf (now (words .entry)) (now (nulls .entry)) (now (texts .entry)) (now (versions .entry))) (now (row .entry)) kept) endpoint cluster attribute (now (src .entry)) new) r (heldOf (now (words .exit)) (now (nulls .exit)) (now (texts .exit)) (now (versions .exit)) (now (edits .exit)))) ⌝ }
+    ensures { λ r. ⌜ ((kept : List ℕ) → Alters (alteredBy (signIn (now (w .entry)) (now (defaults .entry)) (heldOf (now (words .entry)) (now (nulls .entry)) (now (texts .entry)) (now (versions .entry)) (now (edits .entry))) (now (row .entry)) kept) endpoint cluster attribute (now (src .entry)) new) r (heldOf (now (words .exit)) (now (nulls .exit)) (now (texts .exit)) (now (versions .exit)) (now (edits .exit)))) ⌝ }
 {
     let t = read_standing(row);
     if !sign_ok(w, defaults, edits, words, nulls, texts, t) {

@@ -19,7 +19,8 @@ use Rattle.selection.specs.Locate.{located}
 use Rattle.selection.proofs.LocateLaws.{located-here}
 use Rattle.writes.specs.Offer.{Held, verdictOn, storedIn, byPlace, changed}
 use Rattle.writes.proofs.HeldLaws.{placed-holds}
-use Rattle.server.specs.Start.{Altered, altered, alteredBy}
+use Rattle.replies.specs.Sign.{Reaction, heldBy}
+use Rattle.server.specs.Start.{altered, alteredBy}
 use Rattle.server.proofs.StartLaws.{altered-right}
 use Rattle.server.proofs.KeptLaws.{change-kept}
 use Rattle.protocol.specs.Model.{System, storeAll}
@@ -39,52 +40,48 @@ pub stored-beside : (s t : System Datum) → Stored s t → Beside s t
 unfolding storeAll
 stored-beside s t (stores, e) = subst (Beside s) (sym e) (record { row = refl; cache = refl; messages = refl; parts = refl })
 
-module _ {w defaults : List ℕ} {g : Grants} {sent : List (List ℕ)} (here : Standing w defaults g sent) where
-  open Standing here using (edits, state as s, system as sys, stands)
-
-  -- what a sign holds
-  abbrev pub heldBy : Held
-  heldBy = record { values = s .values; edits = edits }
+module _ {g : Grants} {sent : List (List ℕ)} (here : Standing g sent) where
+  open Standing here using (sign as n, system as sys, stands)
 
   -- what is held afterwards is what the protocol has, after one change or none
   abbrev pub Reached : Held → Type 0
-  Reached k = (t : System Datum) × Holds w defaults (s .values) sys t (k .values) (k .edits)
+  Reached k = (t : System Datum) × Holds (n .schema) (n .defaults) (n .state .values) sys t (k .values) (k .edits)
 
   -- a value for the attribute that was found, if it was
-  pub placed-as : (src : List ℕ) (new : Value) → Sized new → (l : Located) → ((i : ℕ) → l ≡ Here i → i < attributeCount w) → Reached (byPlace w defaults heldBy src new l .held)
+  pub placed-as : (src : List ℕ) (new : Value) → Sized new → (l : Located) → ((i : ℕ) → l ≡ Here i → i < attributeCount (n .schema)) → Reached (byPlace (n .schema) (n .defaults) (heldBy (n .state)) src new l .held)
   placed-as src new sized l there =
-      placed-holds Reached w defaults heldBy src new (sys, unmoved w defaults edits (s .values) sys (stands .versions-fit) (stands .held)) l put
+      placed-holds Reached (n .schema) (n .defaults) (heldBy (n .state)) src new (sys, unmoved (n .schema) (n .defaults) (n .state .edits) (n .state .values) sys (stands .versions-fit) (stands .held)) l put
     where
-      put : (i : ℕ) → l ≡ Here i → verdictOn w i src new ≡ Success → Reached (storedIn w defaults heldBy i src new)
+      put : (i : ℕ) → l ≡ Here i → verdictOn (n .schema) i src new ≡ Success → Reached (storedIn (n .schema) (n .defaults) (heldBy (n .state)) i src new)
       put i e f =
-          stored-as w defaults edits (s .values) sys (stands .versions-fit) (stands .held) i (datumIn src new)
+          stored-as (n .schema) (n .defaults) (n .state .edits) (n .state .values) sys (stands .versions-fit) (stands .held) i (datumIn src new)
           (record {
-            rules = well-formed-rules w .0 (right-of here .schema);
+            rules = well-formed-rules (n .schema) .0 (right-of here .schema);
             whole = stands .valid .whole;
             right = right-of here .values;
             there = there i e;
-            accepted = accepted src (eqb (attributeRow w i .nullable) 1) (kindOf (attributeRow w i)) new sized f;
+            accepted = accepted src (eqb (attributeRow (n .schema) i .nullable) 1) (kindOf (attributeRow (n .schema) i)) new sized f;
           })
 
   -- A LOCAL CHANGE
   module _ (e c a : ℕ) (src : List ℕ) (new : Value) (sized : Sized new) where
-    abbrev Steps : Altered → Type 0
-    Steps x = (t : System Datum) × Stored sys t × Serves w defaults g sent s (x .state) (x .edits) [] sys t
+    abbrev Steps : Reaction → Type 0
+    Steps x = (t : System Datum) × Stored sys t × Serves n g sent x sys t
 
     abbrev made : Held
-    made = changed w defaults heldBy e c a src new .held
+    made = changed (n .schema) (n .defaults) (heldBy (n .state)) e c a src new .held
 
     reached : Reached made
     unfolding changed
-    reached = placed-as src new sized (located w e c a) (λ i q. located-here w e c a i q .0)
+    reached = placed-as src new sized (located (n .schema) e c a) (λ i q. located-here (n .schema) e c a i q .0)
 
-    altered-as : alteredBy w defaults edits s e c a src new ≡ altered s (changed w defaults heldBy e c a src new)
-    altered-as = altered-right w defaults edits s e c a src new (stands .valid .right)
+    altered-as : alteredBy n e c a src new ≡ altered (n .state) (changed (n .schema) (n .defaults) (heldBy (n .state)) e c a src new)
+    altered-as = altered-right n e c a src new (stands .valid .right)
 
-    pub changed-as : Steps (alteredBy w defaults edits s e c a src new)
+    pub changed-as : Steps (alteredBy n e c a src new)
     changed-as =
         let (t, h) = reached in
-        let valid = change-kept w defaults edits s (stands .valid) e c a src new sized in
+        let valid = change-kept n (stands .valid) e c a src new sized in
         let b = stored-beside sys t (h .stored) in (
           t,
           h .stored,

@@ -5,13 +5,12 @@ use mathlib.Core.List.{List, []}
 use Prim.Native.Nat.{ℕ, suc, _≤_, _<_}
 use borrow.Author.Tests.{eqb-true, lt-ltb}
 use lib.Dec.{eqb, ltb}
-use lib.ListN.{length, getD, drop}
+use lib.ListN.{length, drop}
 use Rattle.tlv.specs.Octet.{pick}
 use Rattle.tlv.specs.Value.{Datum}
 use Rattle.tlv.specs.Decode.Opt.{just}
 use Rattle.envelope.specs.Envelope.{envelopeIn}
 use Rattle.interaction.specs.Status.{responseIn}
-use Rattle.schema.specs.Layout.{subjectWord}
 use Rattle.schema.proofs.BoolLaws.{left, right}
 use Rattle.acl.specs.declared.Grants.{Grants}
 use Rattle.exchange.specs.declared.Progress.{Progress}
@@ -23,14 +22,15 @@ use Rattle.exchange.specs.Rules.{statusOpcode, maxTurn, actionOf, beginning}
 use Rattle.exchange.proofs.ActionLaws.{status-action, begun-taken}
 use Rattle.cache_trip.specs.Begun.{envelopeAs}
 use Rattle.replies.specs.Messages.{envelopeLength, maxMessage}
-use Rattle.server.specs.Receive.{Reaction, stepOf, reacted, forServer}
+use Rattle.replies.specs.Sign.{Reaction}
+use Rattle.server.specs.Receive.{stepOf, reacted, forServer}
 use Rattle.server.proofs.ReceiveLaws.{served}
 use Rattle.protocol.specs.Model.{Message, success, Node, System, Store, partOf, send, sendAgain, serve}
 use Rattle.refinement.proofs.Sign.{promised}
 use Rattle.interaction_writer.specs.Envelope.{panelEdition}
 use Rattle.sign_steps.proofs.Standing.{Standing}
 use Rattle.sign_steps.proofs.RuleLaws.{fields, repeats, request-step, own, newest, earlier, success-step, newest-only, own-same, newest-same, earlier-same}
-use Rattle.sign_steps.proofs.ServeLaws.{Serving, Served, Valid, silence-as, repeat-as, reaction, reacted-as}
+use Rattle.sign_steps.proofs.ServeLaws.{panelOf, Serving, Served, Valid, silence-as, repeat-as, reaction, reacted-as}
 
 for-status : forServer panelEdition Status ≡ true
 unfolding forServer
@@ -41,23 +41,23 @@ unfolding forServer
 for-request = begun-taken
 
 -- a message in its envelope, for which there is room
-module _ {w defaults : List ℕ} {g : Grants} {sent : List (List ℕ)} (here : Standing w defaults g sent) (node : Node Datum) (m : List ℕ) (room : ℕ) (enough : maxMessage ≤ room) (fits : length m ≤ maxMessage) where
-  open Standing here using (edits, state as s, system as sys, stands)
+module _ {g : Grants} {sent : List (List ℕ)} (here : Standing g sent) (node : Node Datum) (m : List ℕ) (room : ℕ) (enough : maxMessage ≤ room) (fits : length m ≤ maxMessage) where
+  open Standing here using (sign as n, system as sys, stands)
 
   abbrev now : Progress
-  now = s .row .progress
+  now = n .state .row .progress
 
   abbrev payload : List ℕ
   payload = drop envelopeLength m
 
-  opened : (opcode x turn : ℕ) → envelopeIn m ≡ envelopeAs panelEdition opcode x turn → {action : Action} → actionOf opcode ≡ action → forServer panelEdition action ≡ true → reaction here m room ≡ reacted w defaults g s edits (fields opcode x turn) payload action (stepOf now action (fields opcode x turn) payload)
+  opened : (opcode x turn : ℕ) → envelopeIn m ≡ envelopeAs panelEdition opcode x turn → {action : Action} → actionOf opcode ≡ action → forServer panelEdition action ≡ true → reaction here m room ≡ reacted n g (fields opcode x turn) payload action (stepOf now action (fields opcode x turn) payload)
   opened opcode x turn e d o =
-      served w defaults edits s true g (getD w subjectWord 0) m room (stands .valid .right) refl enough e d fits o refl
+      served n (panelOf n g) m room (stands .valid .right) refl enough e d fits o refl
 
   -- A REQUEST: the newest exchange is begun, or its reply is given again
   module _ (opcode x : ℕ) (found : envelopeIn m ≡ envelopeAs panelEdition opcode x 0) (action : Action) (meant : actionOf opcode ≡ action) (b : beginning action ≡ true) (u : Message) (next : ℕ → List (Store Datum) → System Datum) where
     abbrev on : Step → Reaction
-    on = reacted w defaults g s edits (fields opcode x 0) payload action
+    on = reacted n g (fields opcode x 0) payload action
 
     -- what the protocol does with it, by whether the exchange is newer
     abbrev RequestAs : Bool → Type 0
@@ -74,7 +74,7 @@ module _ {w defaults : List ℕ} {g : Grants} {sent : List (List ℕ)} (here : S
   -- A SUCCESS: the next part, or the kept reply again
   module _ (x turn : ℕ) (found : envelopeIn m ≡ envelopeAs panelEdition statusOpcode x turn) (status : responseIn payload ≡ just 0) where
     abbrev then : Step → Reaction
-    then = reacted w defaults g s edits (fields statusOpcode x turn) payload Status
+    then = reacted n g (fields statusOpcode x turn) payload Status
 
     abbrev next : ℕ → System Datum
     next size = send sys (partOf (sys .clusters) x (suc (sys .row .turn)) (sys .row .ahead) (sys .row .filters) (sys .row .since) size)
@@ -89,7 +89,7 @@ module _ {w defaults : List ℕ} {g : Grants} {sent : List (List ℕ)} (here : S
     success-same : SuccessAs (own now x) (newest now turn)
     unfolding serve
     success-same size stores =
-        rw (own-same (s .row) (sys .row) (stands .row) x, earlier-same (s .row) (sys .row) (stands .row) turn, newest-same (s .row) (sys .row) (stands .row) turn)
+        rw (own-same (n .state .row) (sys .row) (stands .row) x, earlier-same (n .state .row) (sys .row) (stands .row) turn, newest-same (n .state .row) (sys .row) (stands .row) turn)
 
     pub success-served : (promised now ≡ true → now .turn < maxTurn)
         → (x ≡ sys .row .exchange → promised now ≡ true → Valid here (then Next) → (size : ℕ) × Serving here (next size) (then Next))

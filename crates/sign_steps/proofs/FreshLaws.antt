@@ -74,7 +74,7 @@ module _ (w defaults : List ℕ) (h : accepted w defaults ≡ true) where
           whole = length-replicate {A = ℕ} maxMessage 0;
         }
 
-    pub fresh-sign : SignAs w defaults g sent edits (started w defaults .state) (begun .clusters) (begun .row)
+    pub fresh-sign : SignAs (record { schema = w; defaults = defaults; state = started w defaults edits .state }) g sent (begun .clusters) (begun .row)
     unfolding started
     fresh-sign =
         let v = fresh-valid w defaults h edits size in

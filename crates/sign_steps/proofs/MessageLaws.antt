@@ -38,33 +38,33 @@ read-taken : (x : ℕ) (fs : List Wanted) → Each WantedFits fs → length fs �
 unfolding readMessage
 read-taken x fs h few = ap (λ (q : List ℕ). readRead (readIn q)) (after-envelope panelEdition readOpcode x 0 (readOctets fs)) ∙ read-answered fs h
 
-module _ {w defaults : List ℕ} {g : Grants} {sent : List (List ℕ)} (here : Standing w defaults g sent) (words-fit : (k : ℕ) → getD w k 0 < 2 ^ 64) (start : List ℕ) (room : ℕ) (enough : maxMessage ≤ room) where
-  open Standing here using (edits, state as s, system as sys, stands)
+module _ {g : Grants} {sent : List (List ℕ)} (here : Standing g sent) (words-fit : (k : ℕ) → getD (here .sign .schema) k 0 < 2 ^ 64) (start : List ℕ) (room : ℕ) (enough : maxMessage ≤ room) where
+  open Standing here using (sign as n, system as sys, stands)
 
   abbrev node : Node Datum
-  node = nodeOf w defaults start g
+  node = nodeOf (n .schema) (n .defaults) start g
 
   -- this message, as this one of the protocol, is served
   abbrev Taken : List ℕ → Message → Type 0
   Taken m u = Served here node u (reaction here m room)
 
   module _ (x : ℕ) (fx : x < exchangeLimit) where
-    read-as : (fs : List Wanted) → Each WantedFits fs → length fs ≤ maxFilters → Taken (readMessage panelEdition x fs) (read x (filtersAs w fs))
+    read-as : (fs : List Wanted) → Each WantedFits fs → length fs ≤ maxFilters → Taken (readMessage panelEdition x fs) (read x (filtersAs (n .schema) fs))
     unfolding serve reacted
     read-as fs h few =
-        request-served here node (readMessage panelEdition x fs) room enough (read-short panelEdition x fs h few) readOpcode x (read-envelope panelEdition x fs (omega arith) fx) Read read-action refl (read x (filtersAs w fs))
-        (λ size stores. send sys (partOf (sys .clusters) x 1 (node .readable) (filtersAs w fs) (changesOf (sys .clusters)) size))
-        (λ size stores. rw (newer-same (s .row) (sys .row) (stands .row) x, repeats-same (s .row) (sys .row) (stands .row) x))
+        request-served here node (readMessage panelEdition x fs) room enough (read-short panelEdition x fs h few) readOpcode x (read-envelope panelEdition x fs (omega arith) fx) Read read-action refl (read x (filtersAs (n .schema) fs))
+        (λ size stores. send sys (partOf (sys .clusters) x 1 (node .readable) (filtersAs (n .schema) fs) (changesOf (sys .clusters)) size))
+        (λ size stores. rw (newer-same (n .state .row) (sys .row) (stands .row) x, repeats-same (n .state .row) (sys .row) (stands .row) x))
         (λ valid. let (size, t) = first-served here words-fit start x fx fs few (drop envelopeLength (readMessage panelEdition x fs)) (read-taken x fs h few) valid in (size, [], t))
 
     write-as : (given : Bool) (version e c a : ℕ) (d : Datum) → WriteFits version e c a d → List·Memᴰ (writeMessage panelEdition x given version e c a d) sent → Taken (writeMessage panelEdition x given version e c a d) (write x)
     unfolding serve reacted
     write-as given version e c a d f there =
-        let (n, answer, value) = write-taken panelEdition x given version e c a d (f .version-fits) (f .path) (f .writable) (f .takable) in
+        let (at, answer, value) = write-taken panelEdition x given version e c a d (f .version-fits) (f .path) (f .writable) (f .takable) in
         request-served here node (writeMessage panelEdition x given version e c a d) room enough (write-short panelEdition x given version e c a d f) writeOpcode x (write-envelope panelEdition x given version e c a d (omega arith) fx) Write write-action refl (write x)
         (λ size stores. written (storeAll sys stores) x)
-        (λ size stores. rw (newer-same (s .row) (sys .row) (stands .row) x, repeats-same (s .row) (sys .row) (stands .row) x))
-        (λ valid. let (stores, t) = write-served here x fx given version e c a d f n answer there valid in (0, stores, t))
+        (λ size stores. rw (newer-same (n .state .row) (sys .row) (stands .row) x, repeats-same (n .state .row) (sys .row) (stands .row) x))
+        (λ valid. let (stores, t) = write-served here x fx given version e c a d f at answer there valid in (0, stores, t))
 
     success-as : (turn : ℕ) → turn < 2 ^ 16 → (sys .row .more ≡ true → sys .row .turn < maxTurn) → Taken (successMessage panelEdition x turn) (success x turn)
     unfolding reacted
@@ -74,7 +74,7 @@ module _ {w defaults : List ℕ} {g : Grants} {sent : List (List ℕ)} (here : S
         (λ own h valid. let more = stands .row .more ∙ h in next-served here words-fit (stands .row .going more) (turns more) x own valid)
 
   -- A MESSAGE that the panel has sent
-  pub message-as : (sys .row .more ≡ true → sys .row .turn < maxTurn) → (m : List ℕ) (u : Message) → MessageAs w m u → List·Memᴰ m sent → Taken m u
+  pub message-as : (sys .row .more ≡ true → sys .row .turn < maxTurn) → (m : List ℕ) (u : Message) → MessageAs (n .schema) m u → List·Memᴰ m sent → Taken m u
   message-as turns m u (reads x fs em eu fx h few) there = rw (em, eu) (read-as x fx fs h few)
   message-as turns m u (writes x given version e c a d em eu fx f) there = rw (em, eu) (write-as x fx given version e c a d f (Memᴰ·cast (sym em) there))
   message-as turns m u (succeeds x turn em eu fx ft) there = rw (em, eu) (success-as x fx turn ft turns)

@@ -18,11 +18,12 @@ use Rattle.report.specs.declared.part.Request.{Request}
 use Rattle.report.specs.Blocks.{Placed, viewOf, startOf, blocksFrom}
 use Rattle.replies.specs.declared.Row as replies
 use Rattle.replies.specs.Messages.{maxMessage, reportMessage}
+use Rattle.replies.specs.Sign.{withRow, withState}
 use Rattle.replies.specs.Row.{keeping, keptReply, pathsOf, blocksOf, nextOf, reported}
 use Rattle.replies.proofs.MessageLaws.{report-length}
 use Rattle.replies.proofs.RowLaws.{kept-back}
 use Rattle.replies.proofs.KeptLaws.{keeping-whole}
-use Rattle.server.specs.Receive.{withRow, replied}
+use Rattle.server.specs.Receive.{replied}
 use Rattle.server.proofs.KeptLaws.{ValidSign}
 use Rattle.protocol.specs.Model.{Part, partOf, rowAfter, send}
 use Rattle.refinement.proofs.Terms.{readableFrom, filtersAs}
@@ -38,38 +39,38 @@ next-promised : (more : Bool) → more ≡ not (eqb (nextOf more) nothing)
 next-promised true = refl
 next-promised false = refl
 
-module _ {w defaults : List ℕ} {g : Grants} {sent : List (List ℕ)} (here : Standing w defaults g sent) (words-fit : (k : ℕ) → getD w k 0 < 2 ^ 64) where
-  open Standing here using (edits, state as s, system as sys, stands)
+module _ {g : Grants} {sent : List (List ℕ)} (here : Standing g sent) (words-fit : (k : ℕ) → getD (here .sign .schema) k 0 < 2 ^ 64) where
+  open Standing here using (sign as n, system as sys, stands)
 
   -- a request for everything with these filters, and the place that it has come to
-  module _ (x turn : ℕ) (q : Request) (index : ℕ) (all : pathsOf q ≡ askedFor everything ∷ []) (fs : List Wanted) (judged : q .filters ≡ filterWords w fs) where
+  module _ (x turn : ℕ) (q : Request) (index : ℕ) (all : pathsOf q ≡ askedFor everything ∷ []) (fs : List Wanted) (judged : q .filters ≡ filterWords (n .schema) fs) where
     abbrev at : report.Place
     at = startOf 0 index
 
     abbrev blocks : List Placed
-    blocks = blocksOf w (s .values) defaults edits g q at
+    blocks = blocksOf n g q at
 
     -- the row that keeps the part
     abbrev row : replies.Row
-    row = reported (s .row) x turn q at blocks
+    row = reported (n .state .row) x turn q at blocks
 
     -- the part of the protocol, of so many entries
     abbrev part : (ℕ → ℕ) → ℕ → Part Datum
-    part since size = partOf (sys .clusters) x turn (readableFrom w g (attributeCount w - index) index) (filtersAs w fs) since size
+    part since size = partOf (sys .clusters) x turn (readableFrom (n .schema) g (attributeCount (n .schema) - index) index) (filtersAs (n .schema) fs) since size
 
     abbrev Made : Part Datum → Type 0
-    Made = Makes w defaults edits (s .values) g fs (sys .clusters) (right-of here .schema) (right-of here .values) (stands .versions-fit) words-fit (stands .held) x turn index
+    Made = Makes (n .schema) (n .defaults) (n .state .edits) (n .state .values) g fs (sys .clusters) (right-of here .schema) (right-of here .values) (stands .versions-fit) words-fit (stands .held) x turn index
 
-    same-blocks : blocks ≡ blocksFrom (viewOf w (s .values) defaults edits g (filterWords w fs)) (askedFor everything ∷ []) at
-    same-blocks = λ j. blocksFrom (viewOf w (s .values) defaults edits g (judged j)) (all j) at
+    same-blocks : blocks ≡ blocksFrom (viewOf (n .schema) (n .state .values) (n .defaults) (n .state .edits) g (filterWords (n .schema) fs)) (askedFor everything ∷ []) at
+    same-blocks = λ j. blocksFrom (viewOf (n .schema) (n .state .values) (n .defaults) (n .state .edits) g (judged j)) (all j) at
 
     kept-bytes : keptReply row ≡ reportMessage panelEdition x turn blocks
-    kept-bytes = kept-back (s .row) (stands .row .whole) _ _ _ _ (report-length panelEdition x turn blocks)
+    kept-bytes = kept-back (n .state .row) (stands .row .whole) _ _ _ _ (report-length panelEdition x turn blocks)
 
     kept-whole : length (row .kept) ≡ maxMessage
-    kept-whole = keeping-whole (s .row) _ _ _ _ ∙ stands .row .whole
+    kept-whole = keeping-whole (n .state .row) _ _ _ _ ∙ stands .row .whole
 
-    row-as : (since : ℕ → ℕ) (size : ℕ) → Made (part since size) → RowAs w g sent row (rowAfter (part since size))
+    row-as : (since : ℕ → ℕ) (size : ℕ) → Made (part since size) → RowAs (n .schema) g sent row (rowAfter (part since size))
     unfolding keeping partOf
     row-as since size m =
         record {
@@ -83,7 +84,7 @@ module _ {w defaults : List ℕ} {g : Grants} {sent : List (List ℕ)} (here : S
         }
 
     -- A PART is made, and the sign replies with it
-    pub part-served : x < exchangeLimit → turn < 2 ^ 16 → (since : ℕ → ℕ) → ValidSign w defaults edits (withRow s row) → (size : ℕ) × Serving here (send sys (part since size)) (replied s edits row)
+    pub part-served : x < exchangeLimit → turn < 2 ^ 16 → (since : ℕ → ℕ) → ValidSign (withState n (withRow (n .state) row)) → (size : ℕ) × Serving here (send sys (part since size)) (replied (withRow (n .state) row))
     part-served fx ft since valid =
-        let (size, m) = part-made w defaults edits (s .values) g fs (sys .clusters) (right-of here .schema) (right-of here .values) (stands .versions-fit) words-fit (stands .held) x turn index since fx ft in
+        let (size, m) = part-made (n .schema) (n .defaults) (n .state .edits) (n .state .values) g fs (sys .clusters) (right-of here .schema) (right-of here .values) (stands .versions-fit) words-fit (stands .held) x turn index since fx ft in
         (size, part-as here row (part since size) valid (row-as since size m))

@@ -4,7 +4,7 @@ use Prim.Native.Nat.{ℕ}
 use Rattle.tlv.specs.Value.{Datum}
 use Rattle.acl.specs.declared.Grants.{Grants}
 use Rattle.replies.specs.declared.Row as replies
-use Rattle.server.specs.declared.State.{State}
+use Rattle.replies.specs.Sign.{Sign}
 use Rattle.protocol.specs.Model.{Part, Row, Cluster}
 use Rattle.refinement.proofs.Bytes.{Wrote, ReplyAs, silent, reports, answers}
 use Rattle.refinement.proofs.Sign.{RowAs, SignAs}
@@ -30,6 +30,6 @@ module _ (sent : List (List ℕ)) (m : List ℕ) where
         whole = h .whole;
       }
 
-  pub sign-still : (w defaults : List ℕ) (g : Grants) (edits : List ℕ) (s : State) (clusters : ℕ → Cluster Datum) (r : Row Datum) → SignAs w defaults g sent edits s clusters r → SignAs w defaults g (m ∷ sent) edits s clusters r
-  sign-still w defaults g edits s clusters r h =
-      record { valid = h .valid; versions-fit = h .versions-fit; held = h .held; row = row-still w g (s .row) r (h .row) }
+  pub sign-still : (n : Sign) (g : Grants) (clusters : ℕ → Cluster Datum) (r : Row Datum) → SignAs n g sent clusters r → SignAs n g (m ∷ sent) clusters r
+  sign-still n g clusters r h =
+      record { valid = h .valid; versions-fit = h .versions-fit; held = h .held; row = row-still (n .schema) g (n .state .row) r (h .row) }

@@ -12,8 +12,8 @@ use Rattle.schema.specs.Rows.{clusterCount}
 use Rattle.acl.specs.declared.Grants.{Grants}
 use Rattle.exchange.specs.declared.Step.the-variants.{Silence, Repeat}
 use Rattle.replies.specs.declared.Row as replies
-use Rattle.replies.specs.Row.{keptReply}
-use Rattle.server.specs.Receive.{Reaction, answering, silence, withRow, replied, reacted, received}
+use Rattle.replies.specs.Sign.{Sign, Caller, Reaction, withRow, withState}
+use Rattle.server.specs.Receive.{silence, replied, reacted, received}
 use Rattle.server.proofs.KeptLaws.{ValidSign, received-kept}
 use Rattle.protocol.specs.Model.{Message, Node, Part, Store, System, rowAfter, send, sendAgain, serve}
 use Rattle.protocol.specs.Claims.{moved}
@@ -23,35 +23,39 @@ use Rattle.exchange.specs.declared.Action.{Action}
 use Rattle.sign_steps.proofs.Standing.{Standing}
 use Rattle.sign_steps.proofs.StoreLaws.{unmoved}
 
-module _ {w defaults : List ℕ} {g : Grants} {sent : List (List ℕ)} (here : Standing w defaults g sent) where
-  open Standing here using (edits, state as s, system as sys, stands)
+-- the subject that a sign serves, with an access table that keeps the rules
+abbrev pub panelOf : Sign → Grants → Caller
+panelOf n g = record { subject = getD (n .schema) subjectWord 0; grants = g; table = true }
+
+module _ {g : Grants} {sent : List (List ℕ)} (here : Standing g sent) where
+  open Standing here using (sign as n, system as sys, stands)
 
   -- the protocol goes to t where the sign reacts so
   abbrev pub Serving : System Datum → Reaction → Type 0
-  Serving t r = Serves w defaults g sent s (r .state) (r .edits) (r .reply) sys t
+  Serving t r = Serves n g sent r sys t
 
   -- a step of the protocol with this message
   abbrev pub Served : Node Datum → Message → Reaction → Type 0
   Served node u r = (size : ℕ) × (stores : List (Store Datum)) × Serving (serve node sys u size stores) r
 
   abbrev pub Valid : Reaction → Type 0
-  Valid r = ValidSign w defaults (r .edits) (r .state)
+  Valid r = ValidSign (withState n (r .state))
 
   -- no cluster has changed
-  uncounted : (k : ℕ) → k < clusterCount w → sys .clusters k .changes ≡ sys .clusters k .changes + moved (getD (s .values .versions) k 0) (getD (s .values .versions) k 0)
-  uncounted = unmoved w defaults edits (s .values) sys (stands .versions-fit) (stands .held) .counted
+  uncounted : (k : ℕ) → k < clusterCount (n .schema) → sys .clusters k .changes ≡ sys .clusters k .changes + moved (getD (n .state .values .versions) k 0) (getD (n .state .values .versions) k 0)
+  uncounted = unmoved (n .schema) (n .defaults) (n .state .edits) (n .state .values) sys (stands .versions-fit) (stands .held) .counted
 
-  silent-as : Serving sys (silence s edits)
+  silent-as : Serving sys (silence (n .state))
   silent-as =
       record { sign = stands; made = []; reply-is = silent refl refl; parts = refl; cache = refl; messages = refl; counted = uncounted }
 
-  again-as : Serving (sendAgain sys) (answering s edits (keptReply (s .row)))
+  again-as : Serving (sendAgain sys) (replied (n .state))
   unfolding sendAgain
   again-as =
       record { sign = stands; made = sys .row .kept; reply-is = stands .row .kept; parts = refl; cache = refl; messages = refl; counted = uncounted }
 
   -- A PART, kept in the row
-  pub part-as : (x : replies.Row) (p : Part Datum) → ValidSign w defaults edits (withRow s x) → RowAs w g sent x (rowAfter p) → Serving (send sys p) (replied s edits x)
+  pub part-as : (x : replies.Row) (p : Part Datum) → ValidSign (withState n (withRow (n .state) x)) → RowAs (n .schema) g sent x (rowAfter p) → Serving (send sys p) (replied (withRow (n .state) x))
   unfolding send
   part-as x p valid row =
       record {
@@ -65,12 +69,12 @@ module _ {w defaults : List ℕ} {g : Grants} {sent : List (List ℕ)} (here : S
       }
 
   module _ (e : Fields) (payload : List ℕ) (action : Action) where
-    pub silence-as : Serving sys (reacted w defaults g s edits e payload action Silence)
+    pub silence-as : Serving sys (reacted n g e payload action Silence)
     unfolding reacted
     silence-as = silent-as
 
     -- the kept reply where the test holds
-    pub repeat-as : (b : Bool) → Serving (cond b (sendAgain sys) sys) (reacted w defaults g s edits e payload action (pick b Repeat Silence))
+    pub repeat-as : (b : Bool) → Serving (cond b (sendAgain sys) sys) (reacted n g e payload action (pick b Repeat Silence))
     unfolding reacted
     repeat-as true = again-as
     repeat-as false = silent-as
@@ -78,8 +82,8 @@ module _ {w defaults : List ℕ} {g : Grants} {sent : List (List ℕ)} (here : S
   -- the sign stays valid, so what it reacts with may be taken to be
   module _ (m : List ℕ) (room : ℕ) where
     abbrev pub reaction : Reaction
-    reaction = received w defaults edits s true g (getD w subjectWord 0) m room
+    reaction = received n (panelOf n g) m room
 
     pub reacted-as : (P : Reaction → Type 0) {r : Reaction} → reaction ≡ r → (Valid r → P r) → P reaction
     reacted-as P e f =
-        subst P (sym e) (f (subst Valid e (received-kept w defaults edits s (stands .valid) true g (getD w subjectWord 0) m room)))
+        subst P (sym e) (f (subst Valid e (received-kept n (stands .valid) (panelOf n g) m room)))

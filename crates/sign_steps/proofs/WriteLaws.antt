@@ -25,63 +25,64 @@ use Rattle.writes.proofs.StatusLaws.{codes-octets}
 use Rattle.cache_request.specs.Messages.{writeMessage}
 use Rattle.exchange.specs.declared.Progress.{Progress}
 use Rattle.replies.specs.Messages.{envelopeLength, maxMessage, responseMessage}
+use Rattle.replies.specs.Sign.{State, heldBy}
 use Rattle.replies.specs.Row.{keeping, keptReply}
 use Rattle.replies.specs.Refusal.{refusalCode, writeRefusal}
-use Rattle.replies.specs.Begin.{Left, answered, responseTo, writeBy, writeBegun, refusalOf}
+use Rattle.replies.specs.Begin.{answered, responseTo, writeBy, writeBegun, refusalOf}
 use Rattle.replies.proofs.KeptLaws.{keeping-whole, write-reply}
-use Rattle.server.specs.Receive.{wrote}
+use Rattle.server.specs.Receive.{replied}
 use Rattle.protocol.specs.Model.{System, Store, storeAll, written}
 use Rattle.refinement.proofs.Bytes.{WriteFits, answerBytes, answers}
 use Rattle.refinement.proofs.Sign.{promised, RowAs}
 use Rattle.interaction_writer.specs.Envelope.{panelEdition, exchangeLimit}
 use Rattle.sign_steps.proofs.Standing.{Standing}
-use Rattle.sign_steps.proofs.ChangeLaws.{heldBy, Reached, placed-as, stored-beside}
+use Rattle.sign_steps.proofs.ChangeLaws.{Reached, placed-as, stored-beside}
 use Rattle.sign_steps.proofs.ServeLaws.{Serving, Valid}
 
-module _ {w defaults : List ℕ} {g : Grants} {sent : List (List ℕ)} (here : Standing w defaults g sent) (x : ℕ) (fx : x < exchangeLimit) (given : Bool) (version e c a : ℕ) (d : Datum) (fits : WriteFits version e c a d) where
-  open Standing here using (edits, state as s, system as sys, stands)
+module _ {g : Grants} {sent : List (List ℕ)} (here : Standing g sent) (x : ℕ) (fx : x < exchangeLimit) (given : Bool) (version e c a : ℕ) (d : Datum) (fits : WriteFits version e c a d) where
+  open Standing here using (sign as n, system as sys, stands)
 
   abbrev now : Held
-  now = heldBy here
+  now = heldBy (n .state)
 
   abbrev payload : List ℕ
   payload = drop envelopeLength (writeMessage panelEdition x given version e c a d)
 
   -- what the sign has read, and what it makes of it
-  module _ (n : ℕ) (read : writeRead (writeIn payload) ≡ writeAnswer given version e c a n) (there : List·Memᴰ (writeMessage panelEdition x given version e c a d) sent) where
+  module _ (at : ℕ) (read : writeRead (writeIn payload) ≡ writeAnswer given version e c a at) (there : List·Memᴰ (writeMessage panelEdition x given version e c a d) sent) where
     abbrev entry : Entry
-    entry = record { version = pick given version ABSENT; endpoint = e; cluster = c; attribute = a; place = n }
+    entry = record { version = pick given version ABSENT; endpoint = e; cluster = c; attribute = a; place = at }
 
-    abbrev begun : Left
-    begun = writeBegun w g defaults now (s .row) x payload
+    abbrev begun : State
+    begun = writeBegun n g x payload
 
     abbrev outcome : Outcome
-    outcome = record { endpoint = e; cluster = c; attribute = a; code = entryWritten w g defaults payload now entry .code }
+    outcome = record { endpoint = e; cluster = c; attribute = a; code = entryWritten (n .schema) g (n .defaults) payload now entry .code }
 
-    begun-held : begun .held ≡ entryWritten w g defaults payload now entry .held
+    begun-held : heldBy begun ≡ entryWritten (n .schema) g (n .defaults) payload now entry .held
     unfolding refusalCode writeBegun heldAfter firstOf
-    begun-held = ap (λ (q : WriteRequest). writeBy w g defaults now (s .row) x payload q .held) read
+    begun-held = ap (λ (q : WriteRequest). heldBy (writeBy n g x payload q)) read
 
     begun-progress : begun .row .progress ≡ answered x
     unfolding refusalCode writeBegun keeping firstOf
-    begun-progress = ap (λ (q : WriteRequest). writeBy w g defaults now (s .row) x payload q .row .progress) read
+    begun-progress = ap (λ (q : WriteRequest). writeBy n g x payload q .row .progress) read
 
     begun-whole : length (begun .row .kept) ≡ maxMessage
     unfolding refusalCode writeBegun firstOf
     begun-whole =
-        ap (λ (q : WriteRequest). length (writeBy w g defaults now (s .row) x payload q .row .kept)) read ∙ keeping-whole (s .row) _ _ _ _ ∙ stands .row .whole
+        ap (λ (q : WriteRequest). length (writeBy n g x payload q .row .kept)) read ∙ keeping-whole (n .state .row) _ _ _ _ ∙ stands .row .whole
 
     begun-reply : keptReply (begun .row) ≡ answerBytes x outcome
     unfolding refusalCode codesOf firstOf responseMessage responsePayload answerTrees answerBytes
     begun-reply =
-        write-reply (s .row) (stands .row .whole) x payload w g defaults now
-        ∙ ap (λ (q : WriteRequest). pick (eqb (writeRefusal q) 0) (responseTo w g defaults payload now x q) (refusalOf x (writeRefusal q))) read
+        write-reply n g (stands .row .whole) x payload
+        ∙ ap (λ (q : WriteRequest). pick (eqb (writeRefusal q) 0) (responseTo n g x payload q) (refusalOf x (writeRefusal q))) read
 
     outcome-fits : OutcomeFits outcome
     unfolding codesOf
-    outcome-fits = record { path-fits = fits .path; code-fits = codes-octets w g defaults payload now (entry ∷ []) 0 (omega arith) }
+    outcome-fits = record { path-fits = fits .path; code-fits = codes-octets (n .schema) g (n .defaults) payload now (entry ∷ []) 0 (omega arith) }
 
-    row-as : (t : System Datum) → RowAs w g sent (begun .row) (written t x .row)
+    row-as : (t : System Datum) → RowAs (n .schema) g sent (begun .row) (written t x .row)
     unfolding written
     row-as t =
         record {
@@ -94,14 +95,14 @@ module _ {w defaults : List ℕ} {g : Grants} {sent : List (List ℕ)} (here : S
           whole = begun-whole;
         }
 
-    reached : Reached here (entryWritten w g defaults payload now entry .held)
+    reached : Reached here (entryWritten (n .schema) g (n .defaults) payload now entry .held)
     unfolding entryWritten
     reached =
-        placed-as here payload (valueIn payload n) (value-in-sized payload n) (mayWrite w g (s .values .versions) entry)
-        (may-index w g (s .values .versions) entry)
+        placed-as here payload (valueIn payload at) (value-in-sized payload at) (mayWrite (n .schema) g (n .state .values .versions) entry)
+        (may-index (n .schema) g (n .state .values .versions) entry)
 
     -- A WRITE, served
-    pub write-served : Valid here (wrote begun) → (stores : List (Store Datum)) × Serving here (written (storeAll sys stores) x) (wrote begun)
+    pub write-served : Valid here (replied begun) → (stores : List (Store Datum)) × Serving here (written (storeAll sys stores) x) (replied begun)
     unfolding written
     write-served valid =
         let (t, h) = rw (← begun-held) at reached in

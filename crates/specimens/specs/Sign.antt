@@ -7,8 +7,9 @@ use Rattle.bounds.specs.Bounds.{clusterLimit, attributeLimit}
 use Rattle.schema.specs.Layout.{headerSize, half, textLimit, textSize}
 use Rattle.schema.specs.Rows.{column}
 use Rattle.acl.specs.declared.Entry.{Entry}
+use Rattle.acl.specs.Access.{grantsOf, tableOk}
 use Rattle.values.specs.Fresh.{freshValues}
-use Rattle.server.specs.declared.State.{State}
+use Rattle.replies.specs.Sign.{State, Sign, Caller}
 use Rattle.server.specs.Start.{freshRow}
 
 -- readable with View, writable with Operate: the traits of a kind, 0 boolean, 1 unsigned, 2 signed, 3 float, 4 text
@@ -66,4 +67,12 @@ unfoldable pub access : List Entry
 access = operator ∷ []
 
 unfoldable pub fresh : State
-fresh = record { values = freshValues words; row = freshRow }
+fresh = record { values = freshValues words; edits = edits; row = freshRow }
+
+-- the sign as it is lent to a call
+abbrev pub signAt : State → Sign
+signAt s = record { schema = words; defaults = defaults; state = s }
+
+-- subject 1 calls
+abbrev pub caller : Caller
+caller = record { subject = 1; grants = grantsOf access 1 words; table = tableOk access }

@@ -11,23 +11,23 @@ use Rattle.tlv.specs.declared.Value.the-variants.{Signed, Float, Text}
 use Rattle.interaction_writer.specs.Envelope.{panelEdition, exchangeLimit}
 use Rattle.envelope.specs.Envelope.{envelopeLength, maxMessage}
 use Rattle.schema.specs.Layout.{textSize}
-use Rattle.acl.specs.Access.{grantsOf, tableOk}
+use Rattle.acl.specs.Access.{tableOk}
 use Rattle.exchange.specs.Rules.{firstReply, maxTurn}
 use Rattle.cached.specs.Limits as Panel
-use Rattle.server.specs.declared.State.{State}
+use Rattle.replies.specs.Sign.{State, Reaction}
 use Rattle.server.specs.State.{signRight}
-use Rattle.server.specs.Receive.{Reaction, received}
-use Rattle.server.specs.Start.{Altered, started, alteredBy}
-use Rattle.specimens.specs.Sign.{words, defaults, edits, access, fresh}
+use Rattle.server.specs.Receive.{received}
+use Rattle.server.specs.Start.{started, alteredBy}
+use Rattle.specimens.specs.Sign.{words, defaults, edits, access, fresh, signAt, caller}
 use Rattle.specimens.specs.Messages.{request1, reply1, block2, payload3, minus128, minus129, envelope, id, idFFFD, asked, askedOfAny, reading, filter, filters, version, versionFFFFFFFF, block, report, firstPart, secondPart, status, writing, response, true-data, float-data, text-data, times, nested}
 
 -- a sign given a message by subject 1, with a buffer of full size
-abbrev pub given : List ℕ → State → List ℕ → Reaction
-given page s m = received words defaults page s (tableOk access) (grantsOf access 1 words) 1 m maxMessage
+abbrev pub given : State → List ℕ → Reaction
+given s m = received (signAt s) caller m maxMessage
 
 -- the fresh sign given a message
 abbrev pub after : List ℕ → Reaction
-after m = given edits fresh m
+after m = given fresh m
 
 -- the line printed for an answer: the number, then the reply
 abbrev pub shown : Reaction → List ℕ
@@ -37,33 +37,33 @@ abbrev pub line : List ℕ → List ℕ
 line m = shown (after m)
 
 -- a local change at the fresh sign's endpoint 1, to a value whose text, if it is one, lies in src
-abbrev pub changed : ℕ → ℕ → List ℕ → Value → Altered
-changed cluster attribute src new = alteredBy words defaults edits fresh 1 cluster attribute src new
+abbrev pub changed : ℕ → ℕ → List ℕ → Value → Reaction
+changed cluster attribute src new = alteredBy (signAt fresh) 1 cluster attribute src new
 
 -- the line for a message given after it
-abbrev pub lineThen : Altered → List ℕ → List ℕ
-lineThen x m = shown (given (x .edits) (x .state) m)
+abbrev pub lineThen : Reaction → List ℕ → List ℕ
+lineThen x m = shown (given (x .state) m)
 
 -- the data version of the cluster at a place of the list of clusters
 abbrev pub versionOf : ℕ → State → ℕ
 versionOf k s = getD (s .values .versions) k 0
 
 -- refused with a status: nothing touched
-abbrev pub untouched : ℕ → Altered
-untouched code = record { number = code; state = fresh; edits = edits }
+abbrev pub untouched : ℕ → Reaction
+untouched code = record { number = code; state = fresh; reply = [] }
 
 -- the signed attribute, of cluster 6, at -129
-abbrev pub to-129 : Altered
+abbrev pub to-129 : Reaction
 to-129 = changed 6 1 [] (Signed (negsuc 128))
 
 -- the float and the text, of cluster 8: the float by its bits, the text n bytes that are each 41
-abbrev pub toFloat : ℕ → Altered
+abbrev pub toFloat : ℕ → Reaction
 toFloat bits = changed 8 0 [] (Float bits)
 
 abbrev pub bytes : ℕ → List ℕ
 bytes n = replicate n 0x41
 
-abbrev pub toText : ℕ → Altered
+abbrev pub toText : ℕ → Reaction
 toText n = changed 8 1 (bytes n) (Text 0 n)
 
 -- 1.0
@@ -72,15 +72,15 @@ one = 0x3F80_0000
 
 -- A READ OF TWO PARTS: the text of 200 bytes five times, of which a part has room for four, then the boolean of cluster 6, with a filter for that cluster
 abbrev pub begun : ℕ → Reaction
-begun v = given (toText 200 .edits) (toText 200 .state) (reading (times 5 (asked 8 (id 1)) ++ asked 6 (id 0)) (filters (filter v)))
+begun v = given (toText 200 .state) (reading (times 5 (asked 8 (id 1)) ++ asked 6 (id 0)) (filters (filter v)))
 
 -- between the parts cluster 6 goes from version 5 to 6
-abbrev pub moved : Reaction → Altered
-moved x = alteredBy words defaults (x .edits) (x .state) 1 6 1 [] (Signed (negsuc 128))
+abbrev pub moved : Reaction → Reaction
+moved x = alteredBy (signAt (x .state)) 1 6 1 [] (Signed (negsuc 128))
 
 -- the second part, without that change and with it
 abbrev pub standing : ℕ → List ℕ
-standing v = shown (given (begun v .edits) (begun v .state) (status 0x00))
+standing v = shown (given (begun v .state) (status 0x00))
 
 abbrev pub altering : ℕ → List ℕ
 altering v = lineThen (moved (begun v)) (status 0x00)
@@ -90,8 +90,8 @@ texts n = times n (block (version 0) 8 (id 1) (text-data 200 (bytes 200)))
 
 pub record All : Type 0 where
   -- the sign is one that `start` makes, its state keeps the rules, and so does its access table
-  pub made : started words defaults ≡ record { number = 0; state = fresh }
-  pub right : signRight words defaults edits fresh ≡ true
+  pub made : started words defaults edits ≡ untouched 0
+  pub right : signRight (signAt fresh) ≡ true
   pub table : tableOk access ≡ true
   -- the frames are those of S1
   pub framed : reading (asked 6 (id 0)) [] ≡ request1
@@ -124,7 +124,7 @@ pub record All : Type 0 where
   pub s8 : line (writing 6 (id 0) true-data) ≡ 0 ∷ response 6 (id 0) 0x00
   pub s8-version : versionOf 0 (after (writing 6 (id 0) true-data) .state) ≡ 5
   pub s8-values : after (writing 6 (id 0) true-data) .state .values ≡ fresh .values
-  pub s8-page : after (writing 6 (id 0) true-data) .edits ≡ edits
+  pub s8-page : after (writing 6 (id 0) true-data) .state .edits ≡ edits
   -- "S9. A change at version FFFFFFFF leaves 0."
   pub s9-from : versionOf 1 fresh ≡ 0xFFFF_FFFF
   pub s9-number : toFloat one .number ≡ 0x00

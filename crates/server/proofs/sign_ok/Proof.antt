@@ -10,19 +10,19 @@ columns-right-requires : tie.Need-columns-right-requires
 columns-right-requires c κs = search needs
 
 returns : tie.Need-returns
-returns c = λ versions row kept. fails _ _ (sym (c .before .columns-right .ensures) ∙ not-true _ (c .if1 .taken)) ∙ sym (as-tested _ _ _ _)
+returns c = λ versions row kept. fails _ _ (sym (c .before .columns-right .ensures) ∙ not-true _ (c .if1 .taken)) ∙ sym (as-tested _)
 
 values-ok-requires : tie.Need-values-ok-requires
 values-ok-requires c κs = search needs
 
 returns-2 : tie.Need-returns-2
-returns-2 c = λ versions row kept. fails _ _ (sym (c .before .values-ok .ensures) ∙ not-true _ (c .if2 .taken)) ∙ past _ _ (sym (c .before .before .before .columns-right .ensures) ∙ not-false _ (c .before .before .if1 .left)) ∙ sym (as-tested _ _ _ _)
+returns-2 c = λ versions row kept. fails _ _ (sym (c .before .values-ok .ensures) ∙ not-true _ (c .if2 .taken)) ∙ past _ _ (sym (c .before .before .before .columns-right .ensures) ∙ not-false _ (c .before .before .if1 .left)) ∙ sym (as-tested _)
 
 row-ok-requires : tie.Need-row-ok-requires
 row-ok-requires c κs = search needs
 
 returns-3 : tie.Need-returns-3
-returns-3 c = λ versions row kept. c .row-ok .ensures row kept ∙ past _ _ (sym (c .before .before .values-ok .ensures) ∙ not-false _ (c .before .if2 .left)) ∙ past _ _ (sym (c .before .before .before .before .columns-right .ensures) ∙ not-false _ (c .before .before .before .if1 .left)) ∙ sym (as-tested _ _ _ _)
+returns-3 c = λ versions row kept. c .row-ok .ensures row kept ∙ past _ _ (sym (c .before .before .values-ok .ensures) ∙ not-false _ (c .before .if2 .left)) ∙ past _ _ (sym (c .before .before .before .before .columns-right .ensures) ∙ not-false _ (c .before .before .before .if1 .left)) ∙ sym (as-tested _)
 
 pub sign-ok-spec : {M : Type 1} → statement M
 sign-ok-spec =

@@ -8,9 +8,10 @@ use Rattle.exchange.specs.Rules.{firstReply}
 use Rattle.selection.specs.Request.{filtersAt, standingAt}
 use Rattle.selection.specs.Filters.{filterWords}
 use Rattle.selection.proofs.RequestLaws.{filters-length}
-use Rattle.values.specs.Values.{valuesOf}
+use Rattle.writes.specs.Offer.{heldOf}
 use Rattle.report.specs.declared.part.Request.{Request}
 use Rattle.replies.specs.declared.Row.{Row}
+use Rattle.replies.specs.Sign.{signWith}
 use Rattle.replies.specs.Row.{rowIn, requestIn, keeping, blocksOf, putRequest}
 use Rattle.replies.specs.Refusal.{readAsks}
 use Rattle.replies.specs.Begin.{once, refusalOf, beginningPlace, requestOf}
@@ -61,7 +62,7 @@ same-length : tie.Need-same-length
 same-length c = search needs
 
 returns : tie.Need-returns
-returns c = let a = c .before .before .before .before .before .before .before .before .before .before .before .before .before .before .args in let f = c .before .before .refuse .ensures (a .row .now) in begins-same (f .0 ∙ ap (λ n. once (rowIn (a .row .now) (a .t) (a .kept .now)) (a .exchange) (refusalOf (a .exchange) n)) (c .before .before .before .before .before .before .refusal-code .ensures) ∙ sym (read-refused (a .payload .now) (c .before .before .before .before .before .before .before .before .before .read-request .ensures) (a .w .now) (valuesOf (a .words .now) (a .nulls .now) (a .texts .now) (a .versions .now)) (a .defaults .now) (a .edits .now) (a .g) (rowIn (a .row .now) (a .t) (a .kept .now)) (a .exchange) (λ z. c .before .before .before .before .before .if1 .taken (c .before .before .before .before .before .before .refusal-code .ensures ∙ z)))) (f .1)
+returns c = let a = c .before .before .before .before .before .before .before .before .before .before .before .before .before .before .args in let f = c .before .before .refuse .ensures (a .row .now) in begins-same (f .0 ∙ ap (λ n. once (rowIn (a .row .now) (a .t) (a .kept .now)) (a .exchange) (refusalOf (a .exchange) n)) (c .before .before .before .before .before .before .refusal-code .ensures) ∙ sym (read-refused (a .payload .now) (c .before .before .before .before .before .before .before .before .before .read-request .ensures) (signWith (a .w .now) (a .defaults .now) (heldOf (a .words .now) (a .nulls .now) (a .texts .now) (a .versions .now) (a .edits .now)) (rowIn (a .row .now) (a .t) (a .kept .now))) (a .g) (a .exchange) (λ z. c .before .before .before .before .before .if1 .taken (c .before .before .before .before .before .before .refusal-code .ensures ∙ z)))) (f .1)
 
 put-paths-requires : tie.Need-put-paths-requires
 put-paths-requires c κs = search needs
@@ -98,12 +99,12 @@ unfolding keeping
 returns-2 c =
     let a = c .before .before .before .before .before .before .before .before .before .before .before .before .before .before .before .before .before .before .before .before .before .before .before .before .before .before .args in
     let room = c .before .before .before .before .before .before .before .before .before .before .before .before .before .before .before .before .before .before .before .before .before .before .before .before .before .before .pre .1 .1 in
-    let v = valuesOf (a .words .now) (a .nulls .now) (a .texts .now) (a .versions .now) in
     let x = rowIn (a .row .now) (a .t) (a .kept .now) in
+    let u = signWith (a .w .now) (a .defaults .now) (heldOf (a .words .now) (a .nulls .now) (a .texts .now) (a .versions .now) (a .edits .now)) x in
     let e = c .before .before .before .before .before .before .before .before .before .before .before .before .before .before .before .before .before .before .before .before .before .read-request .ensures in
     let q : Request = requestOf (a .w .now) (c .before .before .before .before .before .before .before .before .before .before .before .before .before .before .before .before .before .before .before .before .before .read-request .result) in
-    let y = read-answered (a .payload .now) e (a .w .now) v (a .defaults .now) (a .edits .now) (a .g) x (a .exchange) (sym (c .before .before .before .before .before .before .before .before .before .before .before .before .before .before .before .before .before .before .refusal-code .ensures) ∙ c .before .before .before .before .before .before .before .before .before .before .before .before .before .before .before .before .before .if1 .left) in
-    let s = sent-of (ap (λ (p : Request). blocksOf (a .w .now) v (a .defaults .now) (a .edits .now) (a .g) p beginningPlace) (kept-request (c .before .before .before .before .before .before .before .before .before .before .before))) (c .before .before .before .before .before .before .before .before .put-part .ensures) in
+    let y = read-answered (a .payload .now) e u (a .g) (a .exchange) (sym (c .before .before .before .before .before .before .before .before .before .before .before .before .before .before .before .before .before .before .refusal-code .ensures) ∙ c .before .before .before .before .before .before .before .before .before .before .before .before .before .before .before .before .before .if1 .left) in
+    let s = sent-of (ap (λ (p : Request). blocksOf u (a .g) p beginningPlace) (kept-request (c .before .before .before .before .before .before .before .before .before .before .before))) (c .before .before .before .before .before .before .before .before .put-part .ensures) in
     let f = c .before .before .before .before .before .before .before .before .put-part .result in
     let g = part-given x (c .before .keep .ensures .1) s room q
     (λ j. record { progress = record { last = a .exchange; turn = firstReply; next = c .next-of .ensures j; closed = 0 }; request = kept-request (c .before .before .before .before .before .before .before .before .before .before .before) j; place = f .place; kept = c .before .keep .ensures .0 j; len = report-end s room j }) in

@@ -7,8 +7,9 @@ use lib.ListN.{length}
 use Rattle.octets.specs.Store.{Stored}
 use Rattle.interaction_writer.specs.Envelope.{panelEdition}
 use Rattle.exchange.specs.Rules.{firstReply}
-use Rattle.writes.specs.Offer.{Held, heldOf}
+use Rattle.writes.specs.Offer.{heldOf}
 use Rattle.writes.specs.Entry.{codesOf}
+use Rattle.replies.specs.Sign.{Sign, signWith}
 use Rattle.replies.specs.Row.{rowIn}
 use Rattle.replies.specs.Refusal.{writeAsks}
 use Rattle.replies.specs.Begin.{answered, entriesOf, once, refusalOf}
@@ -26,7 +27,7 @@ sent : (c : tie.After-put-statuses) →
     Stored (a .out .now) 0 (responseMessage panelEdition (a .exchange) firstReply (entriesOf r) (codesOf (a .w .now) (a .g) (a .defaults .now) (a .payload .now) (heldOf (a .words .now) (a .nulls .now) (a .texts .now) (a .versions .now) (a .edits .now)) (entriesOf r))) (c .put-statuses .last .1 .1 .1 .0) (c .put-statuses .result)
 sent c =
     let a = c .before .before .before .before .before .before .before .before .before .before .before .before .before .before .before .before .before .before .before .before .before .args in
-    response-sent (a .payload .now) (c .before .before .before .before .before .before .before .before .before .before .before .before .before .before .before .before .write-request .ensures) (a .w .now) (a .g) (a .defaults .now) (heldOf (a .words .now) (a .nulls .now) (a .texts .now) (a .versions .now) (a .edits .now)) (rowIn [] (a .t) (a .kept .now)) (a .exchange) (sym (c .before .before .before .before .before .before .before .before .before .before .before .before .before .before .refusal-code .ensures) ∙ c .before .before .before .before .before .before .before .before .before .before .before .before .before .if1 .left) (c .before .before .before .before .before .before .write-all .ensures .1) (c .put-statuses .ensures)
+    response-sent (a .payload .now) (c .before .before .before .before .before .before .before .before .before .before .before .before .before .before .before .before .write-request .ensures) (signWith (a .w .now) (a .defaults .now) (heldOf (a .words .now) (a .nulls .now) (a .texts .now) (a .versions .now) (a .edits .now)) (rowIn [] (a .t) (a .kept .now))) (a .g) (a .exchange) (sym (c .before .before .before .before .before .before .before .before .before .before .before .before .before .before .refusal-code .ensures) ∙ c .before .before .before .before .before .before .before .before .before .before .before .before .before .if1 .left) (c .before .before .before .before .before .before .write-all .ensures .1) (c .put-statuses .ensures)
 
 short : (c : tie.After-put-statuses) →
     let a = c .before .before .before .before .before .before .before .before .before .before .before .before .before .before .before .before .before .before .before .before .before .args in
@@ -34,7 +35,7 @@ short : (c : tie.After-put-statuses) →
     length (responseMessage panelEdition (a .exchange) firstReply (entriesOf r) (codesOf (a .w .now) (a .g) (a .defaults .now) (a .payload .now) (heldOf (a .words .now) (a .nulls .now) (a .texts .now) (a .versions .now) (a .edits .now)) (entriesOf r))) ≤ maxMessage
 short c =
     let a = c .before .before .before .before .before .before .before .before .before .before .before .before .before .before .before .before .before .before .before .before .before .args in
-    response-short (a .payload .now) (c .before .before .before .before .before .before .before .before .before .before .before .before .before .before .before .before .write-request .ensures) (a .w .now) (a .g) (a .defaults .now) (heldOf (a .words .now) (a .nulls .now) (a .texts .now) (a .versions .now) (a .edits .now)) (rowIn [] (a .t) (a .kept .now)) (a .exchange) (sym (c .before .before .before .before .before .before .before .before .before .before .before .before .before .before .refusal-code .ensures) ∙ c .before .before .before .before .before .before .before .before .before .before .before .before .before .if1 .left)
+    response-short (a .payload .now) (c .before .before .before .before .before .before .before .before .before .before .before .before .before .before .before .before .write-request .ensures) (signWith (a .w .now) (a .defaults .now) (heldOf (a .words .now) (a .nulls .now) (a .texts .now) (a .versions .now) (a .edits .now)) (rowIn [] (a .t) (a .kept .now))) (a .g) (a .exchange) (sym (c .before .before .before .before .before .before .before .before .before .before .before .before .before .before .refusal-code .ensures) ∙ c .before .before .before .before .before .before .before .before .before .before .before .before .before .if1 .left)
 
 write-request-requires : tie.Need-write-request-requires
 write-request-requires c κs = search needs
@@ -49,7 +50,7 @@ same-length : tie.Need-same-length
 same-length c = search needs
 
 returns : tie.Need-returns
-returns c = let a = c .before .before .before .before .before .before .before .before .before .before .before .before .before .args in λ row. wrote-refused (a .payload .now) (c .before .before .before .before .before .before .before .before .write-request .ensures) (a .w .now) (a .g) (a .defaults .now) (heldOf (a .words .now) (a .nulls .now) (a .texts .now) (a .versions .now) (a .edits .now)) (rowIn row (a .t) (a .kept .now)) (a .exchange) (λ z. c .before .before .before .before .before .if1 .taken (c .before .before .before .before .before .before .refusal-code .ensures ∙ z)) (let f = c .before .before .refuse .ensures row in (f .0 ∙ ap (λ n. once (rowIn row (a .t) (a .kept .now)) (a .exchange) (refusalOf (a .exchange) n)) (c .before .before .before .before .before .before .refusal-code .ensures), f .1))
+returns c = let a = c .before .before .before .before .before .before .before .before .before .before .before .before .before .args in λ row. wrote-refused (a .payload .now) (c .before .before .before .before .before .before .before .before .write-request .ensures) (signWith (a .w .now) (a .defaults .now) (heldOf (a .words .now) (a .nulls .now) (a .texts .now) (a .versions .now) (a .edits .now)) (rowIn row (a .t) (a .kept .now))) (a .g) (a .exchange) (λ z. c .before .before .before .before .before .if1 .taken (c .before .before .before .before .before .before .refusal-code .ensures ∙ z)) (let f = c .before .before .refuse .ensures row in (f .0 ∙ ap (λ n. once (rowIn row (a .t) (a .kept .now)) (a .exchange) (refusalOf (a .exchange) n)) (c .before .before .before .before .before .before .refusal-code .ensures), f .1))
 
 write-all-requires : tie.Need-write-all-requires
 write-all-requires c κs = let p = c .before .before .before .before .before .before .before .before .before .before .before .before .before .before .pre in let e = c .before .before .before .before .before .before .before .before .before .write-request .ensures in (p .0, (refusal-none (writeAsks (c .before .before .before .before .before .before .before .before .before .write-request .result)) (sym (c .before .before .before .before .before .before .before .refusal-code .ensures) ∙ c .before .before .before .before .before .before .if1 .left) .writes, ((λ i l. writes-wide (c .before .before .before .before .before .before .before .before .before .before .before .before .before .before .args .payload .now) e i), p .1 .0)))
@@ -73,8 +74,8 @@ same-length-3 : tie.Need-same-length-3
 same-length-3 c = search needs
 
 returns-2 : tie.Need-returns-2
-returns-2 c = let a = c .before .before .before .before .before .before .before .before .before .before .before .before .before .before .before .before .before .before .before .before .before .before .before .args in let e = c .before .before .before .before .before .before .before .before .before .before .before .before .before .before .before .before .before .before .write-request .ensures in let h : Held = heldOf (a .words .now) (a .nulls .now) (a .texts .now) (a .versions .now) (a .edits .now) in let k = c .once-kept .ensures in λ row. let x = rowIn row (a .t) (a .kept .now) in
-    wrote-done (a .payload .now) e (a .w .now) (a .g) (a .defaults .now) h x (a .exchange) (sym (c .before .before .before .before .before .before .before .before .before .before .before .before .before .before .before .before .refusal-code .ensures) ∙ c .before .before .before .before .before .before .before .before .before .before .before .before .before .before .before .if1 .left) (c .before .before .before .before .before .before .before .before .write-all .ensures .0) (silent (a .payload .now) e (a .w .now) (a .g) (a .defaults .now) h x (a .exchange) (c .before .before .before .before .if2 .taken))
+returns-2 c = let a = c .before .before .before .before .before .before .before .before .before .before .before .before .before .before .before .before .before .before .before .before .before .before .before .args in let e = c .before .before .before .before .before .before .before .before .before .before .before .before .before .before .before .before .before .before .write-request .ensures in let k = c .once-kept .ensures in λ row. let x = rowIn row (a .t) (a .kept .now) in let u : Sign = signWith (a .w .now) (a .defaults .now) (heldOf (a .words .now) (a .nulls .now) (a .texts .now) (a .versions .now) (a .edits .now)) x in
+    wrote-done (a .payload .now) e u (a .g) (a .exchange) (sym (c .before .before .before .before .before .before .before .before .before .before .before .before .before .before .before .before .refusal-code .ensures) ∙ c .before .before .before .before .before .before .before .before .before .before .before .before .before .before .before .if1 .left) (c .before .before .before .before .before .before .before .before .write-all .ensures .0) (silent (a .payload .now) e u (a .g) (a .exchange) (c .before .before .before .before .if2 .taken))
     (k .0 row, (nothing-given x (k .1) (answered (a .exchange)) (x .request) (x .place) (a .out .now) (k .0 row), kept-full x (k .1) (answered (a .exchange)) (x .request) (x .place) [] (omega arith) (k .0 row)))
 
 cast-put-statuses : tie.Need-cast-put-statuses
@@ -102,8 +103,8 @@ same-length-5 : tie.Need-same-length-5
 same-length-5 c = search needs
 
 returns-3 : tie.Need-returns-3
-returns-3 c = let a = c .before .before .before .before .before .before .before .before .before .before .before .before .before .before .before .before .before .before .before .before .before .before .before .before .before .before .before .args in let e = c .before .before .before .before .before .before .before .before .before .before .before .before .before .before .before .before .before .before .before .before .before .before .write-request .ensures in let h : Held = heldOf (a .words .now) (a .nulls .now) (a .texts .now) (a .versions .now) (a .edits .now) in let k = c .once-kept2 .ensures in λ row. let x = rowIn row (a .t) (a .kept .now) in
-    wrote-done (a .payload .now) e (a .w .now) (a .g) (a .defaults .now) h x (a .exchange) (sym (c .before .before .before .before .before .before .before .before .before .before .before .before .before .before .before .before .before .before .before .before .refusal-code .ensures) ∙ c .before .before .before .before .before .before .before .before .before .before .before .before .before .before .before .before .before .before .before .if1 .left) (c .before .before .before .before .before .before .before .before .before .before .before .before .write-all .ensures .0) (spoken (a .payload .now) e (a .w .now) (a .g) (a .defaults .now) h x (a .exchange) (c .before .before .before .before .before .before .before .before .if2 .left))
+returns-3 c = let a = c .before .before .before .before .before .before .before .before .before .before .before .before .before .before .before .before .before .before .before .before .before .before .before .before .before .before .before .args in let e = c .before .before .before .before .before .before .before .before .before .before .before .before .before .before .before .before .before .before .before .before .before .before .write-request .ensures in let k = c .once-kept2 .ensures in λ row. let x = rowIn row (a .t) (a .kept .now) in let u : Sign = signWith (a .w .now) (a .defaults .now) (heldOf (a .words .now) (a .nulls .now) (a .texts .now) (a .versions .now) (a .edits .now)) x in
+    wrote-done (a .payload .now) e u (a .g) (a .exchange) (sym (c .before .before .before .before .before .before .before .before .before .before .before .before .before .before .before .before .before .before .before .before .refusal-code .ensures) ∙ c .before .before .before .before .before .before .before .before .before .before .before .before .before .before .before .before .before .before .before .if1 .left) (c .before .before .before .before .before .before .before .before .before .before .before .before .write-all .ensures .0) (spoken (a .payload .now) e u (a .g) (a .exchange) (c .before .before .before .before .before .before .before .before .if2 .left))
     (both-given x (k .1) (answered (a .exchange)) (x .request) (x .place) (sent (c .before .before .before .before .before .before)) (short (c .before .before .before .before .before .before)) (c .before .before .before .before .before .before .before .before .before .before .before .before .before .before .before .before .before .before .before .before .before .before .before .before .before .before .before .pre .1 .1 .1) (k .0 row))
 
 pub begin-write-spec : {M : Type 1} → statement M

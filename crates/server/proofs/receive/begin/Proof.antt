@@ -1,8 +1,10 @@
 use mathlib.Core.Path.{_≡_, refl, sym}
 use borrow.Author.Needs.{needs}
-use Rattle.values.specs.Values.{valuesOf}
+use Rattle.writes.specs.Offer.{heldOf}
+use Rattle.replies.specs.Sign.{stateWith, signWith}
 use Rattle.replies.specs.Row.{rowIn}
-use Rattle.server.specs.State.{stateIn}
+use Rattle.replies.specs.Begin.{readBegun}
+use Rattle.server.specs.State.{signIn}
 use Rattle.server.proofs.ReactLaws.{begins-as, wrote-as, silence-as}
 use Rattle.server.proofs.ReceiveLaws.{right-schema, right-size}
 use Rattle.server.proofs.receive.begin.Statement.{statement}
@@ -12,7 +14,7 @@ enum-told : tie.Need-enum-told
 enum-told c = search needs
 
 begin-read-requires : tie.Need-begin-read-requires
-begin-read-requires c κs = let a = c .before .before .before .before .before .before .before .before .before .before .before .before .before .before .args in let p = c .before .before .before .before .before .before .before .before .before .before .before .before .before .before .pre in (right-schema (a .w .now) (a .defaults .now) (a .edits .now) (stateIn (valuesOf (a .words .now) (a .nulls .now) (a .texts .now) (a .versions .now)) (a .row .now) (a .kept .now)) (p .1 .0), (p .1 .1 .0, p .1 .1 .1))
+begin-read-requires c κs = let a = c .before .before .before .before .before .before .before .before .before .before .before .before .before .before .args in let p = c .before .before .before .before .before .before .before .before .before .before .before .before .before .before .pre in (right-schema (signIn (a .w .now) (a .defaults .now) (heldOf (a .words .now) (a .nulls .now) (a .texts .now) (a .versions .now) (a .edits .now)) (a .row .now) (a .kept .now)) (p .1 .0), (p .1 .1 .0, p .1 .1 .1))
 
 put-standing-requires : tie.Need-put-standing-requires
 put-standing-requires c κs = search needs
@@ -28,13 +30,13 @@ same-length-2 c = search needs
 
 returns : tie.Need-returns
 returns c = let a = c .before .before .before .before .before .before .before .before .before .before .before .before .before .before .before .before .before .before .before .before .args in
-    rw (c .before .before .before .before .before .before .before .before .before .before .before .before .before .before .enum-told .given .1, sym (c .before .before .before .before .before .before .before .before .before .before .before .before .before .before .before .before .before .before .before .before .pre .0)) (begins-as (record { values = (valuesOf (a .words .now) (a .nulls .now) (a .texts .now) (a .versions .now)); row = rowIn (a .row .now) (a .t) (a .kept .now) }) (a .edits .now) (c .before .before .before .before .before .begin-read .ensures) (c .answer .ensures) refl (c .before .put-standing .ensures))
+    rw (c .before .before .before .before .before .before .before .before .before .before .before .before .before .before .enum-told .given .1, sym (c .before .before .before .before .before .before .before .before .before .before .before .before .before .before .before .before .before .before .before .before .pre .0)) (begins-as (stateWith (heldOf (a .words .now) (a .nulls .now) (a .texts .now) (a .versions .now) (a .edits .now)) (readBegun (signWith (a .w .now) (a .defaults .now) (heldOf (a .words .now) (a .nulls .now) (a .texts .now) (a .versions .now) (a .edits .now)) (rowIn (a .row .now) (a .t) (a .kept .now))) (a .g) (a .e .exchange) (a .payload .now))) (c .before .before .before .before .before .begin-read .ensures) (c .answer .ensures) refl (c .before .put-standing .ensures))
 
 enum-told-2 : tie.Need-enum-told-2
 enum-told-2 c = search needs
 
 begin-write-requires : tie.Need-begin-write-requires
-begin-write-requires c κs = let a = c .before .before .before .before .before .before .before .before .before .before .before .before .before .args in let p = c .before .before .before .before .before .before .before .before .before .before .before .before .before .pre in (right-schema (a .w .now) (a .defaults .now) (a .edits .now) (stateIn (valuesOf (a .words .now) (a .nulls .now) (a .texts .now) (a .versions .now)) (a .row .now) (a .kept .now)) (p .1 .0), (right-size (a .w .now) (a .defaults .now) (a .edits .now) (stateIn (valuesOf (a .words .now) (a .nulls .now) (a .texts .now) (a .versions .now)) (a .row .now) (a .kept .now)) (p .1 .0), (p .1 .1 .0, p .1 .1 .1)))
+begin-write-requires c κs = let a = c .before .before .before .before .before .before .before .before .before .before .before .before .before .args in let p = c .before .before .before .before .before .before .before .before .before .before .before .before .before .pre in (right-schema (signIn (a .w .now) (a .defaults .now) (heldOf (a .words .now) (a .nulls .now) (a .texts .now) (a .versions .now) (a .edits .now)) (a .row .now) (a .kept .now)) (p .1 .0), (right-size (signIn (a .w .now) (a .defaults .now) (heldOf (a .words .now) (a .nulls .now) (a .texts .now) (a .versions .now) (a .edits .now)) (a .row .now) (a .kept .now)) (p .1 .0), (p .1 .1 .0, p .1 .1 .1)))
 
 put-standing-requires-2 : tie.Need-put-standing-requires-2
 put-standing-requires-2 c κs = search needs
@@ -59,7 +61,7 @@ answer-requires-3 : tie.Need-answer-requires-3
 answer-requires-3 c κs = search needs
 
 returns-3 : tie.Need-returns-3
-returns-3 c = let a = c .before .before .before .before .before .before .before .args in rw (c .before .enum-told3 .given .1) (silence-as (valuesOf (a .words .now) (a .nulls .now) (a .texts .now) (a .versions .now)) (a .edits .now) (a .row .now) (a .kept .now) (c .answer3 .ensures) refl)
+returns-3 c = let a = c .before .before .before .before .before .before .before .args in rw (c .before .enum-told3 .given .1) (silence-as (heldOf (a .words .now) (a .nulls .now) (a .texts .now) (a .versions .now) (a .edits .now)) (a .row .now) (a .kept .now) (c .answer3 .ensures) refl)
 
 enum-told-4 : tie.Need-enum-told-4
 enum-told-4 c = search needs
@@ -68,7 +70,7 @@ answer-requires-4 : tie.Need-answer-requires-4
 answer-requires-4 c κs = search needs
 
 returns-4 : tie.Need-returns-4
-returns-4 c = let a = c .before .before .before .before .before .before .before .args in rw (c .before .enum-told4 .given .1) (silence-as (valuesOf (a .words .now) (a .nulls .now) (a .texts .now) (a .versions .now)) (a .edits .now) (a .row .now) (a .kept .now) (c .answer4 .ensures) refl)
+returns-4 c = let a = c .before .before .before .before .before .before .before .args in rw (c .before .enum-told4 .given .1) (silence-as (heldOf (a .words .now) (a .nulls .now) (a .texts .now) (a .versions .now) (a .edits .now)) (a .row .now) (a .kept .now) (c .answer4 .ensures) refl)
 
 pub begin-spec : {M : Type 1} → statement M
 begin-spec =

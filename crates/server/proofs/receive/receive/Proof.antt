@@ -59,9 +59,8 @@ use Rattle.acl.proofs.table.search as search
 use Rattle.acl.proofs.table.search.Symbol as search-def
 use Rattle.acl.proofs.table.search.Symbol.{name as #search}
 use Rattle.acl.proofs.table.search.Met as search-thm
-use Rattle.values.specs.Values.{valuesOf}
 use Rattle.writes.specs.Offer.{heldOf}
-use Rattle.server.specs.State.{stateIn}
+use Rattle.server.specs.State.{signIn}
 use Rattle.server.specs.Receive.{received, Reacted}
 use Rattle.server.specs.declared.Outcome.{Outcome}
 use Rattle.server.proofs.Outcome as N
@@ -247,7 +246,7 @@ module _ {M : Type 1} (𝓤 : URA M) (H : Heap 𝓤) (A : Atoms 𝓤) (W : Given
   Last = Lasts serve.ended κs′ passing
 
   abbrev Said : Outcome → Last → Type 0
-  Said r zs = Reacted (received (w .now) (d .now) (e .now) (stateIn (valuesOf (v .now) (n .now) (f .now) (c .now)) (x .now) (k .now)) (tableOk (t .now)) (grantsOf (t .now) s (w .now)) s (m .now) (length (o .now)))
+  Said r zs = Reacted (received (signIn (w .now) (d .now) (heldOf (v .now) (n .now) (f .now) (c .now) (e .now)) (x .now) (k .now)) (record { subject = s; grants = grantsOf (t .now) s (w .now); table = tableOk (t .now) }) (m .now) (length (o .now)))
       r (heldOf (zs .1 .1 .1 .0) (zs .1 .1 .1 .1 .0) (zs .1 .1 .1 .1 .1 .0) (zs .1 .1 .1 .1 .1 .1 .0) (zs .1 .1 .0)) (x .now) (zs .1 .1 .1 .1 .1 .1 .1 .0) (zs .1 .1 .1 .1 .1 .1 .1 .1 .0) (o .now) (zs .1 .1 .1 .1 .1 .1 .1 .1 .1 .1 .1 .1 .1 .0)
 
   exits : (r : Outcome) (u : Val) (zs : Last) → Said r zs → ent 𝓤 (⋆ 𝓤 H A (‵ (N.the-row .own r (u ∷ [])) ∷ tokens ∷ ‵ (lasts serve.ended κs′ passing zs) ∷ ‵ (flft κ₈ q₈) ∷ [])) (Post u)
