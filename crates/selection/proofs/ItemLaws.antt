@@ -20,7 +20,7 @@ use Rattle.selection.specs.declared.locate.Located.the-variants.{Here, R
 use Rattle.selection.specs.Status.{unsupportedRead, unsupportedAccess}
 use Rattle.selection.specs.Locate.{located}
 use Rattle.selection.specs.Asked.{asksFor, concrete}
-use Rattle.selection.specs.declared.reach.Action.the-variants.{Read}
+use Rattle.selection.specs.declared.reach.Use.the-variants.{Read}
 use Rattle.selection.specs.Reach.{allowed, reached}
 use Rattle.selection.specs.Items.{foundItem, readItem, silent, concreteItem, wildcardItem, span, itemAt}
 use Rattle.selection.proofs.LocateLaws.{located-here}

@@ -1,4 +1,4 @@
--- Which attribute an action may use: test by test as the code asks, what is reached stands in the tables, and a refusal is an octet.
+-- Which attribute may be read or written: test by test as the code asks, what is reached stands in the tables, and a refusal is an octet.
 use mathlib.Core.Path.{_≡_, refl, ap, subst}
 use mathlib.Core.Bool.{Bool, true, false}
 use mathlib.Core.List.{List}
@@ -19,8 +19,8 @@ use Rattle.acl.specs.declared.Grants.{Grants}
 use Rattle.acl.specs.Access.{isGranted}
 use Rattle.selection.specs.declared.locate.Located.{Located}
 use Rattle.selection.specs.declared.locate.Located.the-variants.{Here, Refused}
-use Rattle.selection.specs.declared.reach.Action.{Action}
-use Rattle.selection.specs.declared.reach.Action.the-variants.{Read, Write}
+use Rattle.selection.specs.declared.reach.Use.{Use}
+use Rattle.selection.specs.declared.reach.Use.the-variants.{Read, Write}
 use Rattle.selection.specs.Status.{unsupportedEndpoint, unsupportedAccess}
 use Rattle.selection.specs.Locate.{attributeFound, clusterFound, located}
 use Rattle.selection.specs.Reach.{needed, unsupported, allowed, andThen, reached, Within}
@@ -28,8 +28,8 @@ use Rattle.selection.proofs.LocateLaws.{located-here}
 
 -- ---- an attribute that is there, with the privilege and the cluster as the code has them
 
-module _ (x : Action) (w : List ℕ) (g : Grants) (i : ℕ) {need : ℕ} (n : need ≡ needed x (attributeRow w i)) where
-  -- it is not for this action: 8F or 88
+module _ (x : Use) (w : List ℕ) (g : Grants) (i : ℕ) {need : ℕ} (n : need ≡ needed x (attributeRow w i)) where
+  -- it is not for this use: 8F or 88
   pub not-for : need ≡ 0 → allowed x w g i ≡ Refused (unsupported x)
   unfolding allowed
   not-for z = rw (← n, eq-eqb need 0 z)
@@ -46,7 +46,7 @@ module _ (x : Action) (w : List ℕ) (g : Grants) (i : ℕ) {need : ℕ} (n : ne
 
 -- ---- what is allowed is that attribute, what is reached is what the path names, and both stand in the tables
 
-module _ (x : Action) (w : List ℕ) (g : Grants) where
+module _ (x : Use) (w : List ℕ) (g : Grants) where
   module _ (i j : ℕ) where
     pub allowed-here : allowed x w g i ≡ Here j → (i ≡ j) × (attributeRow w i .clusterIndex < clusterLimit)
     unfolding allowed isGranted
@@ -99,16 +99,16 @@ module _ (w : List ℕ) where
   located-octet e c a =
       pick-elim Octet (hasEndpoint w e) (clusterFound w a (findCluster w e c)) (Refused unsupportedEndpoint) (λ _. cluster-octet a (findCluster w e c)) (λ _. omega arith)
 
-  unsupported-octet : (x : Action) → unsupported x < 2 ^ 8
+  unsupported-octet : (x : Use) → unsupported x < 2 ^ 8
   unsupported-octet Read = omega arith
   unsupported-octet Write = omega arith
 
-  pub allowed-octet : (x : Action) (g : Grants) (i : ℕ) → Octet (allowed x w g i)
+  pub allowed-octet : (x : Use) (g : Grants) (i : ℕ) → Octet (allowed x w g i)
   unfolding allowed
   allowed-octet x g i =
       pick-elim Octet (eqb (needed x (attributeRow w i)) 0) _ _ (λ _. unsupported-octet x)
       (λ _. pick-elim Octet (isGranted g (attributeRow w i .clusterIndex) (needed x (attributeRow w i))) _ _ (λ _. tt) (λ _. omega arith))
 
-  pub reached-octet : (x : Action) (g : Grants) (e c a : ℕ) → Octet (reached x w g e c a)
+  pub reached-octet : (x : Use) (g : Grants) (e c a : ℕ) → Octet (reached x w g e c a)
   unfolding reached
   reached-octet x g e c a = and-then-octet (located w e c a) (allowed x w g) (located-octet e c a) (allowed-octet x g)

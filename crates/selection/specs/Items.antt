@@ -12,7 +12,7 @@ use Rattle.selection.specs.declared.items.Item.{Item}
 use Rattle.selection.specs.declared.items.Item.the-variants.{Value, Status, Nothing}
 use Rattle.selection.specs.declared.locate.Located.{Located}
 use Rattle.selection.specs.declared.locate.Located.the-variants.{Here, Refused}
-use Rattle.selection.specs.declared.reach.Action.the-variants.{Read}
+use Rattle.selection.specs.declared.reach.Use.the-variants.{Read}
 use Rattle.selection.specs.Reach.{allowed, reached}
 use Rattle.selection.specs.Asked.{asksFor, concrete}
 

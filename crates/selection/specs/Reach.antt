@@ -1,4 +1,4 @@
--- Which attribute an action may use: one ordered chain for reads and writes (document 01, What the sign answers): "first that applies: 7F endpoint,
+-- Which attribute may be read or written: one ordered chain for both uses (document 01, What the sign answers): "first that applies: 7F endpoint,
 -- C3 cluster, 86 attribute", then 8F not readable or 88 not writable, then 7E privilege. A further test of an attribute that is there is one more link.
 use mathlib.Core.List.{List}
 use Prim.Native.Nat.{ℕ, _<_}
@@ -12,21 +12,21 @@ use Rattle.selection.specs.Status.{unsupportedRead, unsupportedWrite, un
 use Rattle.selection.specs.Locate.{located}
 use Rattle.selection.specs.declared.locate.Located.{Located}
 use Rattle.selection.specs.declared.locate.Located.the-variants.{Here, Refused}
-use Rattle.selection.specs.declared.reach.Action.{Action}
-use Rattle.selection.specs.declared.reach.Action.the-variants.{Read, Write}
+use Rattle.selection.specs.declared.reach.Use.{Use}
+use Rattle.selection.specs.declared.reach.Use.the-variants.{Read, Write}
 
--- the privilege that an action needs of an attribute, 0 where the attribute is not for it
-abbrev pub needed : Action → AttributeRow → ℕ
+-- the privilege that a use needs of an attribute, 0 where the attribute is not for it
+abbrev pub needed : Use → AttributeRow → ℕ
 needed Read a = a .read
 needed Write a = a .write
 
 -- and the status where it is not: 8F not readable, 88 not writable
-abbrev pub unsupported : Action → ℕ
+abbrev pub unsupported : Use → ℕ
 unsupported Read = unsupportedRead
 unsupported Write = unsupportedWrite
 
 -- attribute i, which is there: 8F or 88, then 7E
-unfoldable pub allowed : Action → List ℕ → Grants → ℕ → Located
+unfoldable pub allowed : Use → List ℕ → Grants → ℕ → Located
 allowed x w g i =
     pick (eqb (needed x (attributeRow w i)) 0) (Refused (unsupported x))
     (pick (isGranted g (attributeRow w i .clusterIndex) (needed x (attributeRow w i))) (Here i)
@@ -38,7 +38,7 @@ andThen (Here i) test = test i
 andThen (Refused code) test = Refused code
 
 -- THE CHAIN of a concrete path: 7F, C3, 86, then 8F or 88, then 7E
-unfoldable pub reached : Action → List ℕ → Grants → ℕ → ℕ → ℕ → Located
+unfoldable pub reached : Use → List ℕ → Grants → ℕ → ℕ → ℕ → Located
 reached x w g e c a = andThen (located w e c a) (allowed x w g)
 
 -- an attribute whose row and whose cluster's row the tables have

@@ -11,7 +11,7 @@ use super::asked::Asked;
 use super::asked::asks_row;
 use super::asked::is_concrete;
 use super::locate::Located;
-use super::reach::Action;
+use super::reach::Use;
 use super::reach::allow;
 use super::reach::reach;
 use acl::Grants;
@@ -48,7 +48,7 @@ fn read_item(w: &[u64; WORDS], g: Grants, skips: [bool; CLUSTERS], i: usize) -> 
     requires { ⌜ i < attributeLimit ⌝ }
     ensures { λ r. ⌜ r ≡ items.readItem (now (w .entry)) g skips i ⌝ }
 {
-    found_item(w, skips, allow(Action::Read, w, g, i))
+    found_item(w, skips, allow(Use::Read, w, g, i))
 }
 
 // Under a wildcard there are no statuses.
@@ -68,7 +68,7 @@ fn concrete_item(w: &[u64; WORDS], g: Grants, skips: [bool; CLUSTERS], p: Asked)
     found_item(
         w,
         skips,
-        reach(Action::Read, w, g, p.endpoint, p.cluster, p.attribute),
+        reach(Use::Read, w, g, p.endpoint, p.cluster, p.attribute),
     )
 }
 

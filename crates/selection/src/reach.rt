@@ -1,4 +1,4 @@
-// Which attribute an action may use: one ordered chain for reads and writes, with its first refusal.
+// Which attribute may be read or written: one ordered chain for both uses, with its first refusal.
 ghost use mathlib.Core.Path.{_≡_};
 ghost use Prim.Native.Nat.{_<_};
 ghost use Rattle.bounds.specs.Bounds.{attributeLimit};
@@ -13,40 +13,40 @@ use acl::Grants;
 use acl::is_granted;
 use schema::WORDS;
 
-pub enum Action {
+pub enum Use {
     Read,
     Write,
 }
 
-// The privilege that an action needs of attribute i, 0 where the attribute is not for it.
-fn needed(action: Action, w: &[u64; WORDS], i: usize) -> u64
+// The privilege that a use needs of attribute i, 0 where the attribute is not for it.
+fn needed(purpose: Use, w: &[u64; WORDS], i: usize) -> u64
     requires { ⌜ i < attributeLimit ⌝ }
-    ensures { λ r. ⌜ r ≡ reach.needed action (attributeRow (now (w .entry)) i) ⌝ }
+    ensures { λ r. ⌜ r ≡ reach.needed purpose (attributeRow (now (w .entry)) i) ⌝ }
 {
-    match action {
-        Action::Read => schema::read_privilege(w, i),
-        Action::Write => schema::write_privilege(w, i),
+    match purpose {
+        Use::Read => schema::read_privilege(w, i),
+        Use::Write => schema::write_privilege(w, i),
     }
 }
 
 // The status where it is not.
-fn unsupported(action: Action) -> u8
-    ensures { λ r. ⌜ r ≡ reach.unsupported action ⌝ }
+fn unsupported(purpose: Use) -> u8
+    ensures { λ r. ⌜ r ≡ reach.unsupported purpose ⌝ }
 {
-    match action {
-        Action::Read => UNSUPPORTED_READ,
-        Action::Write => UNSUPPORTED_WRITE,
+    match purpose {
+        Use::Read => UNSUPPORTED_READ,
+        Use::Write => UNSUPPORTED_WRITE,
     }
 }
 
 // An attribute that is there: not readable or not writable, then privilege.
-pub fn allow(action: Action, w: &[u64; WORDS], g: Grants, i: usize) -> Located
+pub fn allow(purpose: Use, w: &[u64; WORDS], g: Grants, i: usize) -> Located
     requires { ⌜ i < attributeLimit ⌝ }
-    ensures { λ r. ⌜ r ≡ reach.allowed action (now (w .entry)) g i ⌝ }
+    ensures { λ r. ⌜ r ≡ reach.allowed purpose (now (w .entry)) g i ⌝ }
 {
-    let need = needed(action, w, i);
+    let need = needed(purpose, w, i);
     if need == 0 {
-        return Located::Refused(unsupported(action));
+        return Located::Refused(unsupported(purpose));
     }
     if !is_granted(g, schema::attribute_cluster(w, i), need) {
         return Located::Refused(UNSUPPORTED_ACCESS);
@@ -56,17 +56,17 @@ pub fn allow(action: Action, w: &[u64; WORDS], g: Grants, i: usize) -> Located
 
 // The whole chain for a concrete path.
 pub fn reach(
-    action: Action,
+    purpose: Use,
     w: &[u64; WORDS],
     g: Grants,
     endpoint: u16,
     cluster: u32,
     attribute: u32,
 ) -> Located
-    ensures { λ r. ⌜ r ≡ reach.reached action (now (w .entry)) g endpoint cluster attribute ⌝ }
+    ensures { λ r. ⌜ r ≡ reach.reached purpose (now (w .entry)) g endpoint cluster attribute ⌝ }
 {
     match locate(w, endpoint, cluster, attribute) {
-        Located::Here(i) => allow(action, w, g, i),
+        Located::Here(i) => allow(purpose, w, g, i),
         Located::Refused(code) => Located::Refused(code),
     }
 }

@@ -16,7 +16,7 @@ use Rattle.schema.specs.Rows.{attributeRow, attributeCount}
 use Rattle.acl.specs.declared.Grants.{Grants}
 use Rattle.selection.specs.declared.locate.Located.{Located}
 use Rattle.selection.specs.declared.locate.Located.the-variants.{Here, Refused}
-use Rattle.selection.specs.declared.reach.Action.the-variants.{Write}
+use Rattle.selection.specs.declared.reach.Use.the-variants.{Write}
 use Rattle.selection.specs.Status.{dataVersionMismatch}
 use Rattle.selection.specs.Reach.{andThen, reached}
 use Rattle.selection.proofs.LocateLaws.{located-here}

@@ -21,7 +21,7 @@ use schema::TEXTS;
 use schema::WORDS;
 use selection::DATA_VERSION_MISMATCH;
 use selection::locate::Located;
-use selection::reach::Action;
+use selection::reach::Use;
 use selection::reach::reach;
 use tlv::value_in;
 
@@ -57,7 +57,7 @@ fn may_write<'a>(w: &'a [u64; WORDS], g: Grants, versions: &'a [u32; CLUSTERS], 
     ensures { λ r. ⌜ r ≡ mayWrite (now (w .entry)) g (now (versions .entry)) x ⌝ }
 {
     match reach(
-        Action::Write,
+        Use::Write,
         w,
         g,
         x.endpoint as u16,

@@ -1,5 +1,5 @@
 use mathlib.Core.Path.{sym, ap, _∙_}
-use Rattle.selection.specs.declared.reach.Action.the-variants.{Read}
+use Rattle.selection.specs.declared.reach.Use.the-variants.{Read}
 use Rattle.selection.specs.Items.{foundItem, readItem}
 use Rattle.selection.proofs.ReachLaws.{allowed-within}
 use borrow.Author.Needs.{needs}

@@ -1,6 +1,6 @@
 use mathlib.Core.Path.{sym, ap, _∙_}
 use Rattle.schema.specs.Rows.{attributeRow}
-use Rattle.selection.specs.declared.reach.Action.{Action}
+use Rattle.selection.specs.declared.reach.Use.{Use}
 use Rattle.selection.specs.Reach as specs
 use borrow.Author.Needs.{needs}
 use Rattle.selection.proofs.reach.needed.Statement.{statement}
@@ -23,10 +23,10 @@ write-privilege-requires : tie.Need-write-privilege-requires
 write-privilege-requires c κs = search needs
 
 returns : tie.Need-returns
-returns c = let a = c .before .before .before .args in c .read-privilege .ensures ∙ sym (ap (λ (x : Action). specs.needed x (attributeRow (a .w .now) (a .i))) (c .before .enum-told .given .1))
+returns c = let a = c .before .before .before .args in c .read-privilege .ensures ∙ sym (ap (λ (x : Use). specs.needed x (attributeRow (a .w .now) (a .i))) (c .before .enum-told .given .1))
 
 returns-2 : tie.Need-returns-2
-returns-2 c = let a = c .before .before .before .args in c .write-privilege .ensures ∙ sym (ap (λ (x : Action). specs.needed x (attributeRow (a .w .now) (a .i))) (c .before .enum-told2 .given .1))
+returns-2 c = let a = c .before .before .before .args in c .write-privilege .ensures ∙ sym (ap (λ (x : Use). specs.needed x (attributeRow (a .w .now) (a .i))) (c .before .enum-told2 .given .1))
 
 pub needed-spec : {M : Type 1} → statement M
 needed-spec =

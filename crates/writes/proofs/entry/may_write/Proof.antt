@@ -1,7 +1,7 @@
 use mathlib.Core.Path.{sym, ap, _∙_}
 use borrow.Author.Needs.{needs}
 use Rattle.selection.specs.declared.locate.Located.{Located}
-use Rattle.selection.specs.declared.reach.Action.the-variants.{Write}
+use Rattle.selection.specs.declared.reach.Use.the-variants.{Write}
 use Rattle.selection.specs.Reach.{andThen}
 use Rattle.selection.proofs.ReachLaws.{reached-within}
 use Rattle.writes.specs.Entry.{atVersion, mayWrite}
