@@ -3,6 +3,7 @@ use mathlib.Core.Path.{_≡_, refl, sym, ap}
 use mathlib.Core.List.{List, [], _∷_, _++_}
 use Prim.Native.Nat.{ℕ, zero, suc, _+_, _-_, _*_, _/_, _%_, _^_, _<_, _≤_}
 use native.Mathlib.Nat.{pow-suc, pow-zero, pow-le-pow-right}
+use native.Mathlib.Numerals.{add-one}
 use native.Mathlib.Omega.{arith}
 use lib.ListN.{length, getD, take, drop, length-drop, take-append-drop}
 use lib.Seq.{drop-cons, drop-drop, length-take-le, getD-drop, getD-take, take-at, drop-at}
@@ -78,6 +79,16 @@ number-here a c w n at e h =
 pub number-step : (s : List ℕ) (a k : ℕ) → a < length s → numberAt (suc k) s a ≡ getD s a 0 + 256 * numberAt k s (suc a)
 unfolding numberOf
 number-step s a k h = rw (drop-cons s a 0 h) refl
+
+-- two bytes, and four as two pairs
+pub number-pair : (s : List ℕ) (a : ℕ) → a + 2 ≤ length s → numberAt 2 s a ≡ getD s a 0 + 256 * getD s (a + 1) 0
+unfolding numberOf
+number-pair s a h = rw (number-step s a 1 (omega arith), number-step s (suc a) 0 (omega arith), add-one a) (omega arith)
+
+pub number-pairs : (s : List ℕ) (a : ℕ) → a + 4 ≤ length s → numberAt 4 s a ≡ numberAt 2 s a + 65536 * numberAt 2 s (a + 2)
+number-pairs s a h =
+    let e : a + 2 ≡ suc (suc a) = omega arith in
+    rw (number-step s a 3 (omega arith), number-step s (suc a) 2 (omega arith), number-pair s a (omega arith), add-one a, e) (omega arith)
 
 pub below-word : (k j : ℕ) → k ≤ j → 256 ^ k ≤ 256 ^ j
 below-word k j h = pow-le-pow-right {n = 256} (omega arith) {i = k} {j = j} (omega arith)

@@ -13,18 +13,20 @@ fn wide(x: u8) -> u64
     x as u64
 }
 
-// The number in the w bytes from at on.
-pub fn number(s: &[u8], at: usize, w: usize) -> u64
+// The number in two bytes.
+fn pair(s: &[u8], at: usize) -> u64
+    requires { ⌜ at + 2 ≤ length (now s) ⌝ }
+    ensures { λ r. ⌜ r ≡ numberAt 2 (now (s .entry)) at ⌝ }
+    ensures small { λ r. ⌜ r < 65536 ⌝ }
+{
+    wide(s[at]) + 256 * wide(s[at + 1])
+}
+
+// The number in the w bytes from at on, byte by byte from the last.
+fn long_number(s: &[u8], at: usize, w: usize) -> u64
     requires { ⌜ (w ≤ 8) × (at + w ≤ length (now s)) ⌝ }
     ensures { λ r. ⌜ r ≡ numberAt w (now (s .entry)) at ⌝ }
 {
-    // Most numbers have no byte or one.
-    if w == 0 {
-        return 0;
-    }
-    if w == 1 {
-        return wide(s[at]);
-    }
     let mut v: u64 = 0;
     let mut i = w;
     while 0 < i {
@@ -34,15 +36,39 @@ pub fn number(s: &[u8], at: usize, w: usize) -> u64
     v
 }
 
-// The w low bytes of v.
-pub fn put_number(b: &mut [u8], at: usize, w: usize, v: u64) -> usize
+// The same. Most have one, two or four bytes: without a loop they are one load.
+pub fn number(s: &[u8], at: usize, w: usize) -> u64
+    requires { ⌜ (w ≤ 8) × (at + w ≤ length (now s)) ⌝ }
+    ensures { λ r. ⌜ r ≡ numberAt w (now (s .entry)) at ⌝ }
+{
+    if w == 0 {
+        return 0;
+    }
+    if w == 1 {
+        return wide(s[at]);
+    }
+    if w == 2 {
+        return pair(s, at);
+    }
+    if w == 4 {
+        return pair(s, at) + 65536 * pair(s, at + 2);
+    }
+    long_number(s, at, w)
+}
+
+// The two low bytes of v.
+fn put_pair(b: &mut [u8], at: usize, v: u64) -> usize
+    requires { ⌜ at + 2 ≤ length (now b) ⌝ }
+    ensures { λ r. ⌜ Stored (now (b .entry)) at (bytesOf 2 v) (now (b .exit)) r ⌝ }
+{
+    put2(b, at, (v % 256) as u8, (v / 256 % 256) as u8)
+}
+
+// The w low bytes of v, one by one.
+fn put_long(b: &mut [u8], at: usize, w: usize, v: u64) -> usize
     requires { ⌜ at + w ≤ length (now b) ⌝ }
     ensures { λ r. ⌜ Stored (now (b .entry)) at (bytesOf w v) (now (b .exit)) r ⌝ }
 {
-    if w == 1 {
-        b[at] = (v % 256) as u8;
-        return at + 1;
-    }
     let mut x = v;
     let mut i = 0;
     while i < w {
@@ -51,6 +77,24 @@ pub fn put_number(b: &mut [u8], at: usize, w: usize, v: u64) -> usize
         i += 1;
     }
     at + i
+}
+
+// The same. Most have one, two or four bytes: without a loop they are one store.
+pub fn put_number(b: &mut [u8], at: usize, w: usize, v: u64) -> usize
+    requires { ⌜ at + w ≤ length (now b) ⌝ }
+    ensures { λ r. ⌜ Stored (now (b .entry)) at (bytesOf w v) (now (b .exit)) r ⌝ }
+{
+    if w == 1 {
+        return put1(b, at, (v % 256) as u8);
+    }
+    if w == 2 {
+        return put_pair(b, at, v);
+    }
+    if w == 4 {
+        let p = put_pair(b, at, v);
+        return put_pair(b, p, v / 256 / 256);
+    }
+    put_long(b, at, w, v)
 }
 
 // The bytes of src.

@@ -1,31 +1,24 @@
 use borrow.Author.Needs.{needs}
 use mathlib.Core.Path.{_≡_, refl, sym, _∙_}
-use Prim.Native.Nat.{_+_, _-_, _^_, _<_, _≤_}
 use native.Mathlib.Nat.{add-zero, mul-zero}
 use native.Mathlib.Omega.{arith}
 use lib.ListN.{getD}
-use Rattle.octets.specs.Number.{numberOf, numberAt}
-use Rattle.octets.proofs.NumberLaws.{number-step, number-turn, below-word}
+use Rattle.octets.specs.Number.{numberOf}
+use Rattle.octets.proofs.NumberLaws.{number-step, number-pairs}
 use Rattle.octets.proofs.number.Statement.{statement}
 use Rattle.octets.proofs.number.Tie as tie
 
-abbrev Inv-loop : tie.InvT-loop
-Inv-loop s at w v₀ i₀ v i = (i ≤ w) × ((v ≡ numberAt (w - i) s (at + i)) × (v < 256 ^ (w - i)))
-
-abbrev μ-loop : tie.MeasureT-loop
-μ-loop s at w v₀ i₀ v i = i
-
-returns : tie.Need-returns Inv-loop μ-loop
+returns : tie.Need-returns
 unfolding numberOf
 returns c = rw (c .if1 .taken) refl
 
-shared-slice-read-wide : tie.Need-shared-slice-read-wide Inv-loop μ-loop
+shared-slice-read-wide : tie.Need-shared-slice-read-wide
 shared-slice-read-wide c = omega arith
 
-wide-requires : tie.Need-wide-requires Inv-loop μ-loop
+wide-requires : tie.Need-wide-requires
 wide-requires c κs = search needs
 
-returns-2 : tie.Need-returns-2 Inv-loop μ-loop
+returns-2 : tie.Need-returns-2
 unfolding numberOf
 returns-2 c =
     let a = c .before .before .before .before .before .args in
@@ -33,68 +26,53 @@ returns-2 c =
     let h : c .wide .result ≡ getD (a .s .now) (a .at) 0 = c .wide .ensures in
     rw e (h ∙ sym (rw (mul-zero, add-zero) at (number-step (a .s .now) (a .at) 0 (omega arith))))
 
-loop-holds : tie.Need-loop-holds Inv-loop μ-loop
-unfolding numberOf
-loop-holds c =
-    let e : c .before .before .before .args .w - c .before .before .before .args .w ≡ 0 = omega arith in
-    (omega arith, (rw e refl, rw e (omega arith)))
+pair-requires : tie.Need-pair-requires
+pair-requires c κs = search needs
 
-sub-i : tie.Need-sub-i Inv-loop μ-loop
-sub-i c = omega arith
+returns-3 : tie.Need-returns-3
+returns-3 c = rw (c .before .if3 .taken) (c .pair .ensures .0)
 
-mul-v : tie.Need-mul-v Inv-loop μ-loop
-mul-v c = omega (arith, below-word (c .before .before .before .before .before .args .w - c .before .loop .i) 7 (omega arith))
+pair-requires-2 : tie.Need-pair-requires-2
+pair-requires-2 c κs = search needs
 
-add-wide : tie.Need-add-wide Inv-loop μ-loop
-add-wide c = omega arith
+add-pair : tie.Need-add-pair
+add-pair c = search needs
 
-shared-slice-read-wide-2 : tie.Need-shared-slice-read-wide-2 Inv-loop μ-loop
-shared-slice-read-wide-2 c = omega arith
+pair-requires-3 : tie.Need-pair-requires-3
+pair-requires-3 c κs = search needs
 
-wide-requires-2 : tie.Need-wide-requires-2 Inv-loop μ-loop
-wide-requires-2 c κs = search needs
+mul-result : tie.Need-mul-result
+mul-result c = search needs
 
-add-v : tie.Need-add-v Inv-loop μ-loop
-add-v c =
+add-result : tie.Need-add-result
+add-result c = search needs
+
+returns-4 : tie.Need-returns-4
+returns-4 c =
     let a = c .before .before .before .before .before .before .before .args in
-    let l = c .before .before .before .loop in
-    omega (arith, below-word (a .w - l .i) 7 (omega arith), c .before .shared-slice-known3 .given (a .at + (l .i - 1)))
+    rw (c .before .before .if4 .taken) (omega (arith, number-pairs (a .s .now) (a .at) (omega arith)))
 
-loop-less : tie.Need-loop-less Inv-loop μ-loop
-loop-less c = omega arith
+long-number-requires : tie.Need-long-number-requires
+long-number-requires c κs = search needs
 
-loop-again : tie.Need-loop-again Inv-loop μ-loop
-loop-again c =
-    let a = c .before .before .before .before .before .before .before .args in
-    let l = c .before .before .before .loop in
-    (omega arith, number-turn (a .s .now) (a .at) (a .w) (l .i) (l .i - 1) (l .v) (c .wide2 .result) (omega arith) (l .inv .0) (c .before .before .before .before .before .before .before .pre .1) (l .inv .1 .0) (l .inv .1 .1) (omega (arith, c .before .shared-slice-known3 .given (a .at + (l .i - 1)))) (c .wide2 .ensures))
-
-returns-3 : tie.Need-returns-3 Inv-loop μ-loop
-returns-3 c =
-    let a = c .before .before .before .before .before .args in
-    let l = c .before .loop in
-    let e : l .i ≡ 0 = omega arith in
-    let e1 : a .w - l .i ≡ a .w = omega arith in
-    let e2 : a .at + l .i ≡ a .at = omega arith in
-    rw (e1, e2) at (l .inv .1 .0)
+returns-5 : tie.Need-returns-5
+returns-5 c = c .long-number .ensures
 
 pub number-spec : {M : Type 1} → statement M
 number-spec =
     tie.close
     (tie.spec
-    Inv-loop
-    μ-loop
     returns
     shared-slice-read-wide
     wide-requires
     returns-2
-    loop-holds
-    sub-i
-    mul-v
-    add-wide
-    shared-slice-read-wide-2
-    wide-requires-2
-    add-v
-    loop-less
-    loop-again
-    returns-3)
+    pair-requires
+    returns-3
+    pair-requires-2
+    add-pair
+    pair-requires-3
+    mul-result
+    add-result
+    returns-4
+    long-number-requires
+    returns-5)

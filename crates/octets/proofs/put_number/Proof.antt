@@ -1,99 +1,71 @@
-use mathlib.Core.Path.{_≡_, refl, sym, _∙_}
-use Prim.Native.Nat.{_+_, _-_, _%_, _≤_}
-use native.Mathlib.Nat.{add-zero, sub-zero}
+use borrow.Author.Needs.{needs}
 use native.Mathlib.Omega.{arith}
-use lib.ListN.{length, length-set}
 use Rattle.octets.specs.Number.{bytesOf}
-use Rattle.octets.specs.Store.{store}
-use Rattle.octets.proofs.NumberLaws.{length-bytes}
-use Rattle.octets.proofs.StoreLaws.{number-turn}
+use Rattle.octets.proofs.StoreLaws as stored
 use Rattle.octets.proofs.put_number.Statement.{statement}
 use Rattle.octets.proofs.put_number.Tie as tie
 
-abbrev Inv-loop : tie.InvT-loop
-Inv-loop b₀ at w v x₀ i₀ b x i = (i ≤ w) × ((length b ≡ length b₀) × (store b₀ at (bytesOf w v) ≡ store b (at + i) (bytesOf (w - i) x)))
+cast-put1 : tie.Need-cast-put1
+cast-put1 c = search needs
 
-abbrev μ-loop : tie.MeasureT-loop
-μ-loop b₀ at w v x₀ i₀ b x i = w - i
+put1-requires : tie.Need-put1-requires
+put1-requires c κs = search needs
 
-cast-b : tie.Need-cast-b Inv-loop μ-loop
-cast-b c = omega arith
+same-length : tie.Need-same-length
+same-length c = search needs
 
-slice-write-b : tie.Need-slice-write-b Inv-loop μ-loop
-slice-write-b c = omega arith
+returns : tie.Need-returns
+unfolding bytesOf
+returns c = rw (c .before .before .before .before .if1 .taken) (c .before .before .put1 .ensures)
 
-add-result : tie.Need-add-result Inv-loop μ-loop
-add-result c = omega arith
+put-pair-requires : tie.Need-put-pair-requires
+put-pair-requires c κs = search needs
 
-same-length : tie.Need-same-length Inv-loop μ-loop
-same-length c = let a = c .before .args in length-set (a .b .now) (a .at) (a .v % 256)
+same-length-2 : tie.Need-same-length-2
+same-length-2 c = search needs
 
-returns : tie.Need-returns Inv-loop μ-loop
-unfolding store bytesOf
-returns c =
-    let a = c .before .args in
-    let e : a .w ≡ 1 = c .if1 .taken in
-    record { content = rw e refl; place = rw e refl }
+returns-2 : tie.Need-returns-2
+returns-2 c = rw (c .before .before .before .before .if2 .taken) (c .before .before .put-pair .ensures)
 
-loop-holds : tie.Need-loop-holds Inv-loop μ-loop
-loop-holds c = (omega arith, (refl, simp (add-zero, sub-zero)))
+put-pair-requires-2 : tie.Need-put-pair-requires-2
+put-pair-requires-2 c κs = search needs
 
-cast-b-2 : tie.Need-cast-b-2 Inv-loop μ-loop
-cast-b-2 c = omega arith
+put-pair-requires-3 : tie.Need-put-pair-requires-3
+unfolding bytesOf
+put-pair-requires-3 c κs = let p = c .before .before .before .put-pair2 .ensures in omega (arith, p .place, stored.same-length p)
 
-add-b : tie.Need-add-b Inv-loop μ-loop
-add-b c = omega arith
+same-length-3 : tie.Need-same-length-3
+same-length-3 c = search needs
 
-slice-write-b-2 : tie.Need-slice-write-b-2 Inv-loop μ-loop
-slice-write-b-2 c = omega arith
+returns-3 : tie.Need-returns-3
+unfolding bytesOf
+returns-3 c =
+    rw (c .before .before .before .before .before .before .before .before .if3 .taken) (stored.then (c .before .before .before .before .before .before .put-pair2 .ensures) (c .before .before .put-pair3 .ensures))
 
-add-i : tie.Need-add-i Inv-loop μ-loop
-add-i c = omega arith
+put-long-requires : tie.Need-put-long-requires
+put-long-requires c κs = search needs
 
-loop-less : tie.Need-loop-less Inv-loop μ-loop
-loop-less c = omega arith
+same-length-4 : tie.Need-same-length-4
+same-length-4 c = search needs
 
-loop-again : tie.Need-loop-again Inv-loop μ-loop
-loop-again c =
-    let a = c .before .before .before .args in
-    let l = c .before .loop in
-    (omega arith, (simp length-set (l .inv .1 .0), l .inv .1 .1 ∙ number-turn (l .b) (a .at) (a .w) (l .i) (l .x) (omega arith)))
-
-add-result-2 : tie.Need-add-result-2 Inv-loop μ-loop
-add-result-2 c = omega arith
-
-same-length-2 : tie.Need-same-length-2 Inv-loop μ-loop
-same-length-2 c = c .before .loop .inv .1 .0
-
-returns-2 : tie.Need-returns-2 Inv-loop μ-loop
-unfolding store bytesOf
-returns-2 c =
-    let a = c .before .before .before .args in
-    let l = c .before .loop in
-    let e : a .w - l .i ≡ 0 = omega arith in
-    record {
-      content = sym (l .inv .1 .1 ∙ rw e refl);
-      place = omega (arith, length-bytes (a .w) (a .v));
-    }
+returns-4 : tie.Need-returns-4
+returns-4 c = c .before .before .put-long .ensures
 
 pub put-number-spec : {M : Type 1} → statement M
 put-number-spec =
     tie.close
     (tie.spec
-    Inv-loop
-    μ-loop
-    cast-b
-    slice-write-b
-    add-result
+    cast-put1
+    put1-requires
     same-length
     returns
-    loop-holds
-    cast-b-2
-    add-b
-    slice-write-b-2
-    add-i
-    loop-less
-    loop-again
-    add-result-2
+    put-pair-requires
     same-length-2
-    returns-2)
+    returns-2
+    put-pair-requires-2
+    put-pair-requires-3
+    same-length-3
+    returns-3
+    put-long-requires
+    same-length-4
+    returns-4)
