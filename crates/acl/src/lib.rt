@@ -87,12 +87,18 @@ pub fn privilege_ok(privilege: u8) -> bool
     privilege <= ADMINISTER
 }
 
+fn wide(x: u8) -> u64
+    ensures { λ r. ⌜ r ≡ x ⌝ }
+{
+    x as u64
+}
+
 // Whether a privilege is granted at the cluster whose row is at i: false where the schema can have no such row.
-pub fn is_granted(g: Grants, i: usize, privilege: u64) -> bool
-    ensures { λ r. ⌜ r ≡ isGranted g i privilege ⌝ }
+pub fn is_granted(level: &[u8; CLUSTERS], i: usize, privilege: u64) -> bool
+    ensures { λ r. ⌜ r ≡ isGranted (record { level = now (level .entry) }) i privilege ⌝ }
 {
     if CLUSTERS <= i {
         return false;
     }
-    privilege <= g.level[i] as u64
+    privilege <= wide(level[i])
 }

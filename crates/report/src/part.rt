@@ -58,8 +58,8 @@ fn fill_path<'a>(
     versions: &'a [u32; CLUSTERS],
     defaults: &'a [u8],
     edits: &'a [u8],
-    g: Grants,
-    skips: [bool; CLUSTERS],
+    level: &'a [u8; CLUSTERS],
+    skips: &'a [bool; CLUSTERS],
     p: Asked,
     path: usize,
     first: usize,
@@ -69,7 +69,7 @@ fn fill_path<'a>(
     room: usize,
 ) -> Filled
     requires { ⌜ (wellFormed (now w) ≡ true) × (start + room ≤ length (now out)) ⌝ }
-    ensures { λ r. ⌜ Filling (now (out .entry)) start room from (pathBlocks (record { schema = now (w .entry); values = valuesOf (now (words .entry)) (now (nulls .entry)) (now (texts .entry)) (now (versions .entry)); defaults = now (defaults .entry); edits = now (edits .entry); grants = g; skips = skips }) path p first) (now (out .exit)) r ⌝ }
+    ensures { λ r. ⌜ Filling (now (out .entry)) start room from (pathBlocks (record { schema = now (w .entry); values = valuesOf (now (words .entry)) (now (nulls .entry)) (now (texts .entry)) (now (versions .entry)); defaults = now (defaults .entry); edits = now (edits .entry); grants = record { level = now (level .entry) }; skips = now (skips .entry) }) path p first) (now (out .exit)) r ⌝ }
 {
     let span = span_of(w, p);
     let mut place = from;
@@ -77,7 +77,7 @@ fn fill_path<'a>(
     let mut end = start;
     let mut left = room;
     while i < span {
-        let x = item_at(w, g, skips, p, i);
+        let x = item_at(w, level, skips, p, i);
         if is_nothing(x) {
             i += 1;
         } else {
@@ -129,8 +129,8 @@ fn fill<'a>(
     versions: &'a [u32; CLUSTERS],
     defaults: &'a [u8],
     edits: &'a [u8],
-    g: Grants,
-    skips: [bool; CLUSTERS],
+    level: &'a [u8; CLUSTERS],
+    skips: &'a [bool; CLUSTERS],
     row: &'a [u64; ROW_WORDS],
     asked: usize,
     from: Place,
@@ -138,7 +138,7 @@ fn fill<'a>(
     start: usize,
 ) -> Filled
     requires { ⌜ (wellFormed (now w) ≡ true) × ((asked ≤ maxPaths) × (start + blockRoom ≤ length (now out))) ⌝ }
-    ensures { λ r. ⌜ Filling (now (out .entry)) start blockRoom from (blocksFrom (record { schema = now (w .entry); values = valuesOf (now (words .entry)) (now (nulls .entry)) (now (texts .entry)) (now (versions .entry)); defaults = now (defaults .entry); edits = now (edits .entry); grants = g; skips = skips }) (askedPaths (now (row .entry)) asked) from) (now (out .exit)) r ⌝ }
+    ensures { λ r. ⌜ Filling (now (out .entry)) start blockRoom from (blocksFrom (record { schema = now (w .entry); values = valuesOf (now (words .entry)) (now (nulls .entry)) (now (texts .entry)) (now (versions .entry)); defaults = now (defaults .entry); edits = now (edits .entry); grants = record { level = now (level .entry) }; skips = now (skips .entry) }) (askedPaths (now (row .entry)) asked) from) (now (out .exit)) r ⌝ }
 {
     let mut place = from;
     let mut path = from.path;
@@ -155,7 +155,7 @@ fn fill<'a>(
             versions,
             defaults,
             edits,
-            g,
+            level,
             skips,
             p,
             path,
@@ -201,6 +201,7 @@ pub fn make_part<'a>(
     ensures { λ r. ⌜ Made (now (out .entry)) start from (blocksFrom (viewOf (now (w .entry)) (valuesOf (now (words .entry)) (now (nulls .entry)) (now (texts .entry)) (now (versions .entry))) (now (defaults .entry)) (now (edits .entry)) g (filtersIn (now (row .entry)))) (askedPaths (now (row .entry)) asked) from) (now (out .exit)) r ⌝ }
 {
     let skips = skipped(w, row, versions);
+    let level = g.level;
     let p = put_report_open(out, start);
     let f = fill(
         w,
@@ -210,8 +211,8 @@ pub fn make_part<'a>(
         versions,
         defaults,
         edits,
-        g,
-        skips,
+        &level,
+        &skips,
         row,
         asked,
         from,

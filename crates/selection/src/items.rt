@@ -14,7 +14,6 @@ use super::locate::Located;
 use super::reach::Use;
 use super::reach::allow;
 use super::reach::reach;
-use acl::Grants;
 use bounds::CLUSTERS;
 use schema::WORDS;
 
@@ -27,9 +26,9 @@ pub enum Item {
 }
 
 // What a read makes of an attribute that it may use: nothing where the filters skip its cluster, else its value.
-fn found_item(w: &[u64; WORDS], skips: [bool; CLUSTERS], found: Located) -> Item
+fn found_item<'a>(w: &'a [u64; WORDS], skips: &'a [bool; CLUSTERS], found: Located) -> Item
     requires { ⌜ ((i : ℕ) → found ≡ Here i → Within (now w) i) ⌝ }
-    ensures { λ r. ⌜ r ≡ items.foundItem (now (w .entry)) skips found ⌝ }
+    ensures { λ r. ⌜ r ≡ items.foundItem (now (w .entry)) (now (skips .entry)) found ⌝ }
 {
     match found {
         Located::Here(i) => {
@@ -44,11 +43,16 @@ fn found_item(w: &[u64; WORDS], skips: [bool; CLUSTERS], found: Located) -> Item
 }
 
 // Attribute i as a read finds it.
-fn read_item(w: &[u64; WORDS], g: Grants, skips: [bool; CLUSTERS], i: usize) -> Item
+fn read_item<'a>(
+    w: &'a [u64; WORDS],
+    level: &'a [u8; CLUSTERS],
+    skips: &'a [bool; CLUSTERS],
+    i: usize,
+) -> Item
     requires { ⌜ i < attributeLimit ⌝ }
-    ensures { λ r. ⌜ r ≡ items.readItem (now (w .entry)) g skips i ⌝ }
+    ensures { λ r. ⌜ r ≡ items.readItem (now (w .entry)) (record { level = now (level .entry) }) (now (skips .entry)) i ⌝ }
 {
-    found_item(w, skips, allow(Use::Read, w, g, i))
+    found_item(w, skips, allow(Use::Read, w, level, i))
 }
 
 // Under a wildcard there are no statuses.
@@ -62,13 +66,18 @@ fn silenced(x: Item) -> Item
     }
 }
 
-fn concrete_item(w: &[u64; WORDS], g: Grants, skips: [bool; CLUSTERS], p: Asked) -> Item
-    ensures { λ r. ⌜ r ≡ items.concreteItem (now (w .entry)) g skips p ⌝ }
+fn concrete_item<'a>(
+    w: &'a [u64; WORDS],
+    level: &'a [u8; CLUSTERS],
+    skips: &'a [bool; CLUSTERS],
+    p: Asked,
+) -> Item
+    ensures { λ r. ⌜ r ≡ items.concreteItem (now (w .entry)) (record { level = now (level .entry) }) (now (skips .entry)) p ⌝ }
 {
     found_item(
         w,
         skips,
-        reach(Use::Read, w, g, p.endpoint, p.cluster, p.attribute),
+        reach(Use::Read, w, level, p.endpoint, p.cluster, p.attribute),
     )
 }
 
@@ -83,12 +92,18 @@ pub fn span_of(w: &[u64; WORDS], p: Asked) -> usize
 }
 
 // What stands at place i of a path.
-pub fn item_at(w: &[u64; WORDS], g: Grants, skips: [bool; CLUSTERS], p: Asked, i: usize) -> Item
+pub fn item_at<'a>(
+    w: &'a [u64; WORDS],
+    level: &'a [u8; CLUSTERS],
+    skips: &'a [bool; CLUSTERS],
+    p: Asked,
+    i: usize,
+) -> Item
     requires { ⌜ (wellFormed (now w) ≡ true) × (i < items.span (now w) p) ⌝ }
-    ensures { λ r. ⌜ r ≡ items.itemAt (now (w .entry)) g skips p i ⌝ }
+    ensures { λ r. ⌜ r ≡ items.itemAt (now (w .entry)) (record { level = now (level .entry) }) (now (skips .entry)) p i ⌝ }
 {
     if is_concrete(p) {
-        return concrete_item(w, g, skips, p);
+        return concrete_item(w, level, skips, p);
     }
     // One look, and asked first: a wildcard has nothing of a cluster that the filters skip.
     if skips[schema::attribute_cluster(w, i)] {
@@ -97,5 +112,5 @@ pub fn item_at(w: &[u64; WORDS], g: Grants, skips: [bool; CLUSTERS], p: Asked, i
     if !asks_row(w, p, i) {
         return Item::Nothing;
     }
-    silenced(read_item(w, g, skips, i))
+    silenced(read_item(w, level, skips, i))
 }

@@ -9,8 +9,8 @@ use super::UNSUPPORTED_READ;
 use super::UNSUPPORTED_WRITE;
 use super::locate::Located;
 use super::locate::locate;
-use acl::Grants;
 use acl::is_granted;
+use bounds::CLUSTERS;
 use schema::WORDS;
 
 pub enum Use {
@@ -40,33 +40,33 @@ fn unsupported(purpose: Use) -> u8
 }
 
 // An attribute that is there: not readable or not writable, then privilege.
-pub fn allow(purpose: Use, w: &[u64; WORDS], g: Grants, i: usize) -> Located
+pub fn allow<'a>(purpose: Use, w: &'a [u64; WORDS], level: &'a [u8; CLUSTERS], i: usize) -> Located
     requires { ⌜ i < attributeLimit ⌝ }
-    ensures { λ r. ⌜ r ≡ reach.allowed purpose (now (w .entry)) g i ⌝ }
+    ensures { λ r. ⌜ r ≡ reach.allowed purpose (now (w .entry)) (record { level = now (level .entry) }) i ⌝ }
 {
     let need = needed(purpose, w, i);
     if need == 0 {
         return Located::Refused(unsupported(purpose));
     }
-    if !is_granted(g, schema::attribute_cluster(w, i), need) {
+    if !is_granted(level, schema::attribute_cluster(w, i), need) {
         return Located::Refused(UNSUPPORTED_ACCESS);
     }
     Located::Here(i)
 }
 
 // The whole chain for a concrete path.
-pub fn reach(
+pub fn reach<'a>(
     purpose: Use,
-    w: &[u64; WORDS],
-    g: Grants,
+    w: &'a [u64; WORDS],
+    level: &'a [u8; CLUSTERS],
     endpoint: u16,
     cluster: u32,
     attribute: u32,
 ) -> Located
-    ensures { λ r. ⌜ r ≡ reach.reached purpose (now (w .entry)) g endpoint cluster attribute ⌝ }
+    ensures { λ r. ⌜ r ≡ reach.reached purpose (now (w .entry)) (record { level = now (level .entry) }) endpoint cluster attribute ⌝ }
 {
     match locate(w, endpoint, cluster, attribute) {
-        Located::Here(i) => allow(purpose, w, g, i),
+        Located::Here(i) => allow(purpose, w, level, i),
         Located::Refused(code) => Located::Refused(code),
     }
 }

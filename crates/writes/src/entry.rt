@@ -56,10 +56,11 @@ fn may_write<'a>(w: &'a [u64; WORDS], g: Grants, versions: &'a [u32; CLUSTERS], 
     requires { ⌜ InWidth x ⌝ }
     ensures { λ r. ⌜ r ≡ mayWrite (now (w .entry)) g (now (versions .entry)) x ⌝ }
 {
+    let level = g.level;
     match reach(
         Use::Write,
         w,
-        g,
+        &level,
         x.endpoint as u16,
         x.cluster as u32,
         x.attribute as u32,

@@ -14,11 +14,11 @@ reach-requires : tie.Need-reach-requires
 reach-requires c κs = search needs
 
 found-item-requires : tie.Need-found-item-requires
-found-item-requires c κs = let a = c .before .args in λ j e. reached-within Read (a .w .now) (a .g) (a .p .endpoint) (a .p .cluster) (a .p .attribute) j (sym (c .reach .ensures) ∙ e)
+found-item-requires c κs = let a = c .before .args in λ j e. reached-within Read (a .w .now) (record { level = a .level .now }) (a .p .endpoint) (a .p .cluster) (a .p .attribute) j (sym (c .reach .ensures) ∙ e)
 
 returns : tie.Need-returns
 unfolding concreteItem
-returns c = let a = c .before .before .args in c .found-item .ensures ∙ ap (foundItem (a .w .now) (a .skips)) (c .before .reach .ensures)
+returns c = let a = c .before .before .args in c .found-item .ensures ∙ ap (foundItem (a .w .now) (a .skips .now)) (c .before .reach .ensures)
 
 pub concrete-item-spec : {M : Type 1} → statement M
 concrete-item-spec = tie.close (tie.spec reach-requires found-item-requires returns)

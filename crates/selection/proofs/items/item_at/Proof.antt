@@ -41,29 +41,29 @@ wild c = rw (not-wild c) at (c .before .before .pre .1)
 attribute-cluster-requires : tie.Need-attribute-cluster-requires
 attribute-cluster-requires c κs = omega (arith, wild c)
 
-array-read-if2 : tie.Need-array-read-if2
-array-read-if2 c = omega (arith, c .attribute-cluster .ensures, cluster-of (c .before .before .before .args .w .now) (c .before .before .before .pre .0) (c .before .before .before .args .i) (wild (c .before)))
+element-copy-out-if2 : tie.Need-element-copy-out-if2
+element-copy-out-if2 c = omega (arith, c .attribute-cluster .ensures, cluster-of (c .before .before .before .args .w .now) (c .before .before .before .pre .0) (c .before .before .before .args .i) (wild (c .before)))
 
 returns-2 : tie.Need-returns-2
 unfolding itemAt
-returns-2 c = let a = c .before .before .before .before .args in rw (not-wild (c .before .before)) (sym (wildcard-skipped (a .w .now) (a .g) _ (a .p) (a .i) (c .before .attribute-cluster .ensures) (c .if2 .taken)))
+returns-2 c = let a = c .before .before .before .before .before .args in rw (not-wild (c .before .before .before)) (sym (wildcard-skipped (a .w .now) (record { level = a .level .now }) _ (a .p) (a .i) (c .before .before .attribute-cluster .ensures) (c .if2 .taken)))
 
 asks-row-requires : tie.Need-asks-row-requires
-asks-row-requires c κs = (c .before .before .before .before .pre .0, wild (c .before .before))
+asks-row-requires c κs = (c .before .before .before .before .before .pre .0, wild (c .before .before .before))
 
 returns-3 : tie.Need-returns-3
 unfolding itemAt wildcardItem
-returns-3 c = rw (not-wild (c .before .before .before .before), sym (c .before .asks-row .ensures) ∙ not-true _ (c .if3 .taken)) refl
+returns-3 c = rw (not-wild (c .before .before .before .before .before), sym (c .before .asks-row .ensures) ∙ not-true _ (c .if3 .taken)) refl
 
 read-item-requires : tie.Need-read-item-requires
-read-item-requires c κs = omega (arith, wild (c .before .before .before .before))
+read-item-requires c κs = omega (arith, wild (c .before .before .before .before .before))
 
 silenced-requires : tie.Need-silenced-requires
 silenced-requires c κs = search needs
 
 returns-4 : tie.Need-returns-4
 unfolding itemAt wildcardItem
-returns-4 c = rw (not-wild (c .before .before .before .before .before .before), sym (c .before .before .before .asks-row .ensures) ∙ not-false _ (c .before .before .if3 .left)) (c .silenced .ensures ∙ ap silent (c .before .read-item .ensures))
+returns-4 c = rw (not-wild (c .before .before .before .before .before .before .before), sym (c .before .before .before .asks-row .ensures) ∙ not-false _ (c .before .before .if3 .left)) (c .silenced .ensures ∙ ap silent (c .before .read-item .ensures))
 
 pub item-at-spec : {M : Type 1} → statement M
 item-at-spec =
@@ -73,7 +73,7 @@ item-at-spec =
     concrete-item-requires
     returns
     attribute-cluster-requires
-    array-read-if2
+    element-copy-out-if2
     returns-2
     asks-row-requires
     returns-3

@@ -14,11 +14,11 @@ allow-requires : tie.Need-allow-requires
 allow-requires c κs = search needs
 
 found-item-requires : tie.Need-found-item-requires
-found-item-requires c κs = let a = c .before .args in λ j e. allowed-within Read (a .w .now) (a .g) (a .i) j (c .before .pre) (sym (c .allow .ensures) ∙ e)
+found-item-requires c κs = let a = c .before .args in λ j e. allowed-within Read (a .w .now) (record { level = a .level .now }) (a .i) j (c .before .pre) (sym (c .allow .ensures) ∙ e)
 
 returns : tie.Need-returns
 unfolding readItem
-returns c = let a = c .before .before .args in c .found-item .ensures ∙ ap (foundItem (a .w .now) (a .skips)) (c .before .allow .ensures)
+returns c = let a = c .before .before .args in c .found-item .ensures ∙ ap (foundItem (a .w .now) (a .skips .now)) (c .before .allow .ensures)
 
 pub read-item-spec : {M : Type 1} → statement M
 read-item-spec = tie.close (tie.spec allow-requires found-item-requires returns)

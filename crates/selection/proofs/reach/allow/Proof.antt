@@ -19,7 +19,7 @@ unsupported-requires : tie.Need-unsupported-requires
 unsupported-requires c κs = search needs
 
 returns : tie.Need-returns
-returns c = let a = c .before .before .before .args in ap Refused (c .unsupported .ensures) ∙ sym (not-for (a .purpose) (a .w .now) (a .g) (a .i) (c .before .before .needed .ensures) (c .before .if1 .taken))
+returns c = let a = c .before .before .before .args in ap Refused (c .unsupported .ensures) ∙ sym (not-for (a .purpose) (a .w .now) (record { level = a .level .now }) (a .i) (c .before .before .needed .ensures) (c .before .if1 .taken))
 
 attribute-cluster-requires : tie.Need-attribute-cluster-requires
 attribute-cluster-requires c κs = search needs
@@ -28,10 +28,10 @@ is-granted-requires : tie.Need-is-granted-requires
 is-granted-requires c κs = search needs
 
 returns-2 : tie.Need-returns-2
-returns-2 c = let a = c .before .before .before .before .before .args in sym (not-granted (a .purpose) (a .w .now) (a .g) (a .i) (c .before .before .before .before .needed .ensures) (c .before .before .before .if1 .left) (c .before .before .attribute-cluster .ensures) (sym (c .before .is-granted .ensures) ∙ not-true _ (c .if2 .taken)))
+returns-2 c = let a = c .before .before .before .before .before .args in sym (not-granted (a .purpose) (a .w .now) (record { level = a .level .now }) (a .i) (c .before .before .before .before .needed .ensures) (c .before .before .before .if1 .left) (c .before .before .attribute-cluster .ensures) (sym (c .before .is-granted .ensures) ∙ not-true _ (c .if2 .taken)))
 
 returns-3 : tie.Need-returns-3
-returns-3 c = let a = c .before .before .before .before .before .args in sym (is-allowed (a .purpose) (a .w .now) (a .g) (a .i) (c .before .before .before .before .needed .ensures) (c .before .before .before .if1 .left) (c .before .before .attribute-cluster .ensures) (sym (c .before .is-granted .ensures) ∙ not-false _ (c .if2 .left)))
+returns-3 c = let a = c .before .before .before .before .before .args in sym (is-allowed (a .purpose) (a .w .now) (record { level = a .level .now }) (a .i) (c .before .before .before .before .needed .ensures) (c .before .before .before .if1 .left) (c .before .before .attribute-cluster .ensures) (sym (c .before .is-granted .ensures) ∙ not-false _ (c .if2 .left)))
 
 pub allow-spec : {M : Type 1} → statement M
 allow-spec =

@@ -25,11 +25,11 @@ enum-known-code c = search needs
 
 returns : tie.Need-returns
 unfolding reached
-returns c = let a = c .before .before .before .before .before .args in c .allow .ensures ∙ sym (ap (λ (l : Located). andThen l (allowed (a .purpose) (a .w .now) (a .g))) (sym (c .before .before .before .before .locate .ensures) ∙ c .before .before .i .given .1))
+returns c = let a = c .before .before .before .before .before .args in c .allow .ensures ∙ sym (ap (λ (l : Located). andThen l (allowed (a .purpose) (a .w .now) (record { level = a .level .now }))) (sym (c .before .before .before .before .locate .ensures) ∙ c .before .before .i .given .1))
 
 returns-2 : tie.Need-returns-2
 unfolding reached
-returns-2 c = let a = c .before .before .before .before .args in sym (ap (λ (l : Located). andThen l (allowed (a .purpose) (a .w .now) (a .g))) (sym (c .before .before .before .locate .ensures) ∙ c .before .code .given .1))
+returns-2 c = let a = c .before .before .before .before .args in sym (ap (λ (l : Located). andThen l (allowed (a .purpose) (a .w .now) (record { level = a .level .now }))) (sym (c .before .before .before .locate .ensures) ∙ c .before .code .given .1))
 
 pub reach-spec : {M : Type 1} → statement M
 reach-spec =
