@@ -17,17 +17,17 @@ use Rattle.report.proofs.part.fill.Statement.{statement}
 use Rattle.report.proofs.part.fill.Tie as tie
 
 abbrev Inv-loop : tie.InvT-loop
-Inv-loop w words nulls texts versions defaults edits g skips row asked out₀ start place₀ path₀ i₀ end₀ room₀ out place path i end room =
+Inv-loop w words nulls texts versions defaults edits level skips row asked out₀ start place₀ path₀ i₀ end₀ room₀ out place path i end room =
     (end + room ≡ start + blockRoom)
     × ((length out ≡ length out₀)
-    × ((new : List ℕ) (r : Filled) → Filling out end room place (ahead (seen w words nulls texts versions defaults edits g skips) (askedPaths row asked) path i) new r →
-    Filling out₀ start blockRoom place₀ (blocksFrom (seen w words nulls texts versions defaults edits g skips) (askedPaths row asked) place₀) new r))
+    × ((new : List ℕ) (r : Filled) → Filling out end room place (ahead (seen w words nulls texts versions defaults edits (record { level = level }) skips) (askedPaths row asked) path i) new r →
+    Filling out₀ start blockRoom place₀ (blocksFrom (seen w words nulls texts versions defaults edits (record { level = level }) skips) (askedPaths row asked) place₀) new r))
 
 abbrev μ-loop : tie.MeasureT-loop
-μ-loop w words nulls texts versions defaults edits g skips row asked out₀ start place₀ path₀ i₀ end₀ room₀ out place path i end room = asked - path
+μ-loop w words nulls texts versions defaults edits level skips row asked out₀ start place₀ path₀ i₀ end₀ room₀ out place path i end room = asked - path
 
 abbrev view : (c : tie.Start Inv-loop μ-loop) → View
-view c = let a = c .args in seen (a .w .now) (a .words .now) (a .nulls .now) (a .texts .now) (a .versions .now) (a .defaults .now) (a .edits .now) (a .g) (a .skips)
+view c = let a = c .args in seen (a .w .now) (a .words .now) (a .nulls .now) (a .texts .now) (a .versions .now) (a .defaults .now) (a .edits .now) (record { level = a .level .now }) (a .skips .now)
 
 abbrev paths : (c : tie.Start Inv-loop μ-loop) → List Asked
 paths c = askedPaths (c .args .row .now) (c .args .asked)

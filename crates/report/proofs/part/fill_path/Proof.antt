@@ -15,17 +15,17 @@ use Rattle.report.proofs.part.fill_path.Statement.{statement}
 use Rattle.report.proofs.part.fill_path.Tie as tie
 
 abbrev Inv-loop : tie.InvT-loop
-Inv-loop w words nulls texts versions defaults edits g skips p path first out₀ start room span place₀ i₀ end₀ left₀ out place i end left =
+Inv-loop w words nulls texts versions defaults edits level skips p path first out₀ start room span place₀ i₀ end₀ left₀ out place i end left =
     (end + left ≡ start + room)
     × ((length out ≡ length out₀)
-    × ((new : List ℕ) (r : Filled) → Filling out end left place (pathBlocks (seen w words nulls texts versions defaults edits g skips) path p i) new r →
-    Filling out₀ start room place₀ (pathBlocks (seen w words nulls texts versions defaults edits g skips) path p first) new r))
+    × ((new : List ℕ) (r : Filled) → Filling out end left place (pathBlocks (seen w words nulls texts versions defaults edits (record { level = level }) skips) path p i) new r →
+    Filling out₀ start room place₀ (pathBlocks (seen w words nulls texts versions defaults edits (record { level = level }) skips) path p first) new r))
 
 abbrev μ-loop : tie.MeasureT-loop
-μ-loop w words nulls texts versions defaults edits g skips p path first out₀ start room span place₀ i₀ end₀ left₀ out place i end left = span - i
+μ-loop w words nulls texts versions defaults edits level skips p path first out₀ start room span place₀ i₀ end₀ left₀ out place i end left = span - i
 
 abbrev view : (c : tie.Start Inv-loop μ-loop) → View
-view c = let a = c .args in seen (a .w .now) (a .words .now) (a .nulls .now) (a .texts .now) (a .versions .now) (a .defaults .now) (a .edits .now) (a .g) (a .skips)
+view c = let a = c .args in seen (a .w .now) (a .words .now) (a .nulls .now) (a .texts .now) (a .versions .now) (a .defaults .now) (a .edits .now) (record { level = a .level .now }) (a .skips .now)
 
 -- in the loop, the place is one of its path's
 inside : (c : tie.In-loop Inv-loop μ-loop) → c .before .loop .i < span (c .before .before .before .before .before .before .args .w .now) (c .before .before .before .before .before .before .args .p)
@@ -76,7 +76,7 @@ offer-item-requires : tie.Need-offer-item-requires Inv-loop μ-loop
 offer-item-requires c κs =
     let s = c .before .before .before .before .before .before .before .before .before .before in
     let l = c .before .before .before .before .before .loop in
-    (s .pre .0, (value-index (s .args .w .now) (s .args .g) (s .args .skips) (s .args .p) (l .i) _ (inside (c .before .before .before .before)) (c .before .before .before .item-at .ensures), omega (arith, l .inv .0, l .inv .1 .0, s .pre .1)))
+    (s .pre .0, (value-index (s .args .w .now) (record { level = s .args .level .now }) (s .args .skips .now) (s .args .p) (l .i) _ (inside (c .before .before .before .before)) (c .before .before .before .item-at .ensures), omega (arith, l .inv .0, l .inv .1 .0, s .pre .1)))
 
 same-length : tie.Need-same-length Inv-loop μ-loop
 same-length c = search needs

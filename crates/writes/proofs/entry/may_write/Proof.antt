@@ -24,18 +24,18 @@ enum-known-i : tie.Need-enum-known-i
 enum-known-i c = search needs
 
 at-version-requires : tie.Need-at-version-requires
-at-version-requires c κs = let a = c .before .before .before .before .before .before .before .args in reached-within Write (a .w .now) (a .g) (a .x .endpoint) (a .x .cluster) (a .x .attribute) _ (sym (c .before .before .before .reach .ensures) ∙ c .before .i .given .1)
+at-version-requires c κs = let a = c .before .before .before .before .before .before .before .before .before .args in reached-within Write (a .w .now) (a .g) (a .x .endpoint) (a .x .cluster) (a .x .attribute) _ (sym (c .before .before .before .reach .ensures) ∙ c .before .i .given .1)
 
 enum-known-code : tie.Need-enum-known-code
 enum-known-code c = search needs
 
 returns : tie.Need-returns
 unfolding mayWrite
-returns c = let a = c .before .before .before .before .before .before .before .before .args in c .at-version .ensures ∙ sym (ap (λ (l : Located). andThen l (atVersion (a .w .now) (a .versions .now) (a .x .version))) (sym (c .before .before .before .before .reach .ensures) ∙ c .before .before .i .given .1))
+returns c = let a = c .before .before .before .before .before .before .before .before .before .before .args in c .at-version .ensures ∙ sym (ap (λ (l : Located). andThen l (atVersion (a .w .now) (a .versions .now) (a .x .version))) (sym (c .before .before .before .before .reach .ensures) ∙ c .before .before .i .given .1))
 
 returns-2 : tie.Need-returns-2
 unfolding mayWrite
-returns-2 c = let a = c .before .before .before .before .before .before .before .args in sym (ap (λ (l : Located). andThen l (atVersion (a .w .now) (a .versions .now) (a .x .version))) (sym (c .before .before .before .reach .ensures) ∙ c .before .code .given .1))
+returns-2 c = let a = c .before .before .before .before .before .before .before .before .before .args in sym (ap (λ (l : Located). andThen l (atVersion (a .w .now) (a .versions .now) (a .x .version))) (sym (c .before .before .before .reach .ensures) ∙ c .before .code .given .1))
 
 pub may-write-spec : {M : Type 1} → statement M
 may-write-spec =
