@@ -1,4 +1,4 @@
--- What the quick test passes is right: where every page that shows a text is ASCII throughout, the texts shown are well-formed.
+-- What the quick test passes is right: the texts shown from each page are well-formed, and lie in it.
 use mathlib.Core.Path.{_≡_, refl, sym, ap, _∙_}
 use mathlib.Core.Bool.{Bool, true, false, not, _&&_, _||_, cond, Bool·beq, false≢true}
 use mathlib.Core.List.{List}
@@ -6,8 +6,9 @@ use Prim.Native.Nat.{ℕ, _+_, _*_, _-_, _≤_, _<_, min}
 use native.Mathlib.Omega.{arith}
 use borrow.Author.Tests.{le-leb, lt-leb, leb-true, eqb-true, eq-eqb, ne-eqb}
 use lib.Dec.{eqb, leb}
-use lib.ListN.{length, getD}
+use lib.ListN.{length, getD, take, drop}
 use Rattle.bounds.specs.Bounds.{textMax}
+use Rattle.utf8.specs.WellFormed.{wellFormed}
 use Rattle.utf8.specs.Bytewise.{allBelow}
 use Rattle.utf8.proofs.Below.{ascii-formed, below-part}
 use Rattle.schema.specs.Layout.{textLimit, textSize}
@@ -21,7 +22,7 @@ use Rattle.node.specs.Pages.{place, unchanged, shownText}
 use Rattle.node.proofs.PageLaws.{part-whole}
 use Rattle.values.specs.Values.{rankText, rankLength, markAt}
 use Rattle.values.specs.Valid.{markMax, textRight, heldRight, valuesRight}
-use Rattle.values.specs.Quick.{some, someNull, someText, textRoom, plainPage, near, nearAt, nullAt, quickAt, allQuick, quickRight}
+use Rattle.values.specs.Quick.{some, someNull, someText, textRoom, plainPage, startIn, lengthIn, formedAt, near, nearAt, nullAt, quickAt, allQuick, quickRight}
 use Rattle.values.proofs.ValueLaws.{mark-there}
 use Rattle.values.proofs.ValidLaws.{withinLimits, whole-text, text-null, text-there, number-row, text-first, text-within, text-right, heldOf, bothAt, right-done}
 
@@ -63,17 +64,33 @@ module _ (page texts : List ℕ) (factory : Bool) (n : ℕ) where
     unfolding plainPage
     plain-below h = right (leb (length page) (textLimit * textSize)) _ (rw s at h)
 
--- the page that a text is shown from
-abbrev pageOf : List ℕ → List ℕ → ℕ → List ℕ
-pageOf defaults edits mark = cond (unchanged mark) defaults edits
+-- so its parts are well-formed
+module _ (w page texts : List ℕ) (factory : Bool) (n : ℕ) where
+  pub plain-formed : plainPage page texts factory n ≡ true → true ≡ every (formedAt w page texts factory) n
+  plain-formed h =
+      sym (every-all (formedAt w page texts factory) n
+      (λ r l.
+      by-test (Bool·beq (unchanged (getD texts r 0)) factory)
+      (λ t.
+      let b = plain-below page texts factory n (some-at (λ k. Bool·beq (unchanged (getD texts k 0)) factory) n r l t) h in
+      rw t (ascii-formed _ (below-part 128 (lengthIn w (getD texts r 0) factory r) (startIn w factory r) page b)))
+      (λ t. rw t)))
 
-page-below : (defaults edits texts : List ℕ) (n r : ℕ) → r < n → plainPage defaults texts true n ≡ true → plainPage edits texts false n ≡ true → allBelow 128 (pageOf defaults edits (getD texts r 0)) ≡ true
-page-below defaults edits texts n r l d e =
-    by-test (eqb (getD texts r 0) 0)
-    (λ t. rw t (plain-below defaults texts true n (some-at (λ k. Bool·beq (unchanged (getD texts k 0)) true) n r l (ap (λ (b : Bool). Bool·beq b true) t)) d))
-    (λ t. rw t (plain-below edits texts false n (some-at (λ k. Bool·beq (unchanged (getD texts k 0)) false) n r l (ap (λ (b : Bool). Bool·beq b false) t)) e))
+-- as the code judges a text: shown from this page, and valid there or not; or not shown from it
+module _ (w page texts : List ℕ) (factory : Bool) (r : ℕ) where
+  pub formed-here : Bool·beq (unchanged (getD texts r 0)) factory ≡ true → wellFormed (take (lengthIn w (getD texts r 0) factory r) (drop (startIn w factory r) page)) ≡ formedAt w page texts factory r
+  formed-here t = rw t
 
--- ---- the text of a rank, where its page is ASCII and the page of edits has room for it
+  pub formed-other : Bool·beq (unchanged (getD texts r 0)) factory ≡ false → formedAt w page texts factory r ≡ true
+  formed-other t = rw t
+
+-- so the text of a rank is well-formed
+rank-formed : (w defaults edits texts : List ℕ) (r : ℕ) → formedAt w defaults texts true r ≡ true → formedAt w edits texts false r ≡ true → wellFormed (rankText w defaults edits r (getD texts r 0)) ≡ true
+unfolding shownText
+rank-formed w defaults edits texts r d e =
+    by-test (eqb (getD texts r 0) 0) (λ t. rw t (rw t at d)) (λ t. rw t (rw t at e))
+
+-- ---- the text of a rank, where it is well-formed and the page of edits has room for it
 
 module _ (w defaults edits : List ℕ) (r mark : ℕ) (h : near (factoryStart w r) (factoryLength w r) mark (length defaults) ≡ true) where
   near-factory : eqb mark 0 ≡ true → (leb (factoryLength w r) (min (length defaults) textMax) && leb (factoryStart w r) (length defaults - factoryLength w r)) ≡ true
@@ -103,19 +120,12 @@ module _ (w defaults edits : List ℕ) (r mark : ℕ) (h : near (factoryStart w 
         let n = leb-true mark markMax (near-changed t) in
         rw t (sym (part-whole (mark - 1) (place r) edits) ∙ le-leb (mark - 1) (length edits - place r) (omega (arith, n, s))))
 
-    module _ (b : allBelow 128 (pageOf defaults edits mark) ≡ true) where
-      near-below : allBelow 128 (rankText w defaults edits r mark) ≡ true
-      unfolding shownText allBelow
-      near-below =
-          by-test (eqb mark 0) (λ t. rw t (below-part 128 (factoryLength w r) (factoryStart w r) defaults (rw t at b)))
-          (λ t. rw t (below-part 128 (mark - 1) (place r) edits (rw t at b)))
-
-      pub near-right : (isNull : Bool) → textRight w defaults edits r isNull mark ≡ true
-      near-right true = sym (text-null w defaults edits r mark true near-mark refl)
-      near-right false =
-          sym (text-there w defaults edits r mark false near-mark refl)
-          ∙ sym (whole-text (rankText w defaults edits r mark) (rankLength w r mark) near-length near-whole)
-          ∙ ascii-formed (rankText w defaults edits r mark) near-below
+    pub near-right : wellFormed (rankText w defaults edits r mark) ≡ true → (isNull : Bool) → textRight w defaults edits r isNull mark ≡ true
+    near-right f true = sym (text-null w defaults edits r mark true near-mark refl)
+    near-right f false =
+        sym (text-there w defaults edits r mark false near-mark refl)
+        ∙ sym (whole-text (rankText w defaults edits r mark) (rankLength w r mark) near-length near-whole)
+        ∙ f
 
 -- ---- the rows
 
@@ -181,15 +191,15 @@ module _ (w defaults edits words : List ℕ) (nulls : List Bool) (texts : List �
   unfolding quickRight
   null = every-at (nullAt w words nulls) (attributeCount w) (left _ _ q)
 
-  pages : (plainPage defaults texts true (textRoom (length edits)) && (plainPage edits texts false (textRoom (length edits)) && allQuick w words nulls texts (length defaults) (length edits))) ≡ true
+  pages : (every (formedAt w defaults texts true) (textRoom (length edits)) && (every (formedAt w edits texts false) (textRoom (length edits)) && allQuick w words nulls texts (length defaults) (length edits))) ≡ true
   unfolding quickRight
   pages = right (every (nullAt w words nulls) (attributeCount w)) _ q
 
-  rest : (plainPage edits texts false (textRoom (length edits)) && allQuick w words nulls texts (length defaults) (length edits)) ≡ true
-  rest = right (plainPage defaults texts true (textRoom (length edits))) _ pages
+  rest : (every (formedAt w edits texts false) (textRoom (length edits)) && allQuick w words nulls texts (length defaults) (length edits)) ≡ true
+  rest = right (every (formedAt w defaults texts true) (textRoom (length edits))) _ pages
 
   passed : allQuick w words nulls texts (length defaults) (length edits) ≡ true
-  passed = right (plainPage edits texts false (textRoom (length edits))) _ rest
+  passed = right (every (formedAt w edits texts false) (textRoom (length edits))) _ rest
 
   counted : (leb (textCount w) textLimit && eqb (length edits) (textSize * textCount w)) ≡ true
   unfolding allQuick
@@ -221,10 +231,11 @@ module _ (w defaults edits words : List ℕ) (nulls : List Bool) (texts : List �
           let mark = markAt w texts i in
           let m = mark-there texts r (omega (arith, first, leb-true (textCount w) textLimit (left _ _ counted))) in
           let z = eqb-true (getD words i 0) 0 (left _ _ text-rest) in
+          let inside : attributeRow w i .first < textRoom (length edits) = omega (arith, size, first, leb-true (textCount w) textLimit (left _ _ counted)) in
           both _ _ (text-first w defaults edits i (getD words i 0) (getD nulls i false) mark t)
           (sym (text-right w defaults edits i (getD words i 0) (getD nulls i false) mark t (text-within w defaults edits i (getD words i 0) (getD nulls i false) mark t (null i l) z) z)
           ∙ rw m (near-right w defaults edits r (getD texts r 0) (right (eqb (getD words i 0) 0) _ text-rest) (omega (arith, size, first))
-          (page-below defaults edits texts (textRoom (length edits)) r (omega (arith, size, first, leb-true (textCount w) textLimit (left _ _ counted))) (left _ _ pages) (left _ _ rest))
+          (rank-formed w defaults edits texts r (every-at (formedAt w defaults texts true) (textRoom (length edits)) (left _ _ pages) r inside) (every-at (formedAt w edits texts false) (textRoom (length edits)) (left _ _ rest) r inside))
           (getD nulls i false)))
 
     row-right : bothAt w defaults edits (heldOf words nulls texts) i ≡ true

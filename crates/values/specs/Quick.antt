@@ -1,20 +1,21 @@
--- The quick test of what is held, where every page that shows a text is ASCII throughout: each row by a few comparisons. What it passes is right
+-- The quick test of what is held: every text of a page is valid, null or not, and each row passes a few comparisons. What it passes is right
 -- (proofs/QuickLaws.antt); what it does not pass is looked at closely.
 use mathlib.Core.Bool.{Bool, true, false, not, _&&_, _||_, Bool·beq}
 use mathlib.Core.List.{List}
 use Prim.Native.Nat.{ℕ, _*_, _-_, _/_, min}
-use lib.Dec.{eqb, leb}
-use lib.ListN.{length, getD}
+use lib.Dec.{eqb, leb, ltb}
+use lib.ListN.{length, getD, take, drop}
 use Rattle.bounds.specs.Bounds.{textMax}
 use Rattle.tlv.specs.Octet.{pick}
+use Rattle.utf8.specs.WellFormed.{wellFormed}
 use Rattle.utf8.specs.Bytewise.{allBelow}
 use Rattle.kinds.specs.Stored.{held}
 use Rattle.schema.specs.Layout.{textLimit, textSize}
 use Rattle.schema.specs.Rows.{attributeRow, attributeCount, isText, factoryStart, factoryLength}
-use Rattle.schema.specs.Check.{every, rank, textCount}
+use Rattle.schema.specs.Check.{every, count, rank, textCount}
 use Rattle.node.specs.Attributes.{kindOf}
 use Rattle.node.specs.Check.{numberRight}
-use Rattle.node.specs.Pages.{unchanged}
+use Rattle.node.specs.Pages.{place, unchanged}
 use Rattle.values.specs.Values.{markAt}
 use Rattle.values.specs.Valid.{markMax}
 
@@ -37,6 +38,26 @@ textRoom size = min (size / textSize) textLimit
 unfoldable pub plainPage : List ℕ → List ℕ → Bool → ℕ → Bool
 unfolding some
 plainPage page texts factory n = not (someText texts factory n) || (leb (length page) (textLimit * textSize) && allBelow 128 page)
+
+-- where the text of rank r begins in the factory page (true), or in the page of edits (false), and its length there
+abbrev pub startIn : List ℕ → Bool → ℕ → ℕ
+startIn w factory r = pick factory (factoryStart w r) (place r)
+
+abbrev pub lengthIn : List ℕ → ℕ → Bool → ℕ → ℕ
+lengthIn w mark factory r = pick factory (factoryLength w r) (mark - 1)
+
+-- the text of rank r, if it is shown from this page, is valid UTF-8
+abbrev pub formedAt : List ℕ → List ℕ → List ℕ → Bool → ℕ → Bool
+formedAt w page texts factory r =
+    pick (Bool·beq (unchanged (getD texts r 0)) factory) (wellFormed (take (lengthIn w (getD texts r 0) factory r) (drop (startIn w factory r) page))) true
+
+-- up to which length a page is judged as a whole: what the texts of a schema take, and of edits two places for each text of more than half a place. It
+-- decides how a page is judged, and not the answer
+abbrev pub longTexts : List ℕ → ℕ → ℕ
+longTexts texts n = count (λ r. ltb 101 (getD texts r 0)) n
+
+abbrev pub wholeLimit : List ℕ → Bool → ℕ → ℕ
+wholeLimit texts factory n = pick factory (textLimit * textSize) (2 * textSize * longTexts texts n)
 
 -- a text lies in its page: a factory text, of n bytes at low, in the len bytes of the page of defaults; a changed one by its mark, since the page of edits
 -- has room for every text
@@ -64,8 +85,8 @@ allQuick w words nulls texts len size = every (quickAt w words nulls texts len) 
 
 -- THE QUICK TEST
 unfoldable pub quickRight : List ℕ → List ℕ → List ℕ → List ℕ → List Bool → List ℕ → Bool
-unfolding plainPage allQuick
+unfolding allQuick
 quickRight w defaults edits words nulls texts =
     every (nullAt w words nulls) (attributeCount w)
-    && (plainPage defaults texts true (textRoom (length edits))
-    && (plainPage edits texts false (textRoom (length edits)) && allQuick w words nulls texts (length defaults) (length edits)))
+    && (every (formedAt w defaults texts true) (textRoom (length edits))
+    && (every (formedAt w edits texts false) (textRoom (length edits)) && allQuick w words nulls texts (length defaults) (length edits)))

@@ -14,6 +14,7 @@ use tlv::Value;
 
 pub mod change; // change.rt: whether a value differs from the one held, and storing it
 pub mod fresh; // fresh.rt: what a fresh sign holds
+pub mod pages; // pages.rt: whether the texts shown from a page are valid
 pub mod quick; // quick.rt: a quick test of values and pages
 pub mod valid; // valid.rt: whether values and pages keep the rules
 

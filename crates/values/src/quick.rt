@@ -1,23 +1,21 @@
-// The quick test of what a sign holds, asked at every call: a page that shows texts is looked at as a whole, and where all is ASCII, a row takes a few
-// comparisons. What it passes is right; what it does not pass is looked at closely (valid.rt).
+// The quick test of what a sign holds, asked at every call: the texts of each page (pages.rt), and a few comparisons for each row. What it passes is right;
+// what it does not pass is looked at closely (valid.rt).
 ghost use mathlib.Core.Path.{_≡_};
 ghost use mathlib.Core.Bool.{_&&_};
 ghost use Prim.Native.Nat.{_<_, _≤_, min};
 ghost use lib.Dec.{eqb};
 ghost use Rattle.bounds.specs.Bounds.{attributeLimit, textMax};
-ghost use Rattle.schema.specs.Layout.{textLimit};
 ghost use Rattle.schema.specs.Rows.{attributeRow};
 ghost use Rattle.schema.specs.Check.{every};
-ghost use Rattle.values.specs.Quick.{someNull, someText, textRoom, plainPage, near, nullAt, allQuick, quickRight};
+ghost use Rattle.values.specs.Quick.{someNull, near, nullAt, allQuick, quickRight};
+use super::pages::is_fit;
+use super::pages::text_room;
 use bounds::ATTRIBUTES;
 use bounds::TEXT_MAX;
 use node::held::limits_hold;
 use schema::TEXT_SIZE;
 use schema::TEXTS;
 use schema::WORDS;
-
-// What the texts of a schema take at most: a longer page is not looked at as a whole.
-const PAGE: usize = TEXTS * TEXT_SIZE;
 
 // The highest mark: that of a text of TEXT_MAX bytes.
 pub const MARK_MAX: u16 = 201;
@@ -34,42 +32,6 @@ fn some_null(nulls: &[bool; ATTRIBUTES], n: usize) -> bool
         i += 1;
     }
     found
-}
-
-// Whether one of the first n texts is shown from the page of defaults (factory), or from the page of edits.
-pub fn some_text(texts: &[u16; TEXTS], n: usize, factory: bool) -> bool
-    requires { ⌜ n ≤ textLimit ⌝ }
-    ensures { λ r. ⌜ r ≡ someText (now (texts .entry)) factory n ⌝ }
-{
-    let mut found = false;
-    let mut i = 0;
-    while i < n {
-        found = found | ((texts[i] == 0) == factory);
-        i += 1;
-    }
-    found
-}
-
-// How many texts a page of edits of this size has room for.
-pub fn text_room(size: usize) -> usize
-    ensures { λ r. ⌜ r ≡ textRoom size ⌝ }
-{
-    let n = size / TEXT_SIZE;
-    if n < TEXTS { n } else { TEXTS }
-}
-
-// Whether no text has to be looked at in this page: none is shown from it, or all of it is ASCII.
-fn is_plain<'a>(page: &'a [u8], texts: &'a [u16; TEXTS], n: usize, factory: bool) -> bool
-    requires { ⌜ n ≤ textLimit ⌝ }
-    ensures { λ r. ⌜ r ≡ plainPage (now (page .entry)) (now (texts .entry)) factory n ⌝ }
-{
-    if !some_text(texts, n, factory) {
-        return true;
-    }
-    if PAGE < page.len() {
-        return false;
-    }
-    utf8::ascii(page)
 }
 
 // The longest factory text that is not looked at closely: what a page of len bytes can have.
@@ -194,7 +156,7 @@ pub fn all_quick<'a>(
     size == TEXT_SIZE * rank
 }
 
-// The quick test: nulls, then pages that need not be looked at text by text, then the rows.
+// The quick test: nulls, then the texts of each page, null or not, then the rows.
 pub fn is_quick<'a>(
     w: &'a [u64; WORDS],
     defaults: &'a [u8],
@@ -210,10 +172,10 @@ pub fn is_quick<'a>(
         return false;
     }
     let shown = text_room(edits.len());
-    if !is_plain(defaults, texts, shown, true) {
+    if !is_fit(w, defaults, texts, shown, true) {
         return false;
     }
-    if !is_plain(edits, texts, shown, false) {
+    if !is_fit(w, edits, texts, shown, false) {
         return false;
     }
     all_quick(w, words, nulls, texts, defaults.len() as u64, edits.len())

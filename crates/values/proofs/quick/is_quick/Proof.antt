@@ -4,7 +4,7 @@ use borrow.Author.Needs.{needs}
 use borrow.Author.Tests.{not-true, not-false}
 use Rattle.schema.specs.Check.{every}
 use Rattle.schema.proofs.BoolLaws.{past, fails}
-use Rattle.values.specs.Quick.{plainPage, nullAt, quickRight}
+use Rattle.values.specs.Quick.{formedAt, nullAt, quickRight}
 use Rattle.values.proofs.quick.is_quick.Statement.{statement}
 use Rattle.values.proofs.quick.is_quick.Tie as tie
 
@@ -24,27 +24,27 @@ returns c =
 text-room-requires : tie.Need-text-room-requires
 text-room-requires c κs = search needs
 
-is-plain-requires : tie.Need-is-plain-requires
-is-plain-requires c κs = search needs
+is-fit-requires : tie.Need-is-fit-requires
+is-fit-requires c κs = search needs
 
 returns-2 : tie.Need-returns-2
 unfolding quickRight
 returns-2 c =
     let a = c .before .before .before .before .before .before .before .before .args in
     let z = c .before .before .before .before .nulls-ok .ensures ∙ ap (every (nullAt (a .w .now) (a .words .now) (a .nulls .now))) (c .before .before .before .before .before .attribute-count .ensures) in
-    let e = c .before .is-plain .ensures ∙ ap (plainPage (a .defaults .now) (a .texts .now) true) (c .before .before .text-room .ensures) in
+    let e = c .before .is-fit .ensures ∙ ap (every (formedAt (a .w .now) (a .defaults .now) (a .texts .now) true)) (c .before .before .text-room .ensures) in
     fails _ _ (sym e ∙ not-true _ (c .if2 .taken)) ∙ past _ _ (sym z ∙ not-false _ (c .before .before .before .if1 .left))
 
-is-plain-requires-2 : tie.Need-is-plain-requires-2
-is-plain-requires-2 c κs = search needs
+is-fit-requires-2 : tie.Need-is-fit-requires-2
+is-fit-requires-2 c κs = search needs
 
 returns-3 : tie.Need-returns-3
 unfolding quickRight
 returns-3 c =
     let a = c .before .before .before .before .before .before .before .before .before .before .args in
     let z = c .before .before .before .before .before .before .nulls-ok .ensures ∙ ap (every (nullAt (a .w .now) (a .words .now) (a .nulls .now))) (c .before .before .before .before .before .before .before .attribute-count .ensures) in
-    let e = c .before .before .before .is-plain .ensures ∙ ap (plainPage (a .defaults .now) (a .texts .now) true) (c .before .before .before .before .text-room .ensures) in
-    let f = c .before .is-plain2 .ensures ∙ ap (plainPage (a .edits .now) (a .texts .now) false) (c .before .before .before .before .text-room .ensures) in
+    let e = c .before .before .before .is-fit .ensures ∙ ap (every (formedAt (a .w .now) (a .defaults .now) (a .texts .now) true)) (c .before .before .before .before .text-room .ensures) in
+    let f = c .before .is-fit2 .ensures ∙ ap (every (formedAt (a .w .now) (a .edits .now) (a .texts .now) false)) (c .before .before .before .before .text-room .ensures) in
     fails _ _ (sym f ∙ not-true _ (c .if3 .taken)) ∙ past _ _ (sym e ∙ not-false _ (c .before .before .if2 .left)) ∙ past _ _ (sym z ∙ not-false _ (c .before .before .before .before .before .if1 .left))
 
 all-quick-requires : tie.Need-all-quick-requires
@@ -55,8 +55,8 @@ unfolding quickRight
 returns-4 c =
     let a = c .before .before .before .before .before .before .before .before .before .before .before .args in
     let z = c .before .before .before .before .before .before .before .nulls-ok .ensures ∙ ap (every (nullAt (a .w .now) (a .words .now) (a .nulls .now))) (c .before .before .before .before .before .before .before .before .attribute-count .ensures) in
-    let e = c .before .before .before .before .is-plain .ensures ∙ ap (plainPage (a .defaults .now) (a .texts .now) true) (c .before .before .before .before .before .text-room .ensures) in
-    let f = c .before .before .is-plain2 .ensures ∙ ap (plainPage (a .edits .now) (a .texts .now) false) (c .before .before .before .before .before .text-room .ensures) in
+    let e = c .before .before .before .before .is-fit .ensures ∙ ap (every (formedAt (a .w .now) (a .defaults .now) (a .texts .now) true)) (c .before .before .before .before .before .text-room .ensures) in
+    let f = c .before .before .is-fit2 .ensures ∙ ap (every (formedAt (a .w .now) (a .edits .now) (a .texts .now) false)) (c .before .before .before .before .before .text-room .ensures) in
     c .all-quick .ensures
     ∙ past _ _ (sym f ∙ not-false _ (c .before .if3 .left))
     ∙ past _ _ (sym e ∙ not-false _ (c .before .before .before .if2 .left))
@@ -70,9 +70,9 @@ is-quick-spec =
     nulls-ok-requires
     returns
     text-room-requires
-    is-plain-requires
+    is-fit-requires
     returns-2
-    is-plain-requires-2
+    is-fit-requires-2
     returns-3
     all-quick-requires
     returns-4)

@@ -2,12 +2,9 @@ use mathlib.Core.Path.{sym, ap, _∙_}
 use mathlib.Core.Bool.{true, false}
 use borrow.Author.Needs.{needs}
 use borrow.Author.Tests.{not-true, not-false}
-use Prim.Native.Nat.{_*_}
-use lib.Dec.{leb}
-use lib.ListN.{length}
 use Rattle.schema.specs.Check.{every}
-use Rattle.schema.proofs.BoolLaws.{right, past, fails}
-use Rattle.values.specs.Quick.{someText, nullAt}
+use Rattle.schema.proofs.BoolLaws.{past, fails}
+use Rattle.values.specs.Quick.{nullAt}
 use Rattle.values.proofs.CloseLaws.{close-right}
 use Rattle.values.proofs.valid.all_right.Statement.{statement}
 use Rattle.values.proofs.valid.all_right.Tie as tie
@@ -33,35 +30,16 @@ returns-2 c =
     let z = c .before .before .before .before .nulls-ok .ensures ∙ ap (every (nullAt (a .w .now) (a .words .now) (a .nulls .now))) (c .before .before .before .before .before .attribute-count .ensures) in
     fails _ _ (sym (c .before .all-quick .ensures) ∙ not-true _ (c .if2 .taken)) ∙ past _ _ (sym z ∙ not-false _ (c .before .before .before .if1 .left)) ∙ close-right (a .w .now) (a .defaults .now) (a .edits .now) (a .words .now) (a .nulls .now) (a .texts .now)
 
-text-room-requires : tie.Need-text-room-requires
-text-room-requires c κs = search needs
-
-whole-page-requires : tie.Need-whole-page-requires
-whole-page-requires c κs = search needs
-
-long-texts-requires : tie.Need-long-texts-requires
-long-texts-requires c κs = search needs
-
-mul-limit : tie.Need-mul-limit
-mul-limit c = search needs
-
-whole-page-requires-2 : tie.Need-whole-page-requires-2
-whole-page-requires-2 c κs = search needs
-
 all-texts-requires : tie.Need-all-texts-requires
-all-texts-requires c κs =
-    let a = c .before .before .before .before .before .before .before .before .before .before .before .before .args in (
-      λ h. right (leb (length (a .defaults .now)) (length (a .edits .now))) _ (right (someText (a .texts .now) true _) _ (sym (c .before .before .whole-page .ensures) ∙ h)),
-      λ h. right (leb (length (a .edits .now)) (400 * c .before .long-texts .result)) _ (right (someText (a .texts .now) false _) _ (sym (c .whole-page2 .ensures) ∙ h)),
-    )
+all-texts-requires c κs = search needs
 
 returns-3 : tie.Need-returns-3
 returns-3 c =
-    let a = c .before .before .before .before .before .before .before .before .before .before .before .before .before .args in
-    let z = c .before .before .before .before .before .before .before .before .before .nulls-ok .ensures ∙ ap (every (nullAt (a .w .now) (a .words .now) (a .nulls .now))) (c .before .before .before .before .before .before .before .before .before .before .attribute-count .ensures) in
+    let a = c .before .before .before .before .before .before .before .before .before .args in
+    let z = c .before .before .before .before .before .nulls-ok .ensures ∙ ap (every (nullAt (a .w .now) (a .words .now) (a .nulls .now))) (c .before .before .before .before .before .before .attribute-count .ensures) in
     c .all-texts .ensures
-    ∙ past _ _ (sym (c .before .before .before .before .before .before .all-quick .ensures) ∙ not-false _ (c .before .before .before .before .before .if2 .left))
-    ∙ past _ _ (sym z ∙ not-false _ (c .before .before .before .before .before .before .before .before .if1 .left))
+    ∙ past _ _ (sym (c .before .before .all-quick .ensures) ∙ not-false _ (c .before .if2 .left))
+    ∙ past _ _ (sym z ∙ not-false _ (c .before .before .before .before .if1 .left))
     ∙ close-right (a .w .now) (a .defaults .now) (a .edits .now) (a .words .now) (a .nulls .now) (a .texts .now)
 
 pub all-right-spec : {M : Type 1} → statement M
@@ -73,10 +51,5 @@ all-right-spec =
     returns
     all-quick-requires
     returns-2
-    text-room-requires
-    whole-page-requires
-    long-texts-requires
-    mul-limit
-    whole-page-requires-2
     all-texts-requires
     returns-3)

@@ -14,11 +14,11 @@ use Rattle.values.proofs.valid.all_texts.Statement.{statement}
 use Rattle.values.proofs.valid.all_texts.Tie as tie
 
 abbrev Inv-loop : tie.InvT-loop
-Inv-loop w defaults edits factory edited nulls texts n i₀ i =
+Inv-loop w defaults edits nulls texts n i₀ i =
     (i ≤ n) × (n ≡ attributeCount w) × (every (λ k. shownAt w defaults edits k (getD nulls k false) (markAt w texts k)) i ≡ true)
 
 abbrev μ-loop : tie.MeasureT-loop
-μ-loop w defaults edits factory edited nulls texts n i₀ i = n - i
+μ-loop w defaults edits nulls texts n i₀ i = n - i
 
 attribute-count-requires : tie.Need-attribute-count-requires Inv-loop μ-loop
 attribute-count-requires c κs = search needs
@@ -31,7 +31,7 @@ element-copy-out-text-ok : tie.Need-element-copy-out-text-ok Inv-loop μ-loop
 element-copy-out-text-ok c = search needs
 
 text-ok-requires : tie.Need-text-ok-requires Inv-loop μ-loop
-text-ok-requires c κs = let s = c .before .before .before .before .before .before in (search needs, s .pre .0, s .pre .1)
+text-ok-requires c κs = search needs
 
 returns : tie.Need-returns Inv-loop μ-loop
 returns c =

@@ -6,7 +6,7 @@ use borrow.Author.Tests.{eq-eqb, ne-eqb}
 use lib.Dec.{eqb}
 use lib.ListN.{length, take, drop}
 use Rattle.utf8.specs.WellFormed.{wellFormed}
-use Rattle.values.proofs.ValidLaws.{too-long, not-whole, whole-text, cut-right}
+use Rattle.values.proofs.ValidLaws.{too-long, not-whole, whole-text}
 use Rattle.values.proofs.valid.part_ok.Statement.{statement}
 use Rattle.values.proofs.valid.part_ok.Tie as tie
 
@@ -21,23 +21,14 @@ returns-2 c =
     let a = c .before .before .before .before .args in
     not-whole (take (a .len) (drop (a .start) (a .page .now))) (a .len) (c .before .before .if1 .left) (rw (← c .before .part .ensures) (ne-eqb _ _ (c .if2 .taken)))
 
-is-cut-well-requires : tie.Need-is-cut-well-requires
-is-cut-well-requires c κs = search needs
-
-returns-3 : tie.Need-returns-3
-returns-3 c =
-    let s = c .before .before .before .before .before .before in
-    c .is-cut-well .ensures
-    ∙ cut-right (s .args .page .now) (s .args .start) (s .args .len) (s .pre (c .before .if3 .taken)) (c .before .before .before .before .if1 .left) (rw (← c .before .before .before .part .ensures) (eq-eqb _ _ (c .before .before .if2 .left)))
-
 valid-requires : tie.Need-valid-requires
 valid-requires c κs = search needs
 
-returns-4 : tie.Need-returns-4
-returns-4 c =
-    let a = c .before .before .before .before .before .before .args in
-    let e : eqb (length (take (a .len) (drop (a .start) (a .page .now)))) (a .len) ≡ true = rw (← c .before .before .before .part .ensures) (eq-eqb _ _ (c .before .before .if2 .left)) in
-    c .valid .ensures ∙ ap wellFormed (c .before .before .before .part .ensures) ∙ whole-text (take (a .len) (drop (a .start) (a .page .now))) (a .len) (c .before .before .before .before .if1 .left) e
+returns-3 : tie.Need-returns-3
+returns-3 c =
+    let a = c .before .before .before .before .before .args in
+    let e : eqb (length (take (a .len) (drop (a .start) (a .page .now)))) (a .len) ≡ true = rw (← c .before .before .part .ensures) (eq-eqb _ _ (c .before .if2 .left)) in
+    c .valid .ensures ∙ ap wellFormed (c .before .before .part .ensures) ∙ whole-text (take (a .len) (drop (a .start) (a .page .now))) (a .len) (c .before .before .before .if1 .left) e
 
 pub part-ok-spec : {M : Type 1} → statement M
 part-ok-spec =
@@ -46,7 +37,5 @@ part-ok-spec =
     returns
     part-requires
     returns-2
-    is-cut-well-requires
-    returns-3
     valid-requires
-    returns-4)
+    returns-3)

@@ -15,7 +15,7 @@ factory-length-requires : tie.Need-factory-length-requires
 factory-length-requires c κs = search needs
 
 part-ok-requires : tie.Need-part-ok-requires
-part-ok-requires c κs = c .before .before .before .before .before .pre .0
+part-ok-requires c κs = search needs
 
 returns : tie.Need-returns
 returns c =
@@ -25,7 +25,7 @@ returns c =
     ∙ rank-cut (a .w .now) (a .defaults .now) (a .edits .now) (a .rank) (a .mark) (c .before .before .before .if1 .taken)
 
 place-of-requires : tie.Need-place-of-requires
-place-of-requires c κs = omega (arith, c .before .before .before .pre .2 (c .if1 .left))
+place-of-requires c κs = omega (arith, c .before .before .before .pre (c .if1 .left))
 
 sub-part-ok : tie.Need-sub-part-ok
 sub-part-ok c = search needs
@@ -34,7 +34,7 @@ cast-part-ok : tie.Need-cast-part-ok
 cast-part-ok c = search needs
 
 part-ok-requires-2 : tie.Need-part-ok-requires-2
-part-ok-requires-2 c κs = c .before .before .before .before .pre .1
+part-ok-requires-2 c κs = search needs
 
 returns-2 : tie.Need-returns-2
 returns-2 c =

@@ -50,7 +50,7 @@ returns-3 c =
 rank-ok-requires : tie.Need-rank-ok-requires
 rank-ok-requires c κs =
     let s = c .before .before .before .before .before .before .before .before in
-    (s .pre .1, s .pre .2, λ n. mark-ranked (s .args .texts .now) _ (λ q. n (c .before .before .mark-of .ensures ∙ q)))
+    λ n. mark-ranked (s .args .texts .now) _ (λ q. n (c .before .before .mark-of .ensures ∙ q))
 
 returns-4 : tie.Need-returns-4
 returns-4 c =

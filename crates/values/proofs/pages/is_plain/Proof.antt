@@ -1,10 +1,10 @@
--- `values::quick::is_plain` meets its contract.
+-- `values::pages::is_plain` meets its contract.
 use mathlib.Core.Path.{sym, _∙_}
 use borrow.Author.Needs.{needs}
 use borrow.Author.Tests.{not-true, not-false}
 use Rattle.values.proofs.QuickLaws.{plain-none, plain-long, plain-all}
-use Rattle.values.proofs.quick.is_plain.Statement.{statement}
-use Rattle.values.proofs.quick.is_plain.Tie as tie
+use Rattle.values.proofs.pages.is_plain.Statement.{statement}
+use Rattle.values.proofs.pages.is_plain.Tie as tie
 
 some-text-requires : tie.Need-some-text-requires
 some-text-requires c κs = search needs

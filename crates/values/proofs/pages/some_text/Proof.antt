@@ -1,4 +1,4 @@
--- `values::quick::some_text` meets its contract. The invariant: whether one was found among those before here.
+-- `values::pages::some_text` meets its contract. The invariant: whether one was found among those before here.
 use mathlib.Core.Path.{_≡_, refl, ap, _∙_}
 use mathlib.Core.Bool.{Bool, _||_, Bool·beq}
 use Prim.Native.Nat.{ℕ, _≤_, _-_}
@@ -9,8 +9,8 @@ use lib.ListN.{getD}
 use Rattle.schema.specs.Check.{every}
 use Rattle.values.specs.Quick.{some, someText}
 use Rattle.values.proofs.QuickLaws.{some-turn}
-use Rattle.values.proofs.quick.some_text.Statement.{statement}
-use Rattle.values.proofs.quick.some_text.Tie as tie
+use Rattle.values.proofs.pages.some_text.Statement.{statement}
+use Rattle.values.proofs.pages.some_text.Tie as tie
 
 abbrev Inv-loop : tie.InvT-loop
 Inv-loop texts n factory found₀ i₀ found i = (i ≤ n) × (found ≡ someText texts factory i)
