@@ -2,7 +2,7 @@
 use mathlib.Core.Path.{_≡_, refl, ap}
 use mathlib.Core.Bool.{Bool, true, false}
 use mathlib.Core.List.{List, [], _∷_}
-use Prim.Native.Nat.{ℕ, zero, suc, _<_, _/_, _%_}
+use Prim.Native.Nat.{ℕ, zero, suc, _+_, _<_, _/_, _%_}
 use native.Mathlib.Omega.{arith}
 use borrow.Author.Tests.{eqb-true}
 use lib.Dec.{eqb, ltb}
@@ -28,7 +28,7 @@ found f (x ∷ l) t zero h = eqb-true x (f 0) (both-true (eqb x (f 0)) (Same (λ
 found f (x ∷ l) t (suc k) h = found (λ i. f (suc i)) l (both-true (eqb x (f 0)) (Same (λ i. f (suc i)) l) t .1) k (omega arith)
 
 abbrev pub tagBy : ℕ → ℕ
-tagBy form = pick (eqb form 1) 1 (pick (eqb form 0) 0 (pick (eqb form 6) 6 (pick (eqb form 7) 8 (pick (eqb (form % 2) 0) 2 4))))
+tagBy form = pick (ltb form 2) form (pick (eqb form 6) 6 (pick (eqb form 7) 8 (pick (eqb (form % 2) 0) 2 4)))
 
 pub tag-found : (form : ℕ) → form < 8 → tagWidth form ≡ tagBy form
 unfolding tagWidth
@@ -38,7 +38,7 @@ abbrev pub numberBy : ℕ → ℕ
 numberBy kind =
     pick (ltb 19 kind) 0
     (pick (eqb (kind / 2) 4) 0
-    (pick (eqb (kind % 4) 0) 1 (pick (eqb (kind % 4) 1) 2 (pick (eqb (kind % 4) 2) 4 8))))
+    (pick (eqb (kind % 4) 3) 8 (kind % 4 + 1 + kind % 4 / 2)))
 
 pub number-found : (kind : ℕ) → kind < 25 → numberWidth kind ≡ numberBy kind
 unfolding numberWidth

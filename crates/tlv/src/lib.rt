@@ -1,6 +1,8 @@
 // Matter TLV, read (Matter Core Specification, Appendix A).
 ghost use mathlib.Core.Path.{_≡_};
-ghost use Prim.Native.Nat.{_≤_, _<_};
+ghost use Prim.Native.Nat.{_+_, _≤_, _<_};
+ghost use lib.ListN.{length};
+ghost use Rattle.octets.specs.Number.{numberAt};
 ghost use Rattle.tlv.specs.Octet.{tagWidth, numberWidth, isString};
 ghost use Rattle.tlv.specs.Head.{headAt, closedAt};
 ghost use Rattle.tlv.specs.Walk.{allowedIn, elementEnd, membersEnd, elementAt, isMessage, ended};
@@ -59,11 +61,8 @@ fn tag_width(form: u8) -> usize
     ensures { λ r. ⌜ r ≡ tagWidth form ⌝ }
     ensures small { λ r. ⌜ r ≤ 8 ⌝ }
 {
-    if form == 1 {
-        return 1;
-    }
-    if form == 0 {
-        return 0;
+    if form < 2 {
+        return form as usize;
     }
     if form == 6 {
         return 6;
@@ -86,14 +85,22 @@ fn number_width(kind: u8) -> usize
     if kind / 2 == 4 {
         return 0;
     }
-    let low = kind % 4;
-    if low == 0 {
-        return 1;
+    let low = (kind % 4) as usize;
+    if low == 3 { 8 } else { low + 1 + low / 2 }
+}
+
+// The tag in the w bytes from at on. Most are context tags, of one byte, or none: then there is one test, and no table of jumps.
+fn tag_at(s: &[u8], at: usize, form: u8, w: usize) -> u64
+    requires { ⌜ (w ≡ tagWidth form) × ((w ≤ 8) × (at + w ≤ length (now s))) ⌝ }
+    ensures { λ r. ⌜ r ≡ numberAt w (now (s .entry)) at ⌝ }
+{
+    if form == 1 {
+        return octets::number(s, at, 1);
     }
-    if low == 1 {
-        return 2;
+    if form == 0 {
+        return octets::number(s, at, 0);
     }
-    if low == 2 { 4 } else { 8 }
+    octets::number(s, at, w)
 }
 
 // Whether a member with this tag form may stand in a container of this type.
@@ -177,7 +184,7 @@ impl Cursor {
         if s.len() - b < tw + nw {
             return Head::Malformed;
         }
-        let tag = octets::number(s, b, tw);
+        let tag = tag_at(s, b, form, tw);
         let number = octets::number(s, b + tw, nw);
         closed(s.len(), form, kind, tag, number, b + tw + nw)
     }

@@ -54,14 +54,14 @@ add-if5 c = search needs
 returns-4 : tie.Need-returns-4
 returns-4 c = sym (shape (c .before .before .before) _ _ (c .before .before .tag-width .ensures .0) (c .before .number-width .ensures .0) ∙ simp (lt-ltb _ _ (c .if5 .taken)))
 
-number-requires : tie.Need-number-requires
-number-requires c κs = search needs
+tag-at-requires : tie.Need-tag-at-requires
+tag-at-requires c κs = (c .before .before .tag-width .ensures .0, (c .before .before .tag-width .ensures .1, search needs))
 
 add-number : tie.Need-add-number
 add-number c = search needs
 
-number-requires-2 : tie.Need-number-requires-2
-number-requires-2 c κs = search needs
+number-requires : tie.Need-number-requires
+number-requires c κs = search needs
 
 add-closed : tie.Need-add-closed
 add-closed c = search needs
@@ -76,7 +76,7 @@ returns-5 : tie.Need-returns-5
 returns-5 c =
     c .closed .ensures
     ∙ sym (shape (c .before .before .before .before .before .before) _ _ (c .before .before .before .before .before .tag-width .ensures .0) (c .before .before .before .before .number-width .ensures .0)
-    ∙ simp (le-ltb _ _ (c .before .before .before .if5 .left), ← (c .before .before .number .ensures), ← (c .before .number2 .ensures)))
+    ∙ simp (le-ltb _ _ (c .before .before .before .if5 .left), ← (c .before .before .tag-at .ensures), ← (c .before .number .ensures)))
 
 pub head-spec : {M : Type 1} → statement M
 head-spec =
@@ -92,9 +92,9 @@ head-spec =
     sub-if5
     add-if5
     returns-4
-    number-requires
+    tag-at-requires
     add-number
-    number-requires-2
+    number-requires
     add-closed
     add-closed-2
     closed-requires
