@@ -5,7 +5,7 @@ use mathlib.Core.List.{List}
 use Prim.Native.Nat.{ℕ, zero, suc, _+_, _-_, _<_, _≤_}
 use native.Mathlib.Omega.{arith}
 use borrow.Author.Tests.{eq-eqb, ne-eqb, le-ltb, lt-ltb}
-use lib.ListN.{length, getD, set}
+use lib.ListN.{length, getD, set, replicate}
 use Rattle.tlv.specs.declared.Cursor.{Cursor}
 use Rattle.tlv.specs.declared.Element.{Element}
 use Rattle.tlv.specs.declared.Head.{Head}
@@ -19,8 +19,7 @@ use Rattle.tlv.proofs.FoldLaws.{Ahead}
 use Rattle.tlv.proofs.HeadLaws.{no-head}
 use Rattle.tlv.proofs.WalkLaws.{end-forward, broken, past}
 use Rattle.members.specs.Fields.{slotOf}
-use Rattle.members.specs.Pass.{noPass, codeOf, passAt, passOn, passListed, passMember, passBy, passIn, passFrom, passOf}
-use Rattle.members.specs.declared.Pass.{Pass}
+use Rattle.members.specs.Pass.{Pass, noPass, codeOf, passAt, passOn, passListed, passMember, passBy, passIn, passFrom, passOf}
 
 module _ (d : ℕ) (s : List ℕ) (kind : ℕ) (listed stops : List Bool) where
   on-same : (at : ℕ) (rest rest′ : ℕ → Pass) → ((p : ℕ) → at < p → rest p ≡ rest′ p) → (g : Got (Unit {0})) → Ahead at (length s) g → passOn rest g ≡ passOn rest′ g
@@ -107,6 +106,6 @@ module _ (kind d : ℕ) (s : List ℕ) (listed stops : List Bool) (e : Element) 
   unfolding passOf
   of-deep = elim d as (λ z. z ≡ 0 → passOf kind z s listed stops e ≡ noPass) [ zero ↦ λ r. refl | suc z ↦ λ r. absurd (omega arith) ]
 
-  pub of-in : e .kind ≡ kind → (d ≡ 0 → ⊥) → passOf kind d s listed stops e ≡ passFrom (d - 1) s kind listed stops noPass (e .next .at)
+  pub of-in : e .kind ≡ kind → (d ≡ 0 → ⊥) → passOf kind d s listed stops e ≡ passFrom (d - 1) s kind listed stops (replicate 10 0) (replicate 10 0) (e .next .at)
   unfolding passOf
-  of-in q = elim d as (λ z. (z ≡ 0 → ⊥) → passOf kind z s listed stops e ≡ passFrom (z - 1) s kind listed stops noPass (e .next .at)) [ zero ↦ λ r. absurd (r refl) | suc z ↦ λ r. (let p : suc z - 1 ≡ z = omega arith in simp (eq-eqb _ _ q, p)) ]
+  of-in q = elim d as (λ z. (z ≡ 0 → ⊥) → passOf kind z s listed stops e ≡ passFrom (z - 1) s kind listed stops (replicate 10 0) (replicate 10 0) (e .next .at)) [ zero ↦ λ r. absurd (r refl) | suc z ↦ λ r. (let p : suc z - 1 ≡ z = omega arith in simp (eq-eqb _ _ q, p)) ]

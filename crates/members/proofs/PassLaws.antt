@@ -22,8 +22,7 @@ use Rattle.tlv.proofs.WalkLaws.{end-within, end-forward}
 use Rattle.members.specs.Fields.{slotOf, putAt, putEnd, fieldStep, fieldsFrom, fieldsAt, insideAt}
 use Rattle.members.specs.Array.{optOf, requiredIn, optionalIn}
 use Rattle.members.specs.Scalar.{ABSENT, NULL, WRONG, numberOf, flagOf, wideOf, numberIn, flagIn, wideIn, scalarIn}
-use Rattle.members.specs.Pass.{noPass, insideOn, made, frameOn, passAt, passOn, passListed, passMember, passBy, passIn, passFrom, passOf, codeOf, codeIn, numberBy, flagBy, wideBy}
-use Rattle.members.specs.declared.Pass.{Pass}
+use Rattle.members.specs.Pass.{Pass, noPass, insideOn, made, frameOn, passAt, passOn, passListed, passMember, passBy, passIn, passFrom, passOf, codeOf, codeIn, numberBy, flagBy, wideBy}
 use Rattle.members.proofs.ArrayLaws.{required-some, optional-some}
 use Rattle.members.proofs.FieldLaws.{step-forward, inside-none, no-member, last-member, barred-member, broken-member, other-member}
 
@@ -298,9 +297,9 @@ left-in d s kind listed stops (suc f) seen codes at b n k = left-by d s kind lis
 
 -- THE LAW of a pass that goes on, and of one over a container
 module _ (d : ℕ) {s : List ℕ} {kind : ℕ} {listed stops : List Bool} {r : Pass} where
-  resumes : (before : Pass) (at : ℕ) → length (before .at) ≡ 10 → before .codes ≡ map (codeIn s) (before .at) → r ≡ passFrom d s kind listed stops before at → Left d s kind listed stops (before .at) (fieldsFrom d s kind listed (before .at) at) r
+  resumes : (seen codes : List ℕ) (at : ℕ) → length seen ≡ 10 → codes ≡ map (codeIn s) seen → r ≡ passFrom d s kind listed stops seen codes at → Left d s kind listed stops seen (fieldsFrom d s kind listed seen at) r
   unfolding passFrom
-  resumes before at n k e = rw e (left-in d s kind listed stops (length s) (before .at) (before .codes) at (omega arith) n k)
+  resumes seen codes at n k e = rw e (left-in d s kind listed stops (length s) seen codes at (omega arith) n k)
 
   pub begun : (e : Element) → r ≡ passOf kind d s listed stops e → Left (d - 1) s kind listed stops (replicate 10 0) (insideOn kind d s listed e) r
   unfolding passOf insideOn fieldsAt passFrom codeIn
@@ -438,9 +437,9 @@ module _ {A : Type 0} (F : List ℕ → Opt A) {d : ℕ} {s : List ℕ} {kind : 
       go (got u n) = rest n (fieldsFrom d s kind tags (r .at) n) refl
 
 -- a stop at a member that its reader reads: the pass that goes on after it is one of the same container
-module _ {d : ℕ} {s : List ℕ} {kind : ℕ} {tags stops : List Bool} {before : List ℕ} {t : Got (List ℕ)} {r : Pass} (L : Left d s kind tags stops before t r) (l : r .slot < 10) {n : ℕ} (w : elementEnd d s (r .head) ≡ got tt n) (further : List Bool) {z : Pass} (q : z ≡ passFrom d s kind tags further r n) where
+module _ {d : ℕ} {s : List ℕ} {kind : ℕ} {tags stops : List Bool} {before : List ℕ} {t : Got (List ℕ)} {r : Pass} (L : Left d s kind tags stops before t r) (l : r .slot < 10) {n : ℕ} (w : elementEnd d s (r .head) ≡ got tt n) (further : List Bool) {z : Pass} (q : z ≡ passFrom d s kind tags further (r .at) (r .codes) n) where
   after : Left d s kind tags further (r .at) (fieldsFrom d s kind tags (r .at) n) z
-  after = resumes d r n (L .ten) (L .coded) q
+  after = resumes d (r .at) (r .codes) n (L .ten) (L .coded) q
 
   goes-on : Left d s kind tags further (r .at) t z
   goes-on = let M = after in record { left = L .left ∙ left-stop d s kind tags r (L .stopped l .sound) l ∙ ap (λ h. bindG h (λ u m. fieldsFrom d s kind tags (r .at) m)) w ∙ M .left; coded = M .coded; ten = M .ten; stopped = M .stopped; kept = M .kept; passed = M .passed }
@@ -522,7 +521,7 @@ module _ {B : Type 0} {d : ℕ} {s : List ℕ} {kind : ℕ} {tags stops : List B
     pub nest-refused : ((xs : List ℕ) → (getD xs i 0 ≡ 0 → ⊥) → requiredIn read (getD xs i 0) ≡ nothing → F xs ≡ nothing) → made F t ≡ bad
     nest-refused lacks = frame-refused F L l (λ xs k. lacks xs (there xs (in-slot xs k)) (found xs (in-slot xs k) w))
 
-  module _ {x : B} {n : ℕ} (w : on (r .head) ≡ got x n) (further : List Bool) {z : Pass} (q : z ≡ passFrom d s kind tags further r n) where
+  module _ {x : B} {n : ℕ} (w : on (r .head) ≡ got x n) (further : List Bool) {z : Pass} (q : z ≡ passFrom d s kind tags further (r .at) (r .codes) n) where
     pub nest-on : Left d s kind tags further (r .at) t z
     nest-on = goes-on L l (reads .ends (r .head) x n w) further q
 

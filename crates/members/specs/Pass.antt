@@ -15,7 +15,7 @@ use Rattle.tlv.specs.Walk.Got.{got, bad}
 use Rattle.tlv.specs.Decode.{Opt, place}
 use Rattle.members.specs.Fields.{slotOf, fieldsAt, insideBy}
 use Rattle.members.specs.Scalar.{ABSENT, NULL, WRONG}
-use Rattle.members.specs.declared.Pass.{Pass}
+use Rattle.members.specs.declared.Stop.{Stop}
 
 -- where the members stand of the container with this head
 unfoldable pub insideOn : ℕ → ℕ → List ℕ → List Bool → Element → Got (List ℕ)
@@ -28,6 +28,17 @@ made F g = bindG g (λ seen n. place (F seen) n)
 
 abbrev pub frameOn : {A : Type 0} → ℕ → ℕ → List ℕ → List Bool → (List ℕ → Opt A) → Element → Got A
 frameOn kind d s tags F e = made F (insideOn kind d s tags e)
+
+-- A PASS: where it stopped, and what it has seen, in ten slots
+pub record Pass : Type 0 where
+  pub good : Bool
+  pub slot : ℕ
+  pub head : Element
+  pub at : List ℕ
+  pub codes : List ℕ
+
+abbrev pub passWith : Stop → List ℕ → List ℕ → Pass
+passWith r at codes = record { good = r .good; slot = r .slot; head = r .head; at = at; codes = codes }
 
 -- no pass, and one that has seen nothing
 abbrev pub noPass : Pass
@@ -82,13 +93,13 @@ passIn zero d s kind listed stops seen codes at = noPass
 passIn (suc f) d s kind listed stops seen codes at =
     passBy d s kind listed stops (λ xs ks n. passIn f d s kind listed stops xs ks n) seen codes at (headAt s at)
 
--- THE PASS from a position on, after one before; and over the container with a head
-unfoldable pub passFrom : ℕ → List ℕ → ℕ → List Bool → List Bool → Pass → ℕ → Pass
-passFrom d s kind listed stops before at = passIn (length s) d s kind listed stops (before .at) (before .codes) at
+-- THE PASS from a position on, after what was seen; and over the container with a head
+unfoldable pub passFrom : ℕ → List ℕ → ℕ → List Bool → List Bool → List ℕ → List ℕ → ℕ → Pass
+passFrom d s kind listed stops seen codes at = passIn (length s) d s kind listed stops seen codes at
 
 unfoldable pub passOf : ℕ → ℕ → List ℕ → List Bool → List Bool → Element → Pass
 passOf kind zero s listed stops e = noPass
-passOf kind (suc d) s listed stops e = pick (eqb (e .kind) kind) (passFrom d s kind listed stops noPass (e .next .at)) noPass
+passOf kind (suc d) s listed stops e = pick (eqb (e .kind) kind) (passFrom d s kind listed stops (replicate 10 0) (replicate 10 0) (e .next .at)) noPass
 
 -- of the member at a place; and what a code stands for
 unfoldable pub codeIn : List ℕ → ℕ → ℕ

@@ -1,7 +1,7 @@
 // The listed members of a container: one loop for all schemas, which says where each stands and stops where another reader is to read.
 ghost use mathlib.Core.Path.{_≡_};
 ghost use Rattle.members.specs.Fields.{slotOf};
-ghost use Rattle.members.specs.Pass.{noPass, passFrom, passOf, codeOf, numberBy, flagBy, wideBy};
+ghost use Rattle.members.specs.Pass.{noPass, passWith, passFrom, passOf, codeOf, numberBy, flagBy, wideBy};
 ghost use Rattle.members.specs.Item.{itemAt};
 use tlv::Cursor;
 use tlv::Element;
@@ -37,15 +37,13 @@ fn slot(listed: &[bool; 10], form: u8, tag: u64) -> usize
     10
 }
 
-// A pass over the members of a container, so far: whether it is well formed; the slot of the member where it stopped, or 10 at the
-// container's end; the head that it read last; where each listed member stands, plus one, or 0; and each one's scalar as a code.
-// Context tags 0 to 8 have slots of their own, and 255 has the last.
-pub struct Pass {
+// Where a pass over the members of a container stopped: whether it is well formed so far; the slot of the member where it stopped, or 10
+// at the container's end; and the head that it read last. What it has seen is lent: where each listed member stands, plus one, or 0, and
+// each one's scalar as a code. Context tags 0 to 8 have slots of their own, and 255 has the last.
+pub struct Stop {
     pub good: bool,
     pub slot: usize,
     pub head: Element,
-    pub at: [usize; 10],
-    pub codes: [u64; 10],
 }
 
 const NO_ELEMENT: Element = Element {
@@ -57,16 +55,16 @@ const NO_ELEMENT: Element = Element {
     next: Cursor { at: 0 },
 };
 
-// No pass: what is read is malformed.
-pub fn refused() -> Pass
-    ensures { λ r. ⌜ r ≡ noPass ⌝ }
+// No pass: what is read is malformed, and nothing is seen.
+pub fn refused(at: &mut [usize; 10], codes: &mut [u64; 10]) -> Stop
+    ensures { λ r. ⌜ passWith r (now (at .exit)) (now (codes .exit)) ≡ noPass ⌝ }
 {
-    Pass {
+    *at = [0usize; 10];
+    *codes = [0u64; 10];
+    Stop {
         good: false,
         slot: 10,
         head: NO_ELEMENT,
-        at: [0usize; 10],
-        codes: [0u64; 10],
     }
 }
 
@@ -109,7 +107,7 @@ fn code_of(kind: u8, n: u64) -> u64
     n + 6
 }
 
-// The members of a container of a type from a cursor on, after those before: to its end, or to a member where it is to stop.
+// The members of a container of a type from a cursor on, after those seen: to its end, or to a member where it is to stop.
 pub fn resume(
     s: &[u8],
     c: Cursor,
@@ -117,60 +115,55 @@ pub fn resume(
     kind: u8,
     listed: &[bool; 10],
     stops: &[bool; 10],
-    before: Pass,
-) -> Pass
-    ensures { λ r. ⌜ r ≡ passFrom left (now (s .entry)) kind (now (listed .entry)) (now (stops .entry)) before (c .at) ⌝ }
+    at: &mut [usize; 10],
+    codes: &mut [u64; 10],
+) -> Stop
+    ensures { λ r. ⌜ passWith r (now (at .exit)) (now (codes .exit)) ≡ passFrom left (now (s .entry)) kind (now (listed .entry)) (now (stops .entry)) (now (at .entry)) (now (codes .entry)) (c .at) ⌝ }
 {
-    let mut seen = before.at;
-    let mut codes = before.codes;
-    let mut at = c.at;
+    let mut p = c.at;
     loop {
-        let here = Cursor { at };
+        let here = Cursor { at: p };
         let Head::Found(e) = here.head(s) else {
-            return refused();
+            return refused(at, codes);
         };
         if e.kind == tlv::END {
-            return Pass {
+            return Stop {
                 good: true,
                 slot: 10,
                 head: e,
-                at: seen,
-                codes,
             };
         }
         if !tlv::allowed(kind, e.form) {
-            return refused();
+            return refused(at, codes);
         }
         let i = slot(listed, e.form, e.tag);
         if 10 <= i {
             let Walk::Past(n) = tlv::walk_element(s, e, left) else {
-                return refused();
+                return refused(at, codes);
             };
-            at = n.at;
+            p = n.at;
         } else {
-            if seen[i] != 0 {
-                return refused();
+            if at[i] != 0 {
+                return refused(at, codes);
             }
-            seen[i] = at + 1;
+            at[i] = p + 1;
             codes[i] = code_of(e.kind, e.number);
             if stops[i] {
-                return Pass {
+                return Stop {
                     good: true,
                     slot: i,
                     head: e,
-                    at: seen,
-                    codes,
                 };
             }
             let Walk::Past(n) = tlv::walk_element(s, e, left) else {
-                return refused();
+                return refused(at, codes);
             };
-            at = n.at;
+            p = n.at;
         }
     }
 }
 
-// The same from the first member of the container whose head was read.
+// The same from the first member of the container whose head was read, whatever was seen before.
 pub fn begin(
     s: &[u8],
     e: Element,
@@ -178,17 +171,20 @@ pub fn begin(
     kind: u8,
     listed: &[bool; 10],
     stops: &[bool; 10],
-) -> Pass
-    ensures { λ r. ⌜ r ≡ passOf kind left (now (s .entry)) (now (listed .entry)) (now (stops .entry)) e ⌝ }
+    at: &mut [usize; 10],
+    codes: &mut [u64; 10],
+) -> Stop
+    ensures { λ r. ⌜ passWith r (now (at .exit)) (now (codes .exit)) ≡ passOf kind left (now (s .entry)) (now (listed .entry)) (now (stops .entry)) e ⌝ }
 {
+    let none = refused(at, codes);
     if e.kind != kind {
-        return refused();
+        return none;
     }
     if left == 0 {
-        return refused();
+        return none;
     }
     let next = e.next;
-    resume(s, next, left - 1, kind, listed, stops, refused())
+    resume(s, next, left - 1, kind, listed, stops, at, codes)
 }
 
 // The unsigned number, at most so large, that a code stands for, or null where that is allowed.

@@ -1,7 +1,7 @@
 use mathlib.Core.Path.{_≡_, refl, sym, _∙_}
 use Prim.Native.Nat.{_-_}
 use native.Mathlib.Omega.{arith}
-use lib.ListN.{length, length-set}
+use lib.ListN.{length}
 use borrow.Author.Needs.{needs}
 use borrow.Author.Tests.{not-true, not-false}
 use Rattle.members.specs.Pass.{passFrom}
@@ -12,13 +12,13 @@ use Rattle.members.proofs.resume.Statement.{statement}
 use Rattle.members.proofs.resume.Tie as tie
 
 abbrev Inv-loop : tie.InvT-loop
-Inv-loop s left kind listed stops seen₀ codes₀ at₀ seen codes at = (length seen ≡ 10) × ((length codes ≡ 10) × (From left s kind listed stops seen₀ codes₀ at₀ ≡ From left s kind listed stops seen codes at))
+Inv-loop s left kind listed stops at₀ codes₀ p₀ at codes p = From left s kind listed stops at₀ codes₀ p₀ ≡ From left s kind listed stops at codes p
 
 abbrev μ-loop : tie.MeasureT-loop
-μ-loop s left kind listed stops seen₀ codes₀ at₀ seen codes at = length s - at
+μ-loop s left kind listed stops at₀ codes₀ p₀ at codes p = length s - p
 
 loop-holds : tie.Need-loop-holds Inv-loop μ-loop
-loop-holds c = (search needs, (search needs, refl))
+loop-holds c = refl
 
 head-requires : tie.Need-head-requires Inv-loop μ-loop
 head-requires c κs = search needs
@@ -34,14 +34,14 @@ refused-requires c κs = search needs
 
 returns : tie.Need-returns Inv-loop μ-loop
 unfolding passFrom
-returns c = let a = c .before .before .before .before .before .before .before .before .args in let l = c .before .before .before .before .loop in
-    c .refused .ensures ∙ sym (l .inv .1 .1 ∙ pass-headless (a .left) (a .s .now) (a .kind) (a .listed .now) (a .stops .now) (l .seen) (l .codes) (l .at) (sym (c .before .before .before .head .ensures) ∙ c .before .enum-told .given .1))
+returns c = let a = c .before .before .before .before .before .before .before .before .args in let l = c .before .before .before .before .before .before .loop in
+    c .refused .ensures ∙ sym (l .inv ∙ pass-headless (a .left) (a .s .now) (a .kind) (a .listed .now) (a .stops .now) (l .at) (l .codes) (l .p) (sym (c .before .before .before .before .before .head .ensures) ∙ c .before .before .before .enum-told .given .1))
 
 returns-2 : tie.Need-returns-2 Inv-loop μ-loop
 unfolding passFrom
-returns-2 c = let a = c .before .before .before .before .before .before .before .before .before .before .args in let l = c .before .before .before .before .before .before .loop in
+returns-2 c = let a = c .before .before .before .before .before .before .before .before .args in let l = c .before .before .before .before .before .before .loop in
     let h = sym (c .before .before .before .before .before .head .ensures) ∙ c .before .before .before .e .given .1 in
-    sym (l .inv .1 .1 ∙ pass-last (a .left) (a .s .now) (a .kind) (a .listed .now) (a .stops .now) (l .seen) (l .codes) (l .at) h (c .if1 .taken))
+    sym (l .inv ∙ pass-last (a .left) (a .s .now) (a .kind) (a .listed .now) (a .stops .now) (l .at) (l .codes) (l .p) h (c .if1 .taken))
 
 allowed-requires : tie.Need-allowed-requires Inv-loop μ-loop
 allowed-requires c κs = search needs
@@ -51,9 +51,9 @@ refused-requires-2 c κs = search needs
 
 returns-3 : tie.Need-returns-3 Inv-loop μ-loop
 unfolding passFrom
-returns-3 c = let a = c .before .before .before .before .before .before .before .before .before .before .before .before .before .args in let l = c .before .before .before .before .before .before .before .before .before .loop in
-    let h = sym (c .before .before .before .before .before .before .before .before .head .ensures) ∙ c .before .before .before .before .before .before .e .given .1 in
-    c .refused2 .ensures ∙ sym (l .inv .1 .1 ∙ pass-barred (a .left) (a .s .now) (a .kind) (a .listed .now) (a .stops .now) (l .seen) (l .codes) (l .at) h (c .before .before .before .if1 .left) (sym (c .before .before .allowed .ensures) ∙ not-true _ (c .before .if2 .taken)))
+returns-3 c = let a = c .before .before .before .before .before .before .before .before .before .before .before .before .before .args in let l = c .before .before .before .before .before .before .before .before .before .before .before .loop in
+    let h = sym (c .before .before .before .before .before .before .before .before .before .before .head .ensures) ∙ c .before .before .before .before .before .before .before .before .e .given .1 in
+    c .refused2 .ensures ∙ sym (l .inv ∙ pass-barred (a .left) (a .s .now) (a .kind) (a .listed .now) (a .stops .now) (l .at) (l .codes) (l .p) h (c .before .before .before .before .before .if1 .left) (sym (c .before .before .before .before .allowed .ensures) ∙ not-true _ (c .before .before .before .if2 .taken)))
 
 slot-requires : tie.Need-slot-requires Inv-loop μ-loop
 slot-requires c κs = search needs
@@ -72,45 +72,45 @@ refused-requires-3 c κs = search needs
 
 returns-4 : tie.Need-returns-4 Inv-loop μ-loop
 unfolding passFrom
-returns-4 c = let a = c .before .before .before .before .before .before .before .before .before .before .before .before .before .before .before .before .before .before .args in let l = c .before .before .before .before .before .before .before .before .before .before .before .before .before .before .loop in
-    let h = sym (c .before .before .before .before .before .before .before .before .before .before .before .before .before .head .ensures) ∙ c .before .before .before .before .before .before .before .before .before .before .before .e .given .1 in
-    c .refused3 .ensures ∙ sym (l .inv .1 .1 ∙ other-broken (a .left) (a .s .now) (a .kind) (a .listed .now) (a .stops .now) (l .seen) (l .codes) (l .at) h (c .before .before .before .before .before .before .before .before .if1 .left) (sym (c .before .before .before .before .before .before .before .allowed .ensures) ∙ not-false _ (c .before .before .before .before .before .before .if2 .left)) (c .before .before .before .before .before .slot .ensures) (c .before .before .before .before .if3 .taken) (sym (c .before .before .before .walk-element .ensures) ∙ c .before .enum-told2 .given .1))
+returns-4 c = let a = c .before .before .before .before .before .before .before .before .before .before .before .before .before .before .before .before .before .before .args in let l = c .before .before .before .before .before .before .before .before .before .before .before .before .before .before .before .before .loop in
+    let h = sym (c .before .before .before .before .before .before .before .before .before .before .before .before .before .before .before .head .ensures) ∙ c .before .before .before .before .before .before .before .before .before .before .before .before .before .e .given .1 in
+    c .refused3 .ensures ∙ sym (l .inv ∙ other-broken (a .left) (a .s .now) (a .kind) (a .listed .now) (a .stops .now) (l .at) (l .codes) (l .p) h (c .before .before .before .before .before .before .before .before .before .before .if1 .left) (sym (c .before .before .before .before .before .before .before .before .before .allowed .ensures) ∙ not-false _ (c .before .before .before .before .before .before .before .before .if2 .left)) (c .before .before .before .before .before .before .before .slot .ensures) (c .before .before .before .before .before .before .if3 .taken) (sym (c .before .before .before .before .before .walk-element .ensures) ∙ c .before .before .before .enum-told2 .given .1))
 
 loop-less : tie.Need-loop-less Inv-loop μ-loop
-loop-less c = let a = c .before .before .before .before .before .before .before .before .before .before .before .before .before .before .before .before .before .before .args in let l = c .before .before .before .before .before .before .before .before .before .before .before .before .before .before .loop in
+loop-less c = let a = c .before .before .before .before .before .before .before .before .before .before .before .before .before .before .before .before .args in let l = c .before .before .before .before .before .before .before .before .before .before .before .before .before .before .loop in
     let h = sym (c .before .before .before .before .before .before .before .before .before .before .before .before .before .head .ensures) ∙ c .before .before .before .before .before .before .before .before .before .before .before .e .given .1 in
-    let o = onward (a .left) (a .s .now) (a .kind) (a .listed .now) (l .seen) (l .at) h (sym (c .before .before .before .walk-element .ensures) ∙ c .before .n .given .1) in
+    let o = onward (a .left) (a .s .now) (a .kind) (a .listed .now) (l .at) (l .p) h (sym (c .before .before .before .walk-element .ensures) ∙ c .before .n .given .1) in
     omega arith
 
 loop-again : tie.Need-loop-again Inv-loop μ-loop
-loop-again c = let a = c .before .before .before .before .before .before .before .before .before .before .before .before .before .before .before .before .before .before .args in let l = c .before .before .before .before .before .before .before .before .before .before .before .before .before .before .loop in
+loop-again c = let a = c .before .before .before .before .before .before .before .before .before .before .before .before .before .before .before .before .args in let l = c .before .before .before .before .before .before .before .before .before .before .before .before .before .before .loop in
     let h = sym (c .before .before .before .before .before .before .before .before .before .before .before .before .before .head .ensures) ∙ c .before .before .before .before .before .before .before .before .before .before .before .e .given .1 in
-    (l .inv .0, (l .inv .1 .0, l .inv .1 .1 ∙ other-walked (a .left) (a .s .now) (a .kind) (a .listed .now) (a .stops .now) (l .seen) (l .codes) (l .at) h (c .before .before .before .before .before .before .before .before .if1 .left) (sym (c .before .before .before .before .before .before .before .allowed .ensures) ∙ not-false _ (c .before .before .before .before .before .before .if2 .left)) (c .before .before .before .before .before .slot .ensures) (c .before .before .before .before .if3 .taken) (sym (c .before .before .before .walk-element .ensures) ∙ c .before .n .given .1)))
+    l .inv ∙ other-walked (a .left) (a .s .now) (a .kind) (a .listed .now) (a .stops .now) (l .at) (l .codes) (l .p) h (c .before .before .before .before .before .before .before .before .if1 .left) (sym (c .before .before .before .before .before .before .before .allowed .ensures) ∙ not-false _ (c .before .before .before .before .before .before .if2 .left)) (c .before .before .before .before .before .slot .ensures) (c .before .before .before .before .if3 .taken) (sym (c .before .before .before .walk-element .ensures) ∙ c .before .n .given .1)
 
 mul-if4 : tie.Need-mul-if4 Inv-loop μ-loop
 mul-if4 c = search needs
 
-array-read-if4 : tie.Need-array-read-if4 Inv-loop μ-loop
-array-read-if4 c = search needs
+element-copy-out-if4 : tie.Need-element-copy-out-if4 Inv-loop μ-loop
+element-copy-out-if4 c = search needs
 
 refused-requires-4 : tie.Need-refused-requires-4 Inv-loop μ-loop
 refused-requires-4 c κs = search needs
 
 returns-5 : tie.Need-returns-5 Inv-loop μ-loop
 unfolding passFrom
-returns-5 c = let a = c .before .before .before .before .before .before .before .before .before .before .before .before .before .before .before .before .args in let l = c .before .before .before .before .before .before .before .before .before .before .before .before .loop in
-    let h = sym (c .before .before .before .before .before .before .before .before .before .before .before .head .ensures) ∙ c .before .before .before .before .before .before .before .before .before .e .given .1 in
-    c .refused4 .ensures ∙ sym (l .inv .1 .1 ∙ listed-twice (a .left) (a .s .now) (a .kind) (a .listed .now) (a .stops .now) (l .seen) (l .codes) (l .at) h (c .before .before .before .before .before .before .if1 .left) (sym (c .before .before .before .before .before .allowed .ensures) ∙ not-false _ (c .before .before .before .before .if2 .left)) (c .before .before .before .slot .ensures) (c .before .before .if3 .left) (c .before .if4 .taken))
+returns-5 c = let a = c .before .before .before .before .before .before .before .before .before .before .before .before .before .before .before .before .before .args in let l = c .before .before .before .before .before .before .before .before .before .before .before .before .before .before .before .loop in
+    let h = sym (c .before .before .before .before .before .before .before .before .before .before .before .before .before .before .head .ensures) ∙ c .before .before .before .before .before .before .before .before .before .before .before .before .e .given .1 in
+    c .refused4 .ensures ∙ sym (l .inv ∙ listed-twice (a .left) (a .s .now) (a .kind) (a .listed .now) (a .stops .now) (l .at) (l .codes) (l .p) h (c .before .before .before .before .before .before .before .before .before .if1 .left) (sym (c .before .before .before .before .before .before .before .before .allowed .ensures) ∙ not-false _ (c .before .before .before .before .before .before .before .if2 .left)) (c .before .before .before .before .before .before .slot .ensures) (c .before .before .before .before .before .if3 .left) (c .before .before .before .if4 .taken))
 
-add-seen : tie.Need-add-seen Inv-loop μ-loop
-add-seen c = let a = c .before .before .before .before .before .before .before .before .before .before .before .before .before .before .before .args in let l = c .before .before .before .before .before .before .before .before .before .before .before .loop in
-    let o = within (a .s .now) (l .at) (sym (c .before .before .before .before .before .before .before .before .before .before .head .ensures) ∙ c .before .before .before .before .before .before .before .before .e .given .1) in omega arith
+add-at : tie.Need-add-at Inv-loop μ-loop
+add-at c = let a = c .before .before .before .before .before .before .before .before .before .before .before .before .before .before .args in let l = c .before .before .before .before .before .before .before .before .before .before .before .before .loop in
+    let o = within (a .s .now) (l .p) (sym (c .before .before .before .before .before .before .before .before .before .before .before .head .ensures) ∙ c .before .before .before .before .before .before .before .before .before .e .given .1) in omega arith
 
-mul-seen : tie.Need-mul-seen Inv-loop μ-loop
-mul-seen c = search needs
+mul-at : tie.Need-mul-at Inv-loop μ-loop
+mul-at c = search needs
 
-array-write-seen : tie.Need-array-write-seen Inv-loop μ-loop
-array-write-seen c = search needs
+element-write-at : tie.Need-element-write-at Inv-loop μ-loop
+element-write-at c = search needs
 
 code-of-requires : tie.Need-code-of-requires Inv-loop μ-loop
 code-of-requires c κs = search needs
@@ -118,17 +118,17 @@ code-of-requires c κs = search needs
 mul-codes : tie.Need-mul-codes Inv-loop μ-loop
 mul-codes c = search needs
 
-array-write-codes : tie.Need-array-write-codes Inv-loop μ-loop
-array-write-codes c = search needs
+element-write-codes : tie.Need-element-write-codes Inv-loop μ-loop
+element-write-codes c = search needs
 
 element-copy-out-if5 : tie.Need-element-copy-out-if5 Inv-loop μ-loop
 element-copy-out-if5 c = search needs
 
 returns-6 : tie.Need-returns-6 Inv-loop μ-loop
 unfolding passFrom
-returns-6 c = let a = c .before .before .before .before .before .before .before .before .before .before .before .before .before .before .before .before .before .before .args in let l = c .before .before .before .before .before .before .before .before .before .before .before .before .before .before .loop in
-    let h = sym (c .before .before .before .before .before .before .before .before .before .before .before .before .before .head .ensures) ∙ c .before .before .before .before .before .before .before .before .before .before .before .e .given .1 in
-    sym (l .inv .1 .1 ∙ listed-stop (a .left) (a .s .now) (a .kind) (a .listed .now) (a .stops .now) (l .seen) (l .codes) (l .at) h (c .before .before .before .before .before .before .before .before .if1 .left) (sym (c .before .before .before .before .before .before .before .allowed .ensures) ∙ not-false _ (c .before .before .before .before .before .before .if2 .left)) (c .before .before .before .before .before .slot .ensures) (c .before .before .before .before .if3 .left) (c .before .before .before .if4 .left) (c .before .before .code-of .ensures) (c .if5 .taken))
+returns-6 c = let a = c .before .before .before .before .before .before .before .before .before .before .before .before .before .before .before .before .before .args in let l = c .before .before .before .before .before .before .before .before .before .before .before .before .before .before .before .loop in
+    let h = sym (c .before .before .before .before .before .before .before .before .before .before .before .before .before .before .head .ensures) ∙ c .before .before .before .before .before .before .before .before .before .before .before .before .e .given .1 in
+    sym (l .inv ∙ listed-stop (a .left) (a .s .now) (a .kind) (a .listed .now) (a .stops .now) (l .at) (l .codes) (l .p) h (c .before .before .before .before .before .before .before .before .before .if1 .left) (sym (c .before .before .before .before .before .before .before .before .allowed .ensures) ∙ not-false _ (c .before .before .before .before .before .before .before .if2 .left)) (c .before .before .before .before .before .before .slot .ensures) (c .before .before .before .before .before .if3 .left) (c .before .before .before .if4 .left) (c .before .before .code-of .ensures) (c .if5 .taken))
 
 walk-element-requires-2 : tie.Need-walk-element-requires-2 Inv-loop μ-loop
 walk-element-requires-2 c κs = search needs
@@ -144,20 +144,20 @@ refused-requires-5 c κs = search needs
 
 returns-7 : tie.Need-returns-7 Inv-loop μ-loop
 unfolding passFrom
-returns-7 c = let a = c .before .before .before .before .before .before .before .before .before .before .before .before .before .before .before .before .before .before .before .before .before .before .args in let l = c .before .before .before .before .before .before .before .before .before .before .before .before .before .before .before .before .before .before .loop in
-    let h = sym (c .before .before .before .before .before .before .before .before .before .before .before .before .before .before .before .before .before .head .ensures) ∙ c .before .before .before .before .before .before .before .before .before .before .before .before .before .before .before .e .given .1 in
-    c .refused5 .ensures ∙ sym (l .inv .1 .1 ∙ listed-broken (a .left) (a .s .now) (a .kind) (a .listed .now) (a .stops .now) (l .seen) (l .codes) (l .at) h (c .before .before .before .before .before .before .before .before .before .before .before .before .if1 .left) (sym (c .before .before .before .before .before .before .before .before .before .before .before .allowed .ensures) ∙ not-false _ (c .before .before .before .before .before .before .before .before .before .before .if2 .left)) (c .before .before .before .before .before .before .before .before .before .slot .ensures) (c .before .before .before .before .before .before .before .before .if3 .left) (c .before .before .before .before .before .before .before .if4 .left) (c .before .before .before .before .before .before .code-of .ensures) (c .before .before .before .before .if5 .left) (sym (c .before .before .before .walk-element2 .ensures) ∙ c .before .enum-told3 .given .1))
+returns-7 c = let a = c .before .before .before .before .before .before .before .before .before .before .before .before .before .before .before .before .before .before .before .before .before .before .before .args in let l = c .before .before .before .before .before .before .before .before .before .before .before .before .before .before .before .before .before .before .before .before .before .loop in
+    let h = sym (c .before .before .before .before .before .before .before .before .before .before .before .before .before .before .before .before .before .before .before .before .head .ensures) ∙ c .before .before .before .before .before .before .before .before .before .before .before .before .before .before .before .before .before .before .e .given .1 in
+    c .refused5 .ensures ∙ sym (l .inv ∙ listed-broken (a .left) (a .s .now) (a .kind) (a .listed .now) (a .stops .now) (l .at) (l .codes) (l .p) h (c .before .before .before .before .before .before .before .before .before .before .before .before .before .before .before .if1 .left) (sym (c .before .before .before .before .before .before .before .before .before .before .before .before .before .before .allowed .ensures) ∙ not-false _ (c .before .before .before .before .before .before .before .before .before .before .before .before .before .if2 .left)) (c .before .before .before .before .before .before .before .before .before .before .before .before .slot .ensures) (c .before .before .before .before .before .before .before .before .before .before .before .if3 .left) (c .before .before .before .before .before .before .before .before .before .if4 .left) (c .before .before .before .before .before .before .before .before .code-of .ensures) (c .before .before .before .before .before .before .if5 .left) (sym (c .before .before .before .before .before .walk-element2 .ensures) ∙ c .before .before .before .enum-told3 .given .1))
 
 loop-less-2 : tie.Need-loop-less-2 Inv-loop μ-loop
-loop-less-2 c = let a = c .before .before .before .before .before .before .before .before .before .before .before .before .before .before .before .before .before .before .before .before .before .before .args in let l = c .before .before .before .before .before .before .before .before .before .before .before .before .before .before .before .before .before .before .loop in
-    let h = sym (c .before .before .before .before .before .before .before .before .before .before .before .before .before .before .before .before .before .head .ensures) ∙ c .before .before .before .before .before .before .before .before .before .before .before .before .before .before .before .e .given .1 in
-    let o = onward (a .left) (a .s .now) (a .kind) (a .listed .now) (l .seen) (l .at) h (sym (c .before .before .before .walk-element2 .ensures) ∙ c .before .n2 .given .1) in
+loop-less-2 c = let a = c .before .before .before .before .before .before .before .before .before .before .before .before .before .before .before .before .before .before .before .before .before .args in let l = c .before .before .before .before .before .before .before .before .before .before .before .before .before .before .before .before .before .before .before .loop in
+    let h = sym (c .before .before .before .before .before .before .before .before .before .before .before .before .before .before .before .before .before .before .head .ensures) ∙ c .before .before .before .before .before .before .before .before .before .before .before .before .before .before .before .before .e .given .1 in
+    let o = onward (a .left) (a .s .now) (a .kind) (a .listed .now) (l .at) (l .p) h (sym (c .before .before .before .walk-element2 .ensures) ∙ c .before .n2 .given .1) in
     omega arith
 
 loop-again-2 : tie.Need-loop-again-2 Inv-loop μ-loop
-loop-again-2 c = let a = c .before .before .before .before .before .before .before .before .before .before .before .before .before .before .before .before .before .before .before .before .before .before .args in let l = c .before .before .before .before .before .before .before .before .before .before .before .before .before .before .before .before .before .before .loop in
-    let h = sym (c .before .before .before .before .before .before .before .before .before .before .before .before .before .before .before .before .before .head .ensures) ∙ c .before .before .before .before .before .before .before .before .before .before .before .before .before .before .before .e .given .1 in
-    (simp length-set (l .inv .0), (simp length-set (l .inv .1 .0), l .inv .1 .1 ∙ listed-walked (a .left) (a .s .now) (a .kind) (a .listed .now) (a .stops .now) (l .seen) (l .codes) (l .at) h (c .before .before .before .before .before .before .before .before .before .before .before .before .if1 .left) (sym (c .before .before .before .before .before .before .before .before .before .before .before .allowed .ensures) ∙ not-false _ (c .before .before .before .before .before .before .before .before .before .before .if2 .left)) (c .before .before .before .before .before .before .before .before .before .slot .ensures) (c .before .before .before .before .before .before .before .before .if3 .left) (c .before .before .before .before .before .before .before .if4 .left) (c .before .before .before .before .before .before .code-of .ensures) (c .before .before .before .before .if5 .left) (sym (c .before .before .before .walk-element2 .ensures) ∙ c .before .n2 .given .1)))
+loop-again-2 c = let a = c .before .before .before .before .before .before .before .before .before .before .before .before .before .before .before .before .before .before .before .before .before .args in let l = c .before .before .before .before .before .before .before .before .before .before .before .before .before .before .before .before .before .before .before .loop in
+    let h = sym (c .before .before .before .before .before .before .before .before .before .before .before .before .before .before .before .before .before .before .head .ensures) ∙ c .before .before .before .before .before .before .before .before .before .before .before .before .before .before .before .before .e .given .1 in
+    l .inv ∙ listed-walked (a .left) (a .s .now) (a .kind) (a .listed .now) (a .stops .now) (l .at) (l .codes) (l .p) h (c .before .before .before .before .before .before .before .before .before .before .before .before .before .if1 .left) (sym (c .before .before .before .before .before .before .before .before .before .before .before .before .allowed .ensures) ∙ not-false _ (c .before .before .before .before .before .before .before .before .before .before .before .if2 .left)) (c .before .before .before .before .before .before .before .before .before .before .slot .ensures) (c .before .before .before .before .before .before .before .before .before .if3 .left) (c .before .before .before .before .before .before .before .if4 .left) (c .before .before .before .before .before .before .code-of .ensures) (c .before .before .before .before .if5 .left) (sym (c .before .before .before .walk-element2 .ensures) ∙ c .before .n2 .given .1)
 
 pub resume-spec : {M : Type 1} → statement M
 resume-spec =
@@ -184,15 +184,15 @@ resume-spec =
     loop-less
     loop-again
     mul-if4
-    array-read-if4
+    element-copy-out-if4
     refused-requires-4
     returns-5
-    add-seen
-    mul-seen
-    array-write-seen
+    add-at
+    mul-at
+    element-write-at
     code-of-requires
     mul-codes
-    array-write-codes
+    element-write-codes
     element-copy-out-if5
     returns-6
     walk-element-requires-2
