@@ -1,5 +1,7 @@
 // The listed members of a container: one loop for all schemas, which says where each stands and stops where another reader is to read.
 ghost use mathlib.Core.Path.{_≡_};
+ghost use mathlib.Core.Bool.{false};
+ghost use lib.ListN.{replicate};
 ghost use Rattle.members.specs.Fields.{slotOf};
 ghost use Rattle.members.specs.Pass.{noPass, passWith, passFrom, passOf, codeOf, numberBy, flagBy, wideBy};
 ghost use Rattle.members.specs.Item.{itemAt};
@@ -163,7 +165,23 @@ pub fn resume(
     }
 }
 
-// The same from the first member of the container whose head was read, whatever was seen before.
+// The same with no stop, to the container's end.
+pub fn finish(
+    s: &[u8],
+    c: Cursor,
+    left: usize,
+    kind: u8,
+    listed: &[bool; 10],
+    at: &mut [usize; 10],
+    codes: &mut [u64; 10],
+) -> Stop
+    ensures { λ r. ⌜ passWith r (now (at .exit)) (now (codes .exit)) ≡ passFrom left (now (s .entry)) kind (now (listed .entry)) (replicate 10 false) (now (at .entry)) (now (codes .entry)) (c .at) ⌝ }
+{
+    let never = NO_STOP;
+    resume(s, c, left, kind, listed, &never, at, codes)
+}
+
+// A pass from the first member of the container whose head was read, whatever was seen before.
 pub fn begin(
     s: &[u8],
     e: Element,
