@@ -9,6 +9,7 @@ use members::WRONG;
 use tlv::Cursor;
 use tlv::Element;
 use tlv::Head;
+use tlv::STRUCTURE;
 
 // An attribute path: each part its number, ABSENT, or (of a list index) NULL.
 pub struct Path {
@@ -66,18 +67,19 @@ pub fn path_of(s: &[u8], e: Element, left: usize) -> PathRead
 {
     let listed = PATH;
     let stops = members::NO_STOP;
-    let m = members::begin(s, e, left, tlv::LIST, &listed, &stops);
+    let mut at = [0usize; 10];
+    let mut codes = [0u64; 10];
+    let m = members::begin(s, e, left, tlv::LIST, &listed, &stops, &mut at, &mut codes);
     if !m.good {
         return PathRead::BadPath;
     }
-    let k = m.codes;
     let p = Path {
-        compress: members::flag_by(k[0]),
-        node: members::wide_by(k[1]),
-        endpoint: members::number_by(k[2], 65535, false),
-        cluster: members::number_by(k[3], 4294967295, false),
-        attribute: members::number_by(k[4], 4294967295, false),
-        index: members::number_by(k[5], 65535, true),
+        compress: members::flag_by(codes[0]),
+        node: members::wide_by(codes[1]),
+        endpoint: members::number_by(codes[2], 65535, false),
+        cluster: members::number_by(codes[3], 4294967295, false),
+        attribute: members::number_by(codes[4], 4294967295, false),
+        index: members::number_by(codes[5], 65535, true),
     };
     if !sound_path(p) {
         return PathRead::BadPath;
@@ -185,15 +187,16 @@ pub fn cluster_of(s: &[u8], e: Element, left: usize) -> ClusterRead
 {
     let listed = CLUSTER;
     let stops = members::NO_STOP;
-    let m = members::begin(s, e, left, tlv::LIST, &listed, &stops);
+    let mut at = [0usize; 10];
+    let mut codes = [0u64; 10];
+    let m = members::begin(s, e, left, tlv::LIST, &listed, &stops, &mut at, &mut codes);
     if !m.good {
         return ClusterRead::BadCluster;
     }
-    let k = m.codes;
     let p = Cluster {
-        node: members::wide_by(k[0]),
-        endpoint: members::number_by(k[1], 65535, false),
-        cluster: members::number_by(k[2], 4294967295, false),
+        node: members::wide_by(codes[0]),
+        endpoint: members::number_by(codes[1], 65535, false),
+        cluster: members::number_by(codes[2], 4294967295, false),
     };
     if !sound_cluster(p) {
         return ClusterRead::BadCluster;
@@ -249,7 +252,9 @@ pub fn filter_of(s: &[u8], e: Element, left: usize) -> FilterRead
     }
     let listed = PAIR;
     let stops = FIRST;
-    let m = members::begin(s, e, left, tlv::STRUCTURE, &listed, &stops);
+    let mut at = [0usize; 10];
+    let mut codes = [0u64; 10];
+    let m = members::begin(s, e, left, STRUCTURE, &listed, &stops, &mut at, &mut codes);
     if !m.good {
         return FilterRead::BadFilter;
     }
@@ -260,13 +265,11 @@ pub fn filter_of(s: &[u8], e: Element, left: usize) -> FilterRead
     let ClusterRead::Cluster(path, after) = cluster_of(s, inner, left - 1) else {
         return FilterRead::BadFilter;
     };
-    let never = members::NO_STOP;
-    let z = members::resume(s, after, left - 1, tlv::STRUCTURE, &listed, &never, m);
+    let z = members::finish(s, after, left - 1, STRUCTURE, &listed, &mut at, &mut codes);
     if !z.good {
         return FilterRead::BadFilter;
     }
-    let k = z.codes;
-    let version = members::number_by(k[1], 4294967295, false);
+    let version = members::number_by(codes[1], 4294967295, false);
     if ABSENT <= version {
         return FilterRead::BadFilter;
     }
@@ -301,14 +304,15 @@ pub fn status_of(s: &[u8], e: Element, left: usize) -> StatusRead
 {
     let listed = PAIR;
     let stops = members::NO_STOP;
-    let m = members::begin(s, e, left, tlv::STRUCTURE, &listed, &stops);
+    let mut at = [0usize; 10];
+    let mut codes = [0u64; 10];
+    let m = members::begin(s, e, left, STRUCTURE, &listed, &stops, &mut at, &mut codes);
     if !m.good {
         return StatusRead::BadStatus;
     }
-    let k = m.codes;
     let x = Status {
-        code: members::number_by(k[0], 255, false),
-        cluster: members::number_by(k[1], 255, false),
+        code: members::number_by(codes[0], 255, false),
+        cluster: members::number_by(codes[1], 255, false),
     };
     if !sound_status(x) {
         return StatusRead::BadStatus;
@@ -348,7 +352,9 @@ pub fn answer_of(s: &[u8], e: Element, left: usize) -> AnswerRead
     }
     let listed = PAIR;
     let stops = FIRST;
-    let m = members::begin(s, e, left, tlv::STRUCTURE, &listed, &stops);
+    let mut at = [0usize; 10];
+    let mut codes = [0u64; 10];
+    let m = members::begin(s, e, left, STRUCTURE, &listed, &stops, &mut at, &mut codes);
     if !m.good {
         return AnswerRead::BadAnswer;
     }
@@ -359,13 +365,11 @@ pub fn answer_of(s: &[u8], e: Element, left: usize) -> AnswerRead
     let PathRead::Path(path, after) = path_of(s, inner, left - 1) else {
         return AnswerRead::BadAnswer;
     };
-    let never = members::NO_STOP;
-    let z = members::resume(s, after, left - 1, tlv::STRUCTURE, &listed, &never, m);
+    let z = members::finish(s, after, left - 1, STRUCTURE, &listed, &mut at, &mut codes);
     if !z.good {
         return AnswerRead::BadAnswer;
     }
-    let a = z.at;
-    let q = a[1];
+    let q = at[1];
     if q == 0 {
         return AnswerRead::BadAnswer;
     }
@@ -434,7 +438,9 @@ pub fn data_of(s: &[u8], e: Element, left: usize) -> DataRead
     }
     let listed = TRIPLE;
     let stops = SECOND;
-    let m = members::begin(s, e, left, tlv::STRUCTURE, &listed, &stops);
+    let mut at = [0usize; 10];
+    let mut codes = [0u64; 10];
+    let m = members::begin(s, e, left, STRUCTURE, &listed, &stops, &mut at, &mut codes);
     if !m.good {
         return DataRead::BadData;
     }
@@ -445,18 +451,15 @@ pub fn data_of(s: &[u8], e: Element, left: usize) -> DataRead
     let PathRead::Path(path, after) = path_of(s, inner, left - 1) else {
         return DataRead::BadData;
     };
-    let never = members::NO_STOP;
-    let z = members::resume(s, after, left - 1, tlv::STRUCTURE, &listed, &never, m);
+    let z = members::finish(s, after, left - 1, STRUCTURE, &listed, &mut at, &mut codes);
     if !z.good {
         return DataRead::BadData;
     }
-    let a = z.at;
-    let k = z.codes;
-    let q = a[2];
+    let q = at[2];
     if q == 0 {
         return DataRead::BadData;
     }
-    let version = members::number_by(k[0], 4294967295, false);
+    let version = members::number_by(codes[0], 4294967295, false);
     if version == WRONG {
         return DataRead::BadData;
     }
@@ -492,7 +495,9 @@ pub fn report_of(s: &[u8], e: Element, left: usize) -> ReportRead
         return ReportRead::BadReport;
     }
     let listed = PAIR;
-    let m = members::begin(s, e, left, tlv::STRUCTURE, &listed, &listed);
+    let mut at = [0usize; 10];
+    let mut codes = [0u64; 10];
+    let m = members::begin(s, e, left, STRUCTURE, &listed, &listed, &mut at, &mut codes);
     if !m.good {
         return ReportRead::BadReport;
     }
@@ -500,17 +505,15 @@ pub fn report_of(s: &[u8], e: Element, left: usize) -> ReportRead
         return ReportRead::BadReport;
     }
     let inner = m.head;
-    let never = members::NO_STOP;
     if m.slot == 0 {
         let AnswerRead::Answer(x, after) = answer_of(s, inner, left - 1) else {
             return ReportRead::BadReport;
         };
-        let z = members::resume(s, after, left - 1, tlv::STRUCTURE, &listed, &never, m);
+        let z = members::finish(s, after, left - 1, STRUCTURE, &listed, &mut at, &mut codes);
         if !z.good {
             return ReportRead::BadReport;
         }
-        let a = z.at;
-        if a[1] != 0 {
+        if at[1] != 0 {
             return ReportRead::BadReport;
         }
         let end = z.head;
@@ -520,12 +523,11 @@ pub fn report_of(s: &[u8], e: Element, left: usize) -> ReportRead
     let DataRead::Data(d, after) = data_of(s, inner, left - 1) else {
         return ReportRead::BadReport;
     };
-    let z = members::resume(s, after, left - 1, tlv::STRUCTURE, &listed, &never, m);
+    let z = members::finish(s, after, left - 1, STRUCTURE, &listed, &mut at, &mut codes);
     if !z.good {
         return ReportRead::BadReport;
     }
-    let a = z.at;
-    if a[0] != 0 {
+    if at[0] != 0 {
         return ReportRead::BadReport;
     }
     let end = z.head;

@@ -13,7 +13,7 @@ begin-requires c κs = search needs
 
 returns : tie.Need-returns
 unfolding clusterOn
-returns c = let a = c .before .before .before .before .before .before .args in let s = a .s .now in let m = c .before .before .begin in let L = begun (a .left) (a .e) (m .ensures) in
+returns c = let a = c .before .before .before .before .before .before .before .before .args in let s = a .s .now in let m = c .before .before .begin in let L = begun (a .left) (a .e) (m .ensures) in
     sym (ap clusterRead (frame-none (clusterFrom s) L (not-true _ (c .if1 .taken))))
 
 array-read-wide-by : tie.Need-array-read-wide-by
@@ -39,17 +39,17 @@ sound-cluster-requires c κs = search needs
 
 returns-2 : tie.Need-returns-2
 unfolding clusterOn
-returns-2 c = let a = c .before .before .before .before .before .before .before .before .before .before .before .before .args in let s = a .s .now in let m = c .before .before .before .before .before .before .before .before .begin in let L = begun (a .left) (a .e) (m .ensures) in
-    let xs = m .result .at in let ks = m .result .codes in let k = L .coded in
+returns-2 c = let a = c .before .before .before .before .before .before .before .before .before .before .before .before .before .args in let s = a .s .now in let m = c .before .before .before .before .before .before .before .begin in let L = begun (a .left) (a .e) (m .ensures) in
+    let xs = m .last .1 .1 .1 .1 .1 .1 .0 in let ks = m .last .1 .1 .1 .1 .1 .1 .1 .0 in let k = L .coded in
     let f = cluster-gathered s xs (record { node = c .before .before .before .before .wide-by .result; endpoint = c .before .before .before .number-by .result; cluster = c .before .before .number-by2 .result }) (wide-coded s ks xs k 0 (c .before .before .before .before .wide-by .ensures)) (number-coded s ks xs k 1 _ _ (omega arith) (c .before .before .before .number-by .ensures)) (number-coded s ks xs k 2 _ _ (omega arith) (c .before .before .number-by2 .ensures)) ∙ checked-no soundCluster _ (sym (c .before .sound-cluster .ensures) ∙ not-true _ (c .if2 .taken)) in
-    sym (ap clusterRead (frame-end (clusterFrom s) L (not-false _ (c .before .before .before .before .before .before .if1 .left)) (nowhere L) f))
+    sym (ap clusterRead (frame-end (clusterFrom s) L (not-false _ (c .before .before .before .before .before .if1 .left)) (nowhere L) f))
 
 returns-3 : tie.Need-returns-3
 unfolding clusterOn
-returns-3 c = let a = c .before .before .before .before .before .before .before .before .before .before .before .before .before .before .args in let s = a .s .now in let m = c .before .before .before .before .before .before .before .before .before .before .begin in let L = begun (a .left) (a .e) (m .ensures) in
-    let xs = m .result .at in let ks = m .result .codes in let k = L .coded in
+returns-3 c = let a = c .before .before .before .before .before .before .before .before .before .before .before .before .before .before .before .args in let s = a .s .now in let m = c .before .before .before .before .before .before .before .before .before .begin in let L = begun (a .left) (a .e) (m .ensures) in
+    let xs = m .last .1 .1 .1 .1 .1 .1 .0 in let ks = m .last .1 .1 .1 .1 .1 .1 .1 .0 in let k = L .coded in
     let f = cluster-gathered s xs (record { node = c .before .before .before .before .before .before .wide-by .result; endpoint = c .before .before .before .before .before .number-by .result; cluster = c .before .before .before .before .number-by2 .result }) (wide-coded s ks xs k 0 (c .before .before .before .before .before .before .wide-by .ensures)) (number-coded s ks xs k 1 _ _ (omega arith) (c .before .before .before .before .before .number-by .ensures)) (number-coded s ks xs k 2 _ _ (omega arith) (c .before .before .before .before .number-by2 .ensures)) ∙ checked-yes soundCluster _ (sym (c .before .before .before .sound-cluster .ensures) ∙ not-false _ (c .before .before .if2 .left)) in
-    sym (ap clusterRead (frame-end (clusterFrom s) L (not-false _ (c .before .before .before .before .before .before .before .before .if1 .left)) (nowhere L) f))
+    sym (ap clusterRead (frame-end (clusterFrom s) L (not-false _ (c .before .before .before .before .before .before .before .if1 .left)) (nowhere L) f))
 
 pub cluster-of-spec : {M : Type 1} → statement M
 cluster-of-spec =

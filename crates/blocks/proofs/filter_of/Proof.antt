@@ -26,12 +26,12 @@ begin-requires c κs = search needs
 
 returns-2 : tie.Need-returns-2
 unfolding filterOn
-returns-2 c = let a = c .before .before .before .before .before .before .before .args in let s = a .s .now in let d = a .left - 1 in let m = c .before .before .begin in let L = begun (a .left) (a .e) (m .ensures) in
+returns-2 c = let a = c .before .before .before .before .before .before .before .before .before .args in let s = a .s .now in let d = a .left - 1 in let m = c .before .before .begin in let L = begun (a .left) (a .e) (m .ensures) in
     sym (ap filterRead (frame-none (filterFrom d s) L (not-true _ (c .if2 .taken))))
 
 returns-3 : tie.Need-returns-3
 unfolding filterOn
-returns-3 c = let a = c .before .before .before .before .before .before .before .before .before .args in let s = a .s .now in let d = a .left - 1 in let m = c .before .before .before .before .begin in let L = begun (a .left) (a .e) (m .ensures) in let g = not-false _ (c .before .before .if2 .left) in let xs = m .result .at in
+returns-3 c = let a = c .before .before .before .before .before .before .before .before .before .before .before .args in let s = a .s .now in let d = a .left - 1 in let m = c .before .before .before .before .begin in let L = begun (a .left) (a .e) (m .ensures) in let g = not-false _ (c .before .before .if2 .left) in let xs = m .last .1 .1 .1 .1 .1 .1 .0 in
     sym (ap filterRead (frame-end (filterFrom d s) L g (c .if3 .taken) (filter-lacks d s xs (required-none (clusterAt d s) (getD xs 0 0) (L .passed g 0 refl (λ z. (let o = c .if3 .taken in omega arith)))))))
 
 sub-cluster-of : tie.Need-sub-cluster-of
@@ -48,20 +48,20 @@ enum-told c = search needs
 
 returns-4 : tie.Need-returns-4
 unfolding filterOn
-returns-4 c = let a = c .before .before .before .before .before .before .before .before .before .before .before .before .before .args in let s = a .s .now in let d = a .left - 1 in let m = c .before .before .before .before .before .before .before .before .begin in let L = begun (a .left) (a .e) (m .ensures) in
+returns-4 c = let a = c .before .before .before .before .before .before .before .before .before .before .before .before .before .before .before .args in let s = a .s .now in let d = a .left - 1 in let m = c .before .before .before .before .before .before .before .before .begin in let L = begun (a .left) (a .e) (m .ensures) in
     sym (ap filterRead (nest-refused L (only-first _ (L .stopped (c .before .before .before .before .if3 .left) .wanted)) (c .before .before .before .before .if3 .left) (cluster-reads d s) (filterFrom d s) (cluster-lacks (clusterOn d s (m .result .head)) (sym (c .before .before .cluster-of .ensures) ∙ c .enum-told .given .1)) (λ xs n k. filter-lacks d s xs k)))
 
-sub-resume : tie.Need-sub-resume
-sub-resume c = search needs
+sub-finish : tie.Need-sub-finish
+sub-finish c = search needs
 
-resume-requires : tie.Need-resume-requires
-resume-requires c κs = search needs
+finish-requires : tie.Need-finish-requires
+finish-requires c κs = search needs
 
 returns-5 : tie.Need-returns-5
 unfolding filterOn
-returns-5 c = let a = c .before .before .before .before .before .before .before .before .before .before .before .before .before .before .before .before .before .before .before .args in let s = a .s .now in let d = a .left - 1 in let m = c .before .before .before .before .before .before .before .before .before .before .before .before .before .before .begin in let L = begun (a .left) (a .e) (m .ensures) in
-    let w = cluster-has (clusterOn d s (m .result .head)) (sym (c .before .before .before .before .before .before .before .before .cluster-of .ensures) ∙ c .before .before .before .before .before .before .path .given .1) in let z = c .before .before .resume in
-    let on = nest-on L (only-first _ (L .stopped (c .before .before .before .before .before .before .before .before .before .before .if3 .left) .wanted)) (c .before .before .before .before .before .before .before .before .before .before .if3 .left) (cluster-reads d s) w _ (z .ensures) in
+returns-5 c = let a = c .before .before .before .before .before .before .before .before .before .before .before .before .before .before .before .before .before .before .before .before .before .before .args in let s = a .s .now in let d = a .left - 1 in let m = c .before .before .before .before .before .before .before .before .before .before .before .before .before .before .before .begin in let L = begun (a .left) (a .e) (m .ensures) in
+    let w = cluster-has (clusterOn d s (m .result .head)) (sym (c .before .before .before .before .before .before .before .before .before .cluster-of .ensures) ∙ c .before .before .before .before .before .before .before .path .given .1) in let z = c .before .before .finish in
+    let on = nest-on L (only-first _ (L .stopped (c .before .before .before .before .before .before .before .before .before .before .before .if3 .left) .wanted)) (c .before .before .before .before .before .before .before .before .before .before .before .if3 .left) (cluster-reads d s) w _ (z .ensures) in
     sym (ap filterRead (frame-none (filterFrom d s) on (not-true _ (c .if4 .taken))))
 
 array-read-number-by : tie.Need-array-read-number-by
@@ -72,18 +72,18 @@ number-by-requires c κs = search needs
 
 returns-6 : tie.Need-returns-6
 unfolding filterOn
-returns-6 c = let a = c .before .before .before .before .before .before .before .before .before .before .before .before .before .before .before .before .before .before .before .before .before .before .args in let s = a .s .now in let d = a .left - 1 in let m = c .before .before .before .before .before .before .before .before .before .before .before .before .before .before .before .before .before .begin in let L = begun (a .left) (a .e) (m .ensures) in
-    let w = cluster-has (clusterOn d s (m .result .head)) (sym (c .before .before .before .before .before .before .before .before .before .before .before .cluster-of .ensures) ∙ c .before .before .before .before .before .before .before .before .before .path .given .1) in let z = c .before .before .before .before .before .resume in
+returns-6 c = let a = c .before .before .before .before .before .before .before .before .before .before .before .before .before .before .before .before .before .before .before .before .before .before .before .before .args in let s = a .s .now in let d = a .left - 1 in let m = c .before .before .before .before .before .before .before .before .before .before .before .before .before .before .before .before .before .begin in let L = begun (a .left) (a .e) (m .ensures) in
+    let w = cluster-has (clusterOn d s (m .result .head)) (sym (c .before .before .before .before .before .before .before .before .before .before .before .cluster-of .ensures) ∙ c .before .before .before .before .before .before .before .before .before .path .given .1) in let z = c .before .before .before .before .finish in
     let on = nest-on L (only-first _ (L .stopped (c .before .before .before .before .before .before .before .before .before .before .before .before .before .if3 .left) .wanted)) (c .before .before .before .before .before .before .before .before .before .before .before .before .before .if3 .left) (cluster-reads d s) w _ (z .ensures) in
-    let h = not-false _ (c .before .before .before .if4 .left) in let o = nowhere on in let f = nest-found L (only-first _ (L .stopped (c .before .before .before .before .before .before .before .before .before .before .before .before .before .if3 .left) .wanted)) (c .before .before .before .before .before .before .before .before .before .before .before .before .before .if3 .left) (cluster-reads d s) w _ (z .ensures) h in let xs = z .result .at in let ks = z .result .codes in let k = on .coded in
+    let h = not-false _ (c .before .before .if4 .left) in let o = nowhere on in let f = nest-found L (only-first _ (L .stopped (c .before .before .before .before .before .before .before .before .before .before .before .before .before .if3 .left) .wanted)) (c .before .before .before .before .before .before .before .before .before .before .before .before .before .if3 .left) (cluster-reads d s) w _ (z .ensures) h in let xs = z .last .1 .1 .1 .1 .1 .0 in let ks = z .last .1 .1 .1 .1 .1 .1 .0 in let k = on .coded in
     sym (ap filterRead (frame-end (filterFrom d s) on h o (filter-has d s xs f (number-coded s ks xs k 1 _ _ (omega arith) (c .before .number-by .ensures)) ∙ filter-over _ _ (c .if5 .taken))))
 
 returns-7 : tie.Need-returns-7
 unfolding filterOn
-returns-7 c = let a = c .before .before .before .before .before .before .before .before .before .before .before .before .before .before .before .before .before .before .before .before .before .before .before .before .args in let s = a .s .now in let d = a .left - 1 in let m = c .before .before .before .before .before .before .before .before .before .before .before .before .before .before .before .before .before .before .before .begin in let L = begun (a .left) (a .e) (m .ensures) in
-    let w = cluster-has (clusterOn d s (m .result .head)) (sym (c .before .before .before .before .before .before .before .before .before .before .before .before .before .cluster-of .ensures) ∙ c .before .before .before .before .before .before .before .before .before .before .before .path .given .1) in let z = c .before .before .before .before .before .before .before .resume in
+returns-7 c = let a = c .before .before .before .before .before .before .before .before .before .before .before .before .before .before .before .before .before .before .before .before .before .before .before .before .before .before .args in let s = a .s .now in let d = a .left - 1 in let m = c .before .before .before .before .before .before .before .before .before .before .before .before .before .before .before .before .before .before .before .begin in let L = begun (a .left) (a .e) (m .ensures) in
+    let w = cluster-has (clusterOn d s (m .result .head)) (sym (c .before .before .before .before .before .before .before .before .before .before .before .before .before .cluster-of .ensures) ∙ c .before .before .before .before .before .before .before .before .before .before .before .path .given .1) in let z = c .before .before .before .before .before .before .finish in
     let on = nest-on L (only-first _ (L .stopped (c .before .before .before .before .before .before .before .before .before .before .before .before .before .before .before .if3 .left) .wanted)) (c .before .before .before .before .before .before .before .before .before .before .before .before .before .before .before .if3 .left) (cluster-reads d s) w _ (z .ensures) in
-    let h = not-false _ (c .before .before .before .before .before .if4 .left) in let o = nowhere on in let f = nest-found L (only-first _ (L .stopped (c .before .before .before .before .before .before .before .before .before .before .before .before .before .before .before .if3 .left) .wanted)) (c .before .before .before .before .before .before .before .before .before .before .before .before .before .before .before .if3 .left) (cluster-reads d s) w _ (z .ensures) h in let xs = z .result .at in let ks = z .result .codes in let k = on .coded in
+    let h = not-false _ (c .before .before .before .before .if4 .left) in let o = nowhere on in let f = nest-found L (only-first _ (L .stopped (c .before .before .before .before .before .before .before .before .before .before .before .before .before .before .before .if3 .left) .wanted)) (c .before .before .before .before .before .before .before .before .before .before .before .before .before .before .before .if3 .left) (cluster-reads d s) w _ (z .ensures) h in let xs = z .last .1 .1 .1 .1 .1 .0 in let ks = z .last .1 .1 .1 .1 .1 .1 .0 in let k = on .coded in
     sym (ap filterRead (frame-end (filterFrom d s) on h o (filter-has d s xs f (number-coded s ks xs k 1 _ _ (omega arith) (c .before .before .before .number-by .ensures)) ∙ filter-under _ _ (c .before .before .if5 .left))))
 
 pub filter-of-spec : {M : Type 1} → statement M
@@ -99,8 +99,8 @@ filter-of-spec =
     enum-known-path
     enum-told
     returns-4
-    sub-resume
-    resume-requires
+    sub-finish
+    finish-requires
     returns-5
     array-read-number-by
     number-by-requires

@@ -13,7 +13,7 @@ begin-requires c κs = search needs
 
 returns : tie.Need-returns
 unfolding pathOn
-returns c = let a = c .before .before .before .before .before .before .args in let s = a .s .now in let m = c .before .before .begin in let L = begun (a .left) (a .e) (m .ensures) in
+returns c = let a = c .before .before .before .before .before .before .before .before .args in let s = a .s .now in let m = c .before .before .begin in let L = begun (a .left) (a .e) (m .ensures) in
     sym (ap pathRead (frame-none (pathFrom s) L (not-true _ (c .if1 .taken))))
 
 array-read-flag-by : tie.Need-array-read-flag-by
@@ -57,17 +57,17 @@ sound-path-requires c κs = search needs
 
 returns-2 : tie.Need-returns-2
 unfolding pathOn
-returns-2 c = let a = c .before .before .before .before .before .before .before .before .before .before .before .before .before .before .before .args in let s = a .s .now in let m = c .before .before .before .before .before .before .before .before .before .before .before .begin in let L = begun (a .left) (a .e) (m .ensures) in
-    let xs = m .result .at in let ks = m .result .codes in let k = L .coded in
+returns-2 c = let a = c .before .before .before .before .before .before .before .before .before .before .before .before .before .before .before .before .args in let s = a .s .now in let m = c .before .before .before .before .before .before .before .before .before .before .begin in let L = begun (a .left) (a .e) (m .ensures) in
+    let xs = m .last .1 .1 .1 .1 .1 .1 .0 in let ks = m .last .1 .1 .1 .1 .1 .1 .1 .0 in let k = L .coded in
     let f = path-gathered s xs (record { compress = c .before .before .before .before .before .before .before .flag-by .result; node = c .before .before .before .before .before .before .wide-by .result; endpoint = c .before .before .before .before .before .number-by .result; cluster = c .before .before .before .before .number-by2 .result; attribute = c .before .before .before .number-by3 .result; index = c .before .before .number-by4 .result }) (flag-coded s ks xs k 0 (c .before .before .before .before .before .before .before .flag-by .ensures)) (wide-coded s ks xs k 1 (c .before .before .before .before .before .before .wide-by .ensures)) (number-coded s ks xs k 2 _ _ (omega arith) (c .before .before .before .before .before .number-by .ensures)) (number-coded s ks xs k 3 _ _ (omega arith) (c .before .before .before .before .number-by2 .ensures)) (number-coded s ks xs k 4 _ _ (omega arith) (c .before .before .before .number-by3 .ensures)) (number-coded s ks xs k 5 _ _ (omega arith) (c .before .before .number-by4 .ensures)) ∙ checked-no soundPath _ (sym (c .before .sound-path .ensures) ∙ not-true _ (c .if2 .taken)) in
-    sym (ap pathRead (frame-end (pathFrom s) L (not-false _ (c .before .before .before .before .before .before .before .before .before .if1 .left)) (nowhere L) f))
+    sym (ap pathRead (frame-end (pathFrom s) L (not-false _ (c .before .before .before .before .before .before .before .before .if1 .left)) (nowhere L) f))
 
 returns-3 : tie.Need-returns-3
 unfolding pathOn
-returns-3 c = let a = c .before .before .before .before .before .before .before .before .before .before .before .before .before .before .before .before .before .args in let s = a .s .now in let m = c .before .before .before .before .before .before .before .before .before .before .before .before .before .begin in let L = begun (a .left) (a .e) (m .ensures) in
-    let xs = m .result .at in let ks = m .result .codes in let k = L .coded in
+returns-3 c = let a = c .before .before .before .before .before .before .before .before .before .before .before .before .before .before .before .before .before .before .args in let s = a .s .now in let m = c .before .before .before .before .before .before .before .before .before .before .before .before .begin in let L = begun (a .left) (a .e) (m .ensures) in
+    let xs = m .last .1 .1 .1 .1 .1 .1 .0 in let ks = m .last .1 .1 .1 .1 .1 .1 .1 .0 in let k = L .coded in
     let f = path-gathered s xs (record { compress = c .before .before .before .before .before .before .before .before .before .flag-by .result; node = c .before .before .before .before .before .before .before .before .wide-by .result; endpoint = c .before .before .before .before .before .before .before .number-by .result; cluster = c .before .before .before .before .before .before .number-by2 .result; attribute = c .before .before .before .before .before .number-by3 .result; index = c .before .before .before .before .number-by4 .result }) (flag-coded s ks xs k 0 (c .before .before .before .before .before .before .before .before .before .flag-by .ensures)) (wide-coded s ks xs k 1 (c .before .before .before .before .before .before .before .before .wide-by .ensures)) (number-coded s ks xs k 2 _ _ (omega arith) (c .before .before .before .before .before .before .before .number-by .ensures)) (number-coded s ks xs k 3 _ _ (omega arith) (c .before .before .before .before .before .before .number-by2 .ensures)) (number-coded s ks xs k 4 _ _ (omega arith) (c .before .before .before .before .before .number-by3 .ensures)) (number-coded s ks xs k 5 _ _ (omega arith) (c .before .before .before .before .number-by4 .ensures)) ∙ checked-yes soundPath _ (sym (c .before .before .before .sound-path .ensures) ∙ not-false _ (c .before .before .if2 .left)) in
-    sym (ap pathRead (frame-end (pathFrom s) L (not-false _ (c .before .before .before .before .before .before .before .before .before .before .before .if1 .left)) (nowhere L) f))
+    sym (ap pathRead (frame-end (pathFrom s) L (not-false _ (c .before .before .before .before .before .before .before .before .before .before .if1 .left)) (nowhere L) f))
 
 pub path-of-spec : {M : Type 1} → statement M
 path-of-spec =

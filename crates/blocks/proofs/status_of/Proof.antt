@@ -13,7 +13,7 @@ begin-requires c κs = search needs
 
 returns : tie.Need-returns
 unfolding statusOn
-returns c = let a = c .before .before .before .before .before .before .args in let s = a .s .now in let m = c .before .before .begin in let L = begun (a .left) (a .e) (m .ensures) in
+returns c = let a = c .before .before .before .before .before .before .before .before .args in let s = a .s .now in let m = c .before .before .begin in let L = begun (a .left) (a .e) (m .ensures) in
     sym (ap statusRead (frame-none (statusFrom s) L (not-true _ (c .if1 .taken))))
 
 array-read-number-by : tie.Need-array-read-number-by
@@ -33,17 +33,17 @@ sound-status-requires c κs = search needs
 
 returns-2 : tie.Need-returns-2
 unfolding statusOn
-returns-2 c = let a = c .before .before .before .before .before .before .before .before .before .before .before .args in let s = a .s .now in let m = c .before .before .before .before .before .before .before .begin in let L = begun (a .left) (a .e) (m .ensures) in
-    let xs = m .result .at in let ks = m .result .codes in let k = L .coded in
+returns-2 c = let a = c .before .before .before .before .before .before .before .before .before .before .before .before .args in let s = a .s .now in let m = c .before .before .before .before .before .before .begin in let L = begun (a .left) (a .e) (m .ensures) in
+    let xs = m .last .1 .1 .1 .1 .1 .1 .0 in let ks = m .last .1 .1 .1 .1 .1 .1 .1 .0 in let k = L .coded in
     let f = status-gathered s xs (record { code = c .before .before .before .number-by .result; cluster = c .before .before .number-by2 .result }) (number-coded s ks xs k 0 _ _ (omega arith) (c .before .before .before .number-by .ensures)) (number-coded s ks xs k 1 _ _ (omega arith) (c .before .before .number-by2 .ensures)) ∙ checked-no soundStatus _ (sym (c .before .sound-status .ensures) ∙ not-true _ (c .if2 .taken)) in
-    sym (ap statusRead (frame-end (statusFrom s) L (not-false _ (c .before .before .before .before .before .if1 .left)) (nowhere L) f))
+    sym (ap statusRead (frame-end (statusFrom s) L (not-false _ (c .before .before .before .before .if1 .left)) (nowhere L) f))
 
 returns-3 : tie.Need-returns-3
 unfolding statusOn
-returns-3 c = let a = c .before .before .before .before .before .before .before .before .before .before .before .before .before .args in let s = a .s .now in let m = c .before .before .before .before .before .before .before .before .before .begin in let L = begun (a .left) (a .e) (m .ensures) in
-    let xs = m .result .at in let ks = m .result .codes in let k = L .coded in
+returns-3 c = let a = c .before .before .before .before .before .before .before .before .before .before .before .before .before .before .args in let s = a .s .now in let m = c .before .before .before .before .before .before .before .before .begin in let L = begun (a .left) (a .e) (m .ensures) in
+    let xs = m .last .1 .1 .1 .1 .1 .1 .0 in let ks = m .last .1 .1 .1 .1 .1 .1 .1 .0 in let k = L .coded in
     let f = status-gathered s xs (record { code = c .before .before .before .before .before .number-by .result; cluster = c .before .before .before .before .number-by2 .result }) (number-coded s ks xs k 0 _ _ (omega arith) (c .before .before .before .before .before .number-by .ensures)) (number-coded s ks xs k 1 _ _ (omega arith) (c .before .before .before .before .number-by2 .ensures)) ∙ checked-yes soundStatus _ (sym (c .before .before .before .sound-status .ensures) ∙ not-false _ (c .before .before .if2 .left)) in
-    sym (ap statusRead (frame-end (statusFrom s) L (not-false _ (c .before .before .before .before .before .before .before .if1 .left)) (nowhere L) f))
+    sym (ap statusRead (frame-end (statusFrom s) L (not-false _ (c .before .before .before .before .before .before .if1 .left)) (nowhere L) f))
 
 pub status-of-spec : {M : Type 1} → statement M
 status-of-spec =
