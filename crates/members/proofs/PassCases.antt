@@ -1,5 +1,5 @@
 -- One pass over the members of a container: the equation with no bound, case by case for the code.
-use mathlib.Core.Path.{_≡_, refl, _∙_}
+use mathlib.Core.Path.{_≡_, refl, sym, ap, _∙_}
 use mathlib.Core.Bool.{Bool, true, false}
 use mathlib.Core.List.{List}
 use Prim.Native.Nat.{ℕ, zero, suc, _+_, _-_, _<_, _≤_}
@@ -106,6 +106,10 @@ module _ (kind d : ℕ) (s : List ℕ) (listed stops : List Bool) (e : Element) 
   unfolding passOf
   of-deep = elim d as (λ z. z ≡ 0 → passOf kind z s listed stops e ≡ noPass) [ zero ↦ λ r. refl | suc z ↦ λ r. absurd (omega arith) ]
 
-  pub of-in : e .kind ≡ kind → (d ≡ 0 → ⊥) → passOf kind d s listed stops e ≡ passFrom (d - 1) s kind listed stops (replicate 10 0) (replicate 10 0) (e .next .at)
+  inner : e .kind ≡ kind → (d ≡ 0 → ⊥) → passOf kind d s listed stops e ≡ passFrom (d - 1) s kind listed stops (replicate 10 0) (replicate 10 0) (e .next .at)
   unfolding passOf
-  of-in q = elim d as (λ z. (z ≡ 0 → ⊥) → passOf kind z s listed stops e ≡ passFrom (z - 1) s kind listed stops (replicate 10 0) (replicate 10 0) (e .next .at)) [ zero ↦ λ r. absurd (r refl) | suc z ↦ λ r. (let p : suc z - 1 ≡ z = omega arith in simp (eq-eqb _ _ q, p)) ]
+  inner q = elim d as (λ z. (z ≡ 0 → ⊥) → passOf kind z s listed stops e ≡ passFrom (z - 1) s kind listed stops (replicate 10 0) (replicate 10 0) (e .next .at)) [ zero ↦ λ r. absurd (r refl) | suc z ↦ λ r. (let p : suc z - 1 ≡ z = omega arith in simp (eq-eqb _ _ q, p)) ]
+
+  -- after a pass that has seen nothing
+  pub of-in : e .kind ≡ kind → (d ≡ 0 → ⊥) → {z r : Pass} → z ≡ noPass → r ≡ passFrom (d - 1) s kind listed stops (z .at) (z .codes) (e .next .at) → r ≡ passOf kind d s listed stops e
+  of-in q n w v = v ∙ ap (λ (p : Pass). passFrom (d - 1) s kind listed stops (p .at) (p .codes) (e .next .at)) w ∙ sym (inner q n)

@@ -295,13 +295,17 @@ unfolding passIn
 left-in d s kind listed stops zero seen codes at b n k = left-bad d s kind listed stops seen (no-member d s kind listed seen at (no-head s at (omega arith)))
 left-in d s kind listed stops (suc f) seen codes at b n k = left-by d s kind listed stops seen codes at n k (λ xs ks m. passIn f d s kind listed stops xs ks m) (λ xs ks m l. left-in d s kind listed stops f xs ks m (omega arith)) (headAt s at) refl
 
+-- of the pass over the container with a head
+abbrev pub Over : ℕ → ℕ → List ℕ → List Bool → List Bool → Element → Pass → Type 0
+Over kind d s listed stops e r = Left (d - 1) s kind listed stops (replicate 10 0) (insideOn kind d s listed e) r
+
 -- THE LAW of a pass that goes on, and of one over a container
 module _ (d : ℕ) {s : List ℕ} {kind : ℕ} {listed stops : List Bool} {r : Pass} where
   resumes : (seen codes : List ℕ) (at : ℕ) → length seen ≡ 10 → codes ≡ map (codeIn s) seen → r ≡ passFrom d s kind listed stops seen codes at → Left d s kind listed stops seen (fieldsFrom d s kind listed seen at) r
   unfolding passFrom
   resumes seen codes at n k e = rw e (left-in d s kind listed stops (length s) seen codes at (omega arith) n k)
 
-  pub begun : (e : Element) → r ≡ passOf kind d s listed stops e → Left (d - 1) s kind listed stops (replicate 10 0) (insideOn kind d s listed e) r
+  pub begun : (e : Element) → r ≡ passOf kind d s listed stops e → Over kind d s listed stops e r
   unfolding passOf insideOn fieldsAt passFrom codeIn
   begun e q = rw q (elim d as (λ z. Left (z - 1) s kind listed stops (replicate 10 0) (insideOn kind z s listed e) (passOf kind z s listed stops e)) [ zero ↦ left-bad 0 s kind listed stops (replicate 10 0) refl | suc z ↦ (let p : suc z - 1 ≡ z = omega arith in rw p (go z (eqb (e .kind) kind))) ])
     where
@@ -492,6 +496,14 @@ frame-deep kind d s tags F e q = ap (λ g. bindG g (λ seen n. place (F seen) n)
 
 -- ---- a member of slot i that a reader of its own reads, in one pass
 
+-- it was read so, and the pass after it is the last of its container
+pub record Finished {A B : Type 0} (s : List ℕ) (F : List ℕ → Opt A) (t : Got (List ℕ)) (read : ℕ → Got B) (i : ℕ) (x : B) (z : Pass) : Type 0 where
+  pub none : z .good ≡ false → made F t ≡ bad
+  pub ends : z .good ≡ true → {o : Opt A} → F (z .at) ≡ o → made F t ≡ place o (z .head .next .at)
+  pub found : z .good ≡ true → requiredIn read (getD (z .at) i 0) ≡ just x
+  pub there : z .good ≡ true → getD (z .at) i 0 ≡ 0 → ⊥
+  pub coded : z .codes ≡ map (codeIn s) (z .at)
+
 module _ {B : Type 0} {d : ℕ} {s : List ℕ} {kind : ℕ} {tags stops : List Bool} {before : List ℕ} {t : Got (List ℕ)} {r : Pass} (L : Left d s kind tags stops before t r) {i : ℕ} (is : r .slot ≡ i) (l : r .slot < 10) {read : ℕ → Got B} {on : Element → Got B} (reads : Reads d s read on) where
   abbrev Placed : List ℕ → Type 0
   Placed xs = getD xs i 0 ≡ L .stopped l .place + 1
@@ -536,6 +548,10 @@ module _ {B : Type 0} {d : ℕ} {s : List ℕ} {kind : ℕ} {tags stops : List B
 
     pub nest-there : z .good ≡ true → getD (z .at) i 0 ≡ 0 → ⊥
     nest-there a = there (z .at) (nest-at a)
+
+  pub nest-last : {A : Type 0} (F : List ℕ → Opt A) {x : B} {n : ℕ} → on (r .head) ≡ got x n → {z : Pass} → z ≡ passFrom d s kind tags (replicate 10 false) (r .at) (r .codes) n → Finished s F t read i x z
+  nest-last F w q = let N = nest-on w (replicate 10 false) q in
+      record { none = frame-none F N; ends = λ g. frame-end F N g (nowhere N); found = nest-found w (replicate 10 false) q; there = nest-there w (replicate 10 false) q; coded = N .coded }
 
 -- a reader and then a test is a reader
 pub then-reads : {A B : Type 0} (d : ℕ) (s : List ℕ) {read : ℕ → Got A} {on : Element → Got A} (f : A → Opt B) → Reads d s read on → Reads d s (λ at. bindG (read at) (λ a n. place (f a) n)) (λ e. bindG (on e) (λ a n. place (f a) n))

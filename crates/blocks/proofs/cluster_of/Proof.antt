@@ -1,20 +1,39 @@
-use mathlib.Core.Path.{sym, ap, _∙_}
+use mathlib.Core.Path.{_≡_, sym, ap, _∙_}
+use mathlib.Core.Bool.{false}
 use native.Mathlib.Omega.{arith}
+use lib.ListN.{replicate}
 use borrow.Author.Tests.{not-true, not-false}
-use Rattle.members.proofs.PassLaws.{begun, number-coded, wide-coded, frame-none, frame-end, nowhere}
-use Rattle.blocks.specs.Filter.{clusterOn, clusterRead, clusterFrom, soundCluster}
+use Rattle.tlv.specs.Octet.{list}
+use Rattle.tlv.specs.Decode.{Opt, place}
+use Rattle.members.specs.Pass.{passWith}
+use Rattle.members.proofs.PassLaws.{Over, begun, number-coded, wide-coded, frame-none, frame-end, nowhere}
+use Rattle.blocks.specs.declared.Cluster.{Cluster}
+use Rattle.blocks.specs.Path.{checked}
+use Rattle.blocks.specs.Filter.{clusterTags, clusterOn, clusterRead, clusterFrom, soundCluster}
 use Rattle.blocks.proofs.CodeLaws.{checked-no, checked-yes, cluster-gathered}
 use borrow.Author.Needs.{needs}
 use Rattle.blocks.proofs.cluster_of.Statement.{statement}
 use Rattle.blocks.proofs.cluster_of.Tie as tie
+
+-- the pass over its members
+over : (c : tie.After-begin) → Over list (c .before .before .before .before .before .before .args .left) (c .before .before .before .before .before .before .args .s .now) clusterTags (replicate 10 false) (c .before .before .before .before .before .before .args .e) (passWith (c .begin .result) (c .begin .last .1 .1 .1 .1 .1 .1 .0) (c .begin .last .1 .1 .1 .1 .1 .1 .1 .0))
+over c = begun (c .before .before .before .before .before .before .args .left) (c .before .before .before .before .before .before .args .e) (c .begin .ensures)
+
+-- what was gathered
+abbrev gathered : tie.After-number-by2 → Cluster
+gathered c = record { node = c .before .before .wide-by .result; endpoint = c .before .number-by .result; cluster = c .number-by2 .result }
+
+read : (c : tie.After-number-by2) {o : Opt Cluster} → checked soundCluster (gathered c) ≡ o → clusterOn (c .before .before .before .before .before .before .before .before .before .before .before .args .left) (c .before .before .before .before .before .before .before .before .before .before .before .args .s .now) (c .before .before .before .before .before .before .before .before .before .before .before .args .e) ≡ place o (c .before .before .before .before .before .begin .result .head .next .at)
+unfolding clusterOn
+read c q = let s = c .before .before .before .before .before .before .before .before .before .before .before .args .s .now in let L = over (c .before .before .before .before .before) in let k = L .coded in let xs = c .before .before .before .before .before .begin .last .1 .1 .1 .1 .1 .1 .0 in
+    frame-end (clusterFrom s) L (not-false _ (c .before .before .before .if1 .left)) (nowhere L) (cluster-gathered s xs (gathered c) (wide-coded s _ xs k 0 (c .before .before .wide-by .ensures)) (number-coded s _ xs k 1 _ _ (omega arith) (c .before .number-by .ensures)) (number-coded s _ xs k 2 _ _ (omega arith) (c .number-by2 .ensures)) ∙ q)
 
 begin-requires : tie.Need-begin-requires
 begin-requires c κs = search needs
 
 returns : tie.Need-returns
 unfolding clusterOn
-returns c = let a = c .before .before .before .before .before .before .before .before .args in let s = a .s .now in let m = c .before .before .begin in let L = begun (a .left) (a .e) (m .ensures) in
-    sym (ap clusterRead (frame-none (clusterFrom s) L (not-true _ (c .if1 .taken))))
+returns c = sym (ap clusterRead (frame-none (clusterFrom (c .before .before .before .before .before .before .before .before .args .s .now)) (over (c .before .before)) (not-true _ (c .if1 .taken))))
 
 array-read-wide-by : tie.Need-array-read-wide-by
 array-read-wide-by c = search needs
@@ -38,18 +57,10 @@ sound-cluster-requires : tie.Need-sound-cluster-requires
 sound-cluster-requires c κs = search needs
 
 returns-2 : tie.Need-returns-2
-unfolding clusterOn
-returns-2 c = let a = c .before .before .before .before .before .before .before .before .before .before .before .before .before .args in let s = a .s .now in let m = c .before .before .before .before .before .before .before .begin in let L = begun (a .left) (a .e) (m .ensures) in
-    let xs = m .last .1 .1 .1 .1 .1 .1 .0 in let ks = m .last .1 .1 .1 .1 .1 .1 .1 .0 in let k = L .coded in
-    let f = cluster-gathered s xs (record { node = c .before .before .before .before .wide-by .result; endpoint = c .before .before .before .number-by .result; cluster = c .before .before .number-by2 .result }) (wide-coded s ks xs k 0 (c .before .before .before .before .wide-by .ensures)) (number-coded s ks xs k 1 _ _ (omega arith) (c .before .before .before .number-by .ensures)) (number-coded s ks xs k 2 _ _ (omega arith) (c .before .before .number-by2 .ensures)) ∙ checked-no soundCluster _ (sym (c .before .sound-cluster .ensures) ∙ not-true _ (c .if2 .taken)) in
-    sym (ap clusterRead (frame-end (clusterFrom s) L (not-false _ (c .before .before .before .before .before .if1 .left)) (nowhere L) f))
+returns-2 c = sym (ap clusterRead (read (c .before .before) (checked-no soundCluster _ (sym (c .before .sound-cluster .ensures) ∙ not-true _ (c .if2 .taken)))))
 
 returns-3 : tie.Need-returns-3
-unfolding clusterOn
-returns-3 c = let a = c .before .before .before .before .before .before .before .before .before .before .before .before .before .before .before .args in let s = a .s .now in let m = c .before .before .before .before .before .before .before .before .before .begin in let L = begun (a .left) (a .e) (m .ensures) in
-    let xs = m .last .1 .1 .1 .1 .1 .1 .0 in let ks = m .last .1 .1 .1 .1 .1 .1 .1 .0 in let k = L .coded in
-    let f = cluster-gathered s xs (record { node = c .before .before .before .before .before .before .wide-by .result; endpoint = c .before .before .before .before .before .number-by .result; cluster = c .before .before .before .before .number-by2 .result }) (wide-coded s ks xs k 0 (c .before .before .before .before .before .before .wide-by .ensures)) (number-coded s ks xs k 1 _ _ (omega arith) (c .before .before .before .before .before .number-by .ensures)) (number-coded s ks xs k 2 _ _ (omega arith) (c .before .before .before .before .number-by2 .ensures)) ∙ checked-yes soundCluster _ (sym (c .before .before .before .sound-cluster .ensures) ∙ not-false _ (c .before .before .if2 .left)) in
-    sym (ap clusterRead (frame-end (clusterFrom s) L (not-false _ (c .before .before .before .before .before .before .before .if1 .left)) (nowhere L) f))
+returns-3 c = sym (ap clusterRead (read (c .before .before .before .before) (checked-yes soundCluster _ (sym (c .before .before .before .sound-cluster .ensures) ∙ not-false _ (c .before .before .if2 .left)))))
 
 pub cluster-of-spec : {M : Type 1} → statement M
 cluster-of-spec =

@@ -1,20 +1,38 @@
-use mathlib.Core.Path.{sym, ap, _∙_}
+use mathlib.Core.Path.{_≡_, sym, ap, _∙_}
+use mathlib.Core.Bool.{false}
 use native.Mathlib.Omega.{arith}
+use lib.ListN.{replicate}
 use borrow.Author.Tests.{not-true, not-false}
-use Rattle.members.proofs.PassLaws.{begun, number-coded, flag-coded, wide-coded, frame-none, frame-end, nowhere}
-use Rattle.blocks.specs.Path.{pathOn, pathRead, pathFrom, soundPath}
+use Rattle.tlv.specs.Octet.{list}
+use Rattle.tlv.specs.Decode.{Opt, place}
+use Rattle.members.specs.Pass.{passWith}
+use Rattle.members.proofs.PassLaws.{Over, begun, number-coded, flag-coded, wide-coded, frame-none, frame-end, nowhere}
+use Rattle.blocks.specs.declared.Path.{Path}
+use Rattle.blocks.specs.Path.{pathTags, pathOn, pathRead, pathFrom, checked, soundPath}
 use Rattle.blocks.proofs.CodeLaws.{checked-no, checked-yes, path-gathered}
 use borrow.Author.Needs.{needs}
 use Rattle.blocks.proofs.path_of.Statement.{statement}
 use Rattle.blocks.proofs.path_of.Tie as tie
+
+-- the pass over its members
+over : (c : tie.After-begin) → Over list (c .before .before .before .before .before .before .args .left) (c .before .before .before .before .before .before .args .s .now) pathTags (replicate 10 false) (c .before .before .before .before .before .before .args .e) (passWith (c .begin .result) (c .begin .last .1 .1 .1 .1 .1 .1 .0) (c .begin .last .1 .1 .1 .1 .1 .1 .1 .0))
+over c = begun (c .before .before .before .before .before .before .args .left) (c .before .before .before .before .before .before .args .e) (c .begin .ensures)
+
+-- what was gathered
+abbrev gathered : tie.After-number-by4 → Path
+gathered c = record { compress = c .before .before .before .before .before .flag-by .result; node = c .before .before .before .before .wide-by .result; endpoint = c .before .before .before .number-by .result; cluster = c .before .before .number-by2 .result; attribute = c .before .number-by3 .result; index = c .number-by4 .result }
+
+read : (c : tie.After-number-by4) {o : Opt Path} → checked soundPath (gathered c) ≡ o → pathOn (c .before .before .before .before .before .before .before .before .before .before .before .before .before .before .args .left) (c .before .before .before .before .before .before .before .before .before .before .before .before .before .before .args .s .now) (c .before .before .before .before .before .before .before .before .before .before .before .before .before .before .args .e) ≡ place o (c .before .before .before .before .before .before .before .before .begin .result .head .next .at)
+unfolding pathOn
+read c q = let s = c .before .before .before .before .before .before .before .before .before .before .before .before .before .before .args .s .now in let L = over (c .before .before .before .before .before .before .before .before) in let k = L .coded in let xs = c .before .before .before .before .before .before .before .before .begin .last .1 .1 .1 .1 .1 .1 .0 in
+    frame-end (pathFrom s) L (not-false _ (c .before .before .before .before .before .before .if1 .left)) (nowhere L) (path-gathered s xs (gathered c) (flag-coded s _ xs k 0 (c .before .before .before .before .before .flag-by .ensures)) (wide-coded s _ xs k 1 (c .before .before .before .before .wide-by .ensures)) (number-coded s _ xs k 2 _ _ (omega arith) (c .before .before .before .number-by .ensures)) (number-coded s _ xs k 3 _ _ (omega arith) (c .before .before .number-by2 .ensures)) (number-coded s _ xs k 4 _ _ (omega arith) (c .before .number-by3 .ensures)) (number-coded s _ xs k 5 _ _ (omega arith) (c .number-by4 .ensures)) ∙ q)
 
 begin-requires : tie.Need-begin-requires
 begin-requires c κs = search needs
 
 returns : tie.Need-returns
 unfolding pathOn
-returns c = let a = c .before .before .before .before .before .before .before .before .args in let s = a .s .now in let m = c .before .before .begin in let L = begun (a .left) (a .e) (m .ensures) in
-    sym (ap pathRead (frame-none (pathFrom s) L (not-true _ (c .if1 .taken))))
+returns c = sym (ap pathRead (frame-none (pathFrom (c .before .before .before .before .before .before .before .before .args .s .now)) (over (c .before .before)) (not-true _ (c .if1 .taken))))
 
 array-read-flag-by : tie.Need-array-read-flag-by
 array-read-flag-by c = search needs
@@ -56,18 +74,10 @@ sound-path-requires : tie.Need-sound-path-requires
 sound-path-requires c κs = search needs
 
 returns-2 : tie.Need-returns-2
-unfolding pathOn
-returns-2 c = let a = c .before .before .before .before .before .before .before .before .before .before .before .before .before .before .before .before .args in let s = a .s .now in let m = c .before .before .before .before .before .before .before .before .before .before .begin in let L = begun (a .left) (a .e) (m .ensures) in
-    let xs = m .last .1 .1 .1 .1 .1 .1 .0 in let ks = m .last .1 .1 .1 .1 .1 .1 .1 .0 in let k = L .coded in
-    let f = path-gathered s xs (record { compress = c .before .before .before .before .before .before .before .flag-by .result; node = c .before .before .before .before .before .before .wide-by .result; endpoint = c .before .before .before .before .before .number-by .result; cluster = c .before .before .before .before .number-by2 .result; attribute = c .before .before .before .number-by3 .result; index = c .before .before .number-by4 .result }) (flag-coded s ks xs k 0 (c .before .before .before .before .before .before .before .flag-by .ensures)) (wide-coded s ks xs k 1 (c .before .before .before .before .before .before .wide-by .ensures)) (number-coded s ks xs k 2 _ _ (omega arith) (c .before .before .before .before .before .number-by .ensures)) (number-coded s ks xs k 3 _ _ (omega arith) (c .before .before .before .before .number-by2 .ensures)) (number-coded s ks xs k 4 _ _ (omega arith) (c .before .before .before .number-by3 .ensures)) (number-coded s ks xs k 5 _ _ (omega arith) (c .before .before .number-by4 .ensures)) ∙ checked-no soundPath _ (sym (c .before .sound-path .ensures) ∙ not-true _ (c .if2 .taken)) in
-    sym (ap pathRead (frame-end (pathFrom s) L (not-false _ (c .before .before .before .before .before .before .before .before .if1 .left)) (nowhere L) f))
+returns-2 c = sym (ap pathRead (read (c .before .before) (checked-no soundPath _ (sym (c .before .sound-path .ensures) ∙ not-true _ (c .if2 .taken)))))
 
 returns-3 : tie.Need-returns-3
-unfolding pathOn
-returns-3 c = let a = c .before .before .before .before .before .before .before .before .before .before .before .before .before .before .before .before .before .before .args in let s = a .s .now in let m = c .before .before .before .before .before .before .before .before .before .before .before .before .begin in let L = begun (a .left) (a .e) (m .ensures) in
-    let xs = m .last .1 .1 .1 .1 .1 .1 .0 in let ks = m .last .1 .1 .1 .1 .1 .1 .1 .0 in let k = L .coded in
-    let f = path-gathered s xs (record { compress = c .before .before .before .before .before .before .before .before .before .flag-by .result; node = c .before .before .before .before .before .before .before .before .wide-by .result; endpoint = c .before .before .before .before .before .before .before .number-by .result; cluster = c .before .before .before .before .before .before .number-by2 .result; attribute = c .before .before .before .before .before .number-by3 .result; index = c .before .before .before .before .number-by4 .result }) (flag-coded s ks xs k 0 (c .before .before .before .before .before .before .before .before .before .flag-by .ensures)) (wide-coded s ks xs k 1 (c .before .before .before .before .before .before .before .before .wide-by .ensures)) (number-coded s ks xs k 2 _ _ (omega arith) (c .before .before .before .before .before .before .before .number-by .ensures)) (number-coded s ks xs k 3 _ _ (omega arith) (c .before .before .before .before .before .before .number-by2 .ensures)) (number-coded s ks xs k 4 _ _ (omega arith) (c .before .before .before .before .before .number-by3 .ensures)) (number-coded s ks xs k 5 _ _ (omega arith) (c .before .before .before .before .number-by4 .ensures)) ∙ checked-yes soundPath _ (sym (c .before .before .before .sound-path .ensures) ∙ not-false _ (c .before .before .if2 .left)) in
-    sym (ap pathRead (frame-end (pathFrom s) L (not-false _ (c .before .before .before .before .before .before .before .before .before .before .if1 .left)) (nowhere L) f))
+returns-3 c = sym (ap pathRead (read (c .before .before .before .before) (checked-yes soundPath _ (sym (c .before .before .before .sound-path .ensures) ∙ not-false _ (c .before .before .if2 .left)))))
 
 pub path-of-spec : {M : Type 1} → statement M
 path-of-spec =

@@ -1,13 +1,17 @@
-use mathlib.Core.Path.{refl, sym, ap, _∙_}
+use mathlib.Core.Path.{_≡_, refl, sym, ap, _∙_}
+use mathlib.Core.Bool.{true, false}
+use mathlib.Core.List.{_∷_}
 use Prim.Native.Nat.{_-_}
 use native.Mathlib.Omega.{arith}
 use native.Mathlib.Nat.{pos-of-ne-zero}
+use lib.ListN.{replicate}
 use borrow.Author.Tests.{not-true, not-false}
 use Rattle.tlv.specs.Octet.{structure}
-use Rattle.members.proofs.PassLaws.{begun, frame-deep, frame-none, frame-end, nowhere, first-or-second, nest-refused, nest-on, nest-found, nest-there}
+use Rattle.members.specs.Pass.{passWith, insideOn}
+use Rattle.members.proofs.PassLaws.{Over, Finished, begun, frame-deep, frame-none, frame-end, first-or-second, nest-refused, nest-last}
 use Rattle.blocks.specs.Filter.{pairTags}
-use Rattle.blocks.specs.Status.{answerOn}
-use Rattle.blocks.specs.Data.{dataOn, reportOn, reportRead, reportFrom}
+use Rattle.blocks.specs.Status.{answerAt}
+use Rattle.blocks.specs.Data.{dataAt, reportOn, reportRead, reportFrom}
 use Rattle.blocks.proofs.BlockLaws.{answer-lacks, answer-has}
 use Rattle.blocks.proofs.DataLaws.{data-lacks, data-has, dataFound}
 use Rattle.blocks.proofs.CodeLaws.{report-neither, report-data, report-both, report-status, report-no-answer, report-no-data}
@@ -15,6 +19,23 @@ use Rattle.blocks.proofs.OnLaws.{answer-reads, data-reads}
 use borrow.Author.Needs.{needs}
 use Rattle.blocks.proofs.report_of.Statement.{statement}
 use Rattle.blocks.proofs.report_of.Tie as tie
+
+-- the pass to the first of the two
+first : (c : tie.After-begin) → let a = c .before .before .before .before .before .before .before .args in let s = a .s .now in Over structure (a .left) s pairTags (true ∷ true ∷ replicate 8 false) (a .e) (passWith (c .begin .result) (c .begin .last .1 .1 .1 .1 .1 .1 .0) (c .begin .last .1 .1 .1 .1 .1 .1 .1 .0))
+first c = let a = c .before .before .before .before .before .before .before .args in
+    begun (a .left) (a .e) (c .begin .ensures)
+
+at-data : (c : tie.Else4) → c .before .before .before .before .before .before .before .begin .result .slot ≡ 1
+at-data c = first-or-second _ (first (c .before .before .before .before .before .before .before) .stopped (c .before .before .before .if3 .left) .wanted) (c .if4 .left)
+
+-- a status and the pass after it, or data and the pass after that
+status-after : (c : tie.After-finish) → let a = c .before .before .before .before .before .before .before .before .before .before .before .before .before .before .before .before .before .before .before .before .before .before .args in let s = a .s .now in let d = a .left - 1 in Finished s (reportFrom d s) (insideOn structure (a .left) s pairTags (a .e)) (answerAt d s) 0 (c .before .before .before .before .before .x .given .0 .0) (passWith (c .finish .result) (c .finish .last .1 .1 .1 .1 .1 .0) (c .finish .last .1 .1 .1 .1 .1 .1 .0))
+status-after c = let a = c .before .before .before .before .before .before .before .before .before .before .before .before .before .before .before .before .before .before .before .before .before .before .args in let s = a .s .now in let d = a .left - 1 in
+    nest-last (first (c .before .before .before .before .before .before .before .before .before .before .before .before .before .before .before)) (c .before .before .before .before .before .before .before .before .if4 .taken) (c .before .before .before .before .before .before .before .before .before .before .before .if3 .left) (answer-reads d s) (reportFrom d s) (answer-has _ (sym (c .before .before .before .before .before .before .before .answer-of .ensures) ∙ c .before .before .before .before .before .x .given .1)) (c .finish .ensures)
+
+data-after : (c : tie.After-finish2) → let a = c .before .before .before .before .before .before .before .before .before .before .before .before .before .before .before .before .before .before .before .before .before .before .args in let s = a .s .now in let d = a .left - 1 in Finished s (reportFrom d s) (insideOn structure (a .left) s pairTags (a .e)) (dataAt d s) 1 (dataFound (c .before .before .before .before .before .d .given .0 .0)) (passWith (c .finish2 .result) (c .finish2 .last .1 .1 .1 .1 .1 .0) (c .finish2 .last .1 .1 .1 .1 .1 .1 .0))
+data-after c = let a = c .before .before .before .before .before .before .before .before .before .before .before .before .before .before .before .before .before .before .before .before .before .before .args in let s = a .s .now in let d = a .left - 1 in
+    nest-last (first (c .before .before .before .before .before .before .before .before .before .before .before .before .before .before .before)) (at-data (c .before .before .before .before .before .before .before .before)) (c .before .before .before .before .before .before .before .before .before .before .before .if3 .left) (data-reads d s) (reportFrom d s) (data-has _ (sym (c .before .before .before .before .before .before .before .data-of .ensures) ∙ c .before .before .before .before .before .d .given .1)) (c .finish2 .ensures)
 
 returns : tie.Need-returns
 unfolding reportOn
@@ -26,13 +47,13 @@ begin-requires c κs = search needs
 
 returns-2 : tie.Need-returns-2
 unfolding reportOn
-returns-2 c = let a = c .before .before .before .before .before .before .before .before .before .args in let s = a .s .now in let d = a .left - 1 in let m = c .before .before .begin in let L = begun (a .left) (a .e) (m .ensures) in
-    sym (ap reportRead (frame-none (reportFrom d s) L (not-true _ (c .if2 .taken))))
+returns-2 c = let a = c .before .before .before .before .before .before .before .before .before .args in let s = a .s .now in let d = a .left - 1 in
+    sym (ap reportRead (frame-none (reportFrom d s) (first (c .before .before)) (not-true _ (c .if2 .taken))))
 
 returns-3 : tie.Need-returns-3
 unfolding reportOn
-returns-3 c = let a = c .before .before .before .before .before .before .before .before .before .before .before .args in let s = a .s .now in let d = a .left - 1 in let m = c .before .before .before .before .begin in let L = begun (a .left) (a .e) (m .ensures) in let g = not-false _ (c .before .before .if2 .left) in let o = c .if3 .taken in
-    sym (ap reportRead (frame-end (reportFrom d s) L g (c .if3 .taken) (report-neither d s (m .last .1 .1 .1 .1 .1 .1 .0) (L .passed g 0 refl (λ z. omega arith)) (L .passed g 1 refl (λ z. omega arith)))))
+returns-3 c = let a = c .before .before .before .before .before .before .before .before .before .before .before .args in let s = a .s .now in let d = a .left - 1 in let L = first (c .before .before .before .before) in let g = not-false _ (c .before .before .if2 .left) in let o = c .if3 .taken in
+    sym (ap reportRead (frame-end (reportFrom d s) L g (c .if3 .taken) (report-neither d s (c .before .before .before .before .begin .last .1 .1 .1 .1 .1 .1 .0) (L .passed g 0 refl (λ z. omega arith)) (L .passed g 1 refl (λ z. omega arith)))))
 
 sub-answer-of : tie.Need-sub-answer-of
 sub-answer-of c = search needs
@@ -48,8 +69,8 @@ enum-told c = search needs
 
 returns-4 : tie.Need-returns-4
 unfolding reportOn
-returns-4 c = let a = c .before .before .before .before .before .before .before .before .before .before .before .before .before .before .before .before .before .args in let s = a .s .now in let d = a .left - 1 in let m = c .before .before .before .before .before .before .before .before .before .before .begin in let L = begun (a .left) (a .e) (m .ensures) in let l = c .before .before .before .before .before .before .if3 .left in
-    sym (ap reportRead (nest-refused L (c .before .before .before .if4 .taken) l (answer-reads d s) (reportFrom d s) (answer-lacks (answerOn d s (m .result .head)) (sym (c .before .before .answer-of .ensures) ∙ c .enum-told .given .1)) (λ xs n k. report-no-answer d s xs n k)))
+returns-4 c = let a = c .before .before .before .before .before .before .before .before .before .before .before .before .before .before .before .before .before .args in let s = a .s .now in let d = a .left - 1 in
+    sym (ap reportRead (nest-refused (first (c .before .before .before .before .before .before .before .before .before .before)) (c .before .before .before .if4 .taken) (c .before .before .before .before .before .before .if3 .left) (answer-reads d s) (reportFrom d s) (answer-lacks _ (sym (c .before .before .answer-of .ensures) ∙ c .enum-told .given .1)) (λ xs n k. report-no-answer d s xs n k)))
 
 sub-finish : tie.Need-sub-finish
 sub-finish c = omega (arith, pos-of-ne-zero (c .before .before .before .before .before .before .before .before .before .before .before .before .before .before .before .before .if1 .left))
@@ -59,29 +80,20 @@ finish-requires c κs = search needs
 
 returns-5 : tie.Need-returns-5
 unfolding reportOn
-returns-5 c = let a = c .before .before .before .before .before .before .before .before .before .before .before .before .before .before .before .before .before .before .before .before .before .before .before .before .args in let s = a .s .now in let d = a .left - 1 in let m = c .before .before .before .before .before .before .before .before .before .before .before .before .before .before .before .before .before .begin in let L = begun (a .left) (a .e) (m .ensures) in let l = c .before .before .before .before .before .before .before .before .before .before .before .before .before .if3 .left in
-    let w = answer-has (answerOn d s (m .result .head)) (sym (c .before .before .before .before .before .before .before .before .before .answer-of .ensures) ∙ c .before .before .before .before .before .before .before .x .given .1) in let z = c .before .before .finish in
-    let on = nest-on L (c .before .before .before .before .before .before .before .before .before .before .if4 .taken) l (answer-reads d s) w _ (z .ensures) in
-    sym (ap reportRead (frame-none (reportFrom d s) on (not-true _ (c .if5 .taken))))
+returns-5 c = sym (ap reportRead (status-after (c .before .before) .none (not-true _ (c .if5 .taken))))
 
 array-read-if6 : tie.Need-array-read-if6
 array-read-if6 c = search needs
 
 returns-6 : tie.Need-returns-6
 unfolding reportOn
-returns-6 c = let a = c .before .before .before .before .before .before .before .before .before .before .before .before .before .before .before .before .before .before .before .before .before .before .before .before .before .args in let s = a .s .now in let d = a .left - 1 in let m = c .before .before .before .before .before .before .before .before .before .before .before .before .before .before .before .before .before .before .begin in let L = begun (a .left) (a .e) (m .ensures) in let l = c .before .before .before .before .before .before .before .before .before .before .before .before .before .before .if3 .left in
-    let w = answer-has (answerOn d s (m .result .head)) (sym (c .before .before .before .before .before .before .before .before .before .before .answer-of .ensures) ∙ c .before .before .before .before .before .before .before .before .x .given .1) in let z = c .before .before .before .finish in
-    let on = nest-on L (c .before .before .before .before .before .before .before .before .before .before .before .if4 .taken) l (answer-reads d s) w _ (z .ensures) in
-    let h = not-false _ (c .before .if5 .left) in let o = nowhere on in let there = nest-there L (c .before .before .before .before .before .before .before .before .before .before .before .if4 .taken) l (answer-reads d s) w _ (z .ensures) h in let xs = z .last .1 .1 .1 .1 .1 .0 in
-    sym (ap reportRead (frame-end (reportFrom d s) on h o (report-both d s xs there (c .if6 .taken))))
+returns-6 c = let a = c .before .before .before .before .before .before .before .before .before .before .before .before .before .before .before .before .before .before .before .before .before .before .before .before .before .args in let s = a .s .now in let d = a .left - 1 in let z = status-after (c .before .before .before) in let g = not-false _ (c .before .if5 .left) in let xs = c .before .before .before .finish .last .1 .1 .1 .1 .1 .0 in
+    sym (ap reportRead (z .ends g (report-both d s xs (z .there g) (c .if6 .taken))))
 
 returns-7 : tie.Need-returns-7
 unfolding reportOn
-returns-7 c = let a = c .before .before .before .before .before .before .before .before .before .before .before .before .before .before .before .before .before .before .before .before .before .before .before .before .before .before .before .args in let s = a .s .now in let d = a .left - 1 in let m = c .before .before .before .before .before .before .before .before .before .before .before .before .before .before .before .before .before .before .before .before .begin in let L = begun (a .left) (a .e) (m .ensures) in let l = c .before .before .before .before .before .before .before .before .before .before .before .before .before .before .before .before .if3 .left in
-    let w = answer-has (answerOn d s (m .result .head)) (sym (c .before .before .before .before .before .before .before .before .before .before .before .before .answer-of .ensures) ∙ c .before .before .before .before .before .before .before .before .before .before .x .given .1) in let z = c .before .before .before .before .before .finish in
-    let on = nest-on L (c .before .before .before .before .before .before .before .before .before .before .before .before .before .if4 .taken) l (answer-reads d s) w _ (z .ensures) in
-    let h = not-false _ (c .before .before .before .if5 .left) in let o = nowhere on in let f = nest-found L (c .before .before .before .before .before .before .before .before .before .before .before .before .before .if4 .taken) l (answer-reads d s) w _ (z .ensures) h in let there = nest-there L (c .before .before .before .before .before .before .before .before .before .before .before .before .before .if4 .taken) l (answer-reads d s) w _ (z .ensures) h in let xs = z .last .1 .1 .1 .1 .1 .0 in
-    sym (ap reportRead (frame-end (reportFrom d s) on h o (report-status d s xs there (c .before .before .if6 .left) f)))
+returns-7 c = let a = c .before .before .before .before .before .before .before .before .before .before .before .before .before .before .before .before .before .before .before .before .before .before .before .before .before .before .before .args in let s = a .s .now in let d = a .left - 1 in let z = status-after (c .before .before .before .before .before) in let g = not-false _ (c .before .before .before .if5 .left) in let xs = c .before .before .before .before .before .finish .last .1 .1 .1 .1 .1 .0 in
+    sym (ap reportRead (z .ends g (report-status d s xs (z .there g) (c .before .before .if6 .left) (z .found g))))
 
 sub-data-of : tie.Need-sub-data-of
 sub-data-of c = search needs
@@ -97,8 +109,8 @@ enum-told-2 c = search needs
 
 returns-8 : tie.Need-returns-8
 unfolding reportOn
-returns-8 c = let a = c .before .before .before .before .before .before .before .before .before .before .before .before .before .before .before .before .before .args in let s = a .s .now in let d = a .left - 1 in let m = c .before .before .before .before .before .before .before .before .before .before .begin in let L = begun (a .left) (a .e) (m .ensures) in let l = c .before .before .before .before .before .before .if3 .left in let st = L .stopped in
-    sym (ap reportRead (nest-refused L (first-or-second _ (st l .wanted) (c .before .before .before .if4 .left)) l (data-reads d s) (reportFrom d s) (data-lacks (dataOn d s (m .result .head)) (sym (c .before .before .data-of .ensures) ∙ c .enum-told2 .given .1)) (λ xs n k. report-no-data d s xs n k)))
+returns-8 c = let a = c .before .before .before .before .before .before .before .before .before .before .before .before .before .before .before .before .before .args in let s = a .s .now in let d = a .left - 1 in
+    sym (ap reportRead (nest-refused (first (c .before .before .before .before .before .before .before .before .before .before)) (at-data (c .before .before .before)) (c .before .before .before .before .before .before .if3 .left) (data-reads d s) (reportFrom d s) (data-lacks _ (sym (c .before .before .data-of .ensures) ∙ c .enum-told2 .given .1)) (λ xs n k. report-no-data d s xs n k)))
 
 sub-finish-2 : tie.Need-sub-finish-2
 sub-finish-2 c = omega (arith, pos-of-ne-zero (c .before .before .before .before .before .before .before .before .before .before .before .before .before .before .before .before .if1 .left))
@@ -108,29 +120,20 @@ finish-requires-2 c κs = search needs
 
 returns-9 : tie.Need-returns-9
 unfolding reportOn
-returns-9 c = let a = c .before .before .before .before .before .before .before .before .before .before .before .before .before .before .before .before .before .before .before .before .before .before .before .before .args in let s = a .s .now in let d = a .left - 1 in let m = c .before .before .before .before .before .before .before .before .before .before .before .before .before .before .before .before .before .begin in let L = begun (a .left) (a .e) (m .ensures) in let l = c .before .before .before .before .before .before .before .before .before .before .before .before .before .if3 .left in let st = L .stopped in
-    let w = data-has (dataOn d s (m .result .head)) (sym (c .before .before .before .before .before .before .before .before .before .data-of .ensures) ∙ c .before .before .before .before .before .before .before .d .given .1) in let z = c .before .before .finish2 in
-    let on = nest-on L (first-or-second _ (st l .wanted) (c .before .before .before .before .before .before .before .before .before .before .if4 .left)) l (data-reads d s) w _ (z .ensures) in
-    sym (ap reportRead (frame-none (reportFrom d s) on (not-true _ (c .if7 .taken))))
+returns-9 c = sym (ap reportRead (data-after (c .before .before) .none (not-true _ (c .if7 .taken))))
 
 array-read-if8 : tie.Need-array-read-if8
 array-read-if8 c = search needs
 
 returns-10 : tie.Need-returns-10
 unfolding reportOn
-returns-10 c = let a = c .before .before .before .before .before .before .before .before .before .before .before .before .before .before .before .before .before .before .before .before .before .before .before .before .before .args in let s = a .s .now in let d = a .left - 1 in let m = c .before .before .before .before .before .before .before .before .before .before .before .before .before .before .before .before .before .before .begin in let L = begun (a .left) (a .e) (m .ensures) in let l = c .before .before .before .before .before .before .before .before .before .before .before .before .before .before .if3 .left in let st = L .stopped in
-    let w = data-has (dataOn d s (m .result .head)) (sym (c .before .before .before .before .before .before .before .before .before .before .data-of .ensures) ∙ c .before .before .before .before .before .before .before .before .d .given .1) in let z = c .before .before .before .finish2 in
-    let on = nest-on L (first-or-second _ (st l .wanted) (c .before .before .before .before .before .before .before .before .before .before .before .if4 .left)) l (data-reads d s) w _ (z .ensures) in
-    let h = not-false _ (c .before .if7 .left) in let o = nowhere on in let there = nest-there L (first-or-second _ (st l .wanted) (c .before .before .before .before .before .before .before .before .before .before .before .if4 .left)) l (data-reads d s) w _ (z .ensures) h in let xs = z .last .1 .1 .1 .1 .1 .0 in
-    sym (ap reportRead (frame-end (reportFrom d s) on h o (report-both d s xs (c .if8 .taken) there)))
+returns-10 c = let a = c .before .before .before .before .before .before .before .before .before .before .before .before .before .before .before .before .before .before .before .before .before .before .before .before .before .args in let s = a .s .now in let d = a .left - 1 in let z = data-after (c .before .before .before) in let g = not-false _ (c .before .if7 .left) in let xs = c .before .before .before .finish2 .last .1 .1 .1 .1 .1 .0 in
+    sym (ap reportRead (z .ends g (report-both d s xs (c .if8 .taken) (z .there g))))
 
 returns-11 : tie.Need-returns-11
 unfolding reportOn dataFound
-returns-11 c = let a = c .before .before .before .before .before .before .before .before .before .before .before .before .before .before .before .before .before .before .before .before .before .before .before .before .before .before .before .args in let s = a .s .now in let d = a .left - 1 in let m = c .before .before .before .before .before .before .before .before .before .before .before .before .before .before .before .before .before .before .before .before .begin in let L = begun (a .left) (a .e) (m .ensures) in let l = c .before .before .before .before .before .before .before .before .before .before .before .before .before .before .before .before .if3 .left in let st = L .stopped in
-    let w = data-has (dataOn d s (m .result .head)) (sym (c .before .before .before .before .before .before .before .before .before .before .before .before .data-of .ensures) ∙ c .before .before .before .before .before .before .before .before .before .before .d .given .1) in let z = c .before .before .before .before .before .finish2 in
-    let on = nest-on L (first-or-second _ (st l .wanted) (c .before .before .before .before .before .before .before .before .before .before .before .before .before .if4 .left)) l (data-reads d s) w _ (z .ensures) in
-    let h = not-false _ (c .before .before .before .if7 .left) in let o = nowhere on in let f = nest-found L (first-or-second _ (st l .wanted) (c .before .before .before .before .before .before .before .before .before .before .before .before .before .if4 .left)) l (data-reads d s) w _ (z .ensures) h in let there = nest-there L (first-or-second _ (st l .wanted) (c .before .before .before .before .before .before .before .before .before .before .before .before .before .if4 .left)) l (data-reads d s) w _ (z .ensures) h in let xs = z .last .1 .1 .1 .1 .1 .0 in
-    sym (ap reportRead (frame-end (reportFrom d s) on h o (report-data d s xs (c .before .before .if8 .left) there f)))
+returns-11 c = let a = c .before .before .before .before .before .before .before .before .before .before .before .before .before .before .before .before .before .before .before .before .before .before .before .before .before .before .before .args in let s = a .s .now in let d = a .left - 1 in let z = data-after (c .before .before .before .before .before) in let g = not-false _ (c .before .before .before .if7 .left) in let xs = c .before .before .before .before .before .finish2 .last .1 .1 .1 .1 .1 .0 in
+    sym (ap reportRead (z .ends g (report-data d s xs (c .before .before .if8 .left) (z .there g) (z .found g))))
 
 pub report-of-spec : {M : Type 1} → statement M
 report-of-spec =

@@ -1,20 +1,40 @@
-use mathlib.Core.Path.{sym, ap, _∙_}
+use mathlib.Core.Path.{_≡_, sym, ap, _∙_}
+use mathlib.Core.Bool.{false}
 use native.Mathlib.Omega.{arith}
+use lib.ListN.{replicate}
 use borrow.Author.Tests.{not-true, not-false}
-use Rattle.members.proofs.PassLaws.{begun, number-coded, frame-none, frame-end, nowhere}
+use Rattle.tlv.specs.Octet.{structure}
+use Rattle.tlv.specs.Decode.{Opt, place}
+use Rattle.members.specs.Pass.{passWith}
+use Rattle.members.proofs.PassLaws.{Over, begun, number-coded, frame-none, frame-end, nowhere}
+use Rattle.blocks.specs.declared.Status.{Status}
+use Rattle.blocks.specs.Path.{checked}
+use Rattle.blocks.specs.Filter.{pairTags}
 use Rattle.blocks.specs.Status.{statusOn, statusRead, statusFrom, soundStatus}
 use Rattle.blocks.proofs.CodeLaws.{checked-no, checked-yes, status-gathered}
 use borrow.Author.Needs.{needs}
 use Rattle.blocks.proofs.status_of.Statement.{statement}
 use Rattle.blocks.proofs.status_of.Tie as tie
 
+-- the pass over its members
+over : (c : tie.After-begin) → Over structure (c .before .before .before .before .before .before .args .left) (c .before .before .before .before .before .before .args .s .now) pairTags (replicate 10 false) (c .before .before .before .before .before .before .args .e) (passWith (c .begin .result) (c .begin .last .1 .1 .1 .1 .1 .1 .0) (c .begin .last .1 .1 .1 .1 .1 .1 .1 .0))
+over c = begun (c .before .before .before .before .before .before .args .left) (c .before .before .before .before .before .before .args .e) (c .begin .ensures)
+
+-- what was gathered
+abbrev gathered : tie.After-number-by2 → Status
+gathered c = record { code = c .before .number-by .result; cluster = c .number-by2 .result }
+
+read : (c : tie.After-number-by2) {o : Opt Status} → checked soundStatus (gathered c) ≡ o → statusOn (c .before .before .before .before .before .before .before .before .before .before .args .left) (c .before .before .before .before .before .before .before .before .before .before .args .s .now) (c .before .before .before .before .before .before .before .before .before .before .args .e) ≡ place o (c .before .before .before .before .begin .result .head .next .at)
+unfolding statusOn
+read c q = let s = c .before .before .before .before .before .before .before .before .before .before .args .s .now in let L = over (c .before .before .before .before) in let k = L .coded in let xs = c .before .before .before .before .begin .last .1 .1 .1 .1 .1 .1 .0 in
+    frame-end (statusFrom s) L (not-false _ (c .before .before .if1 .left)) (nowhere L) (status-gathered s xs (gathered c) (number-coded s _ xs k 0 _ _ (omega arith) (c .before .number-by .ensures)) (number-coded s _ xs k 1 _ _ (omega arith) (c .number-by2 .ensures)) ∙ q)
+
 begin-requires : tie.Need-begin-requires
 begin-requires c κs = search needs
 
 returns : tie.Need-returns
 unfolding statusOn
-returns c = let a = c .before .before .before .before .before .before .before .before .args in let s = a .s .now in let m = c .before .before .begin in let L = begun (a .left) (a .e) (m .ensures) in
-    sym (ap statusRead (frame-none (statusFrom s) L (not-true _ (c .if1 .taken))))
+returns c = sym (ap statusRead (frame-none (statusFrom (c .before .before .before .before .before .before .before .before .args .s .now)) (over (c .before .before)) (not-true _ (c .if1 .taken))))
 
 array-read-number-by : tie.Need-array-read-number-by
 array-read-number-by c = search needs
@@ -32,18 +52,10 @@ sound-status-requires : tie.Need-sound-status-requires
 sound-status-requires c κs = search needs
 
 returns-2 : tie.Need-returns-2
-unfolding statusOn
-returns-2 c = let a = c .before .before .before .before .before .before .before .before .before .before .before .before .args in let s = a .s .now in let m = c .before .before .before .before .before .before .begin in let L = begun (a .left) (a .e) (m .ensures) in
-    let xs = m .last .1 .1 .1 .1 .1 .1 .0 in let ks = m .last .1 .1 .1 .1 .1 .1 .1 .0 in let k = L .coded in
-    let f = status-gathered s xs (record { code = c .before .before .before .number-by .result; cluster = c .before .before .number-by2 .result }) (number-coded s ks xs k 0 _ _ (omega arith) (c .before .before .before .number-by .ensures)) (number-coded s ks xs k 1 _ _ (omega arith) (c .before .before .number-by2 .ensures)) ∙ checked-no soundStatus _ (sym (c .before .sound-status .ensures) ∙ not-true _ (c .if2 .taken)) in
-    sym (ap statusRead (frame-end (statusFrom s) L (not-false _ (c .before .before .before .before .if1 .left)) (nowhere L) f))
+returns-2 c = sym (ap statusRead (read (c .before .before) (checked-no soundStatus _ (sym (c .before .sound-status .ensures) ∙ not-true _ (c .if2 .taken)))))
 
 returns-3 : tie.Need-returns-3
-unfolding statusOn
-returns-3 c = let a = c .before .before .before .before .before .before .before .before .before .before .before .before .before .before .args in let s = a .s .now in let m = c .before .before .before .before .before .before .before .before .begin in let L = begun (a .left) (a .e) (m .ensures) in
-    let xs = m .last .1 .1 .1 .1 .1 .1 .0 in let ks = m .last .1 .1 .1 .1 .1 .1 .1 .0 in let k = L .coded in
-    let f = status-gathered s xs (record { code = c .before .before .before .before .before .number-by .result; cluster = c .before .before .before .before .number-by2 .result }) (number-coded s ks xs k 0 _ _ (omega arith) (c .before .before .before .before .before .number-by .ensures)) (number-coded s ks xs k 1 _ _ (omega arith) (c .before .before .before .before .number-by2 .ensures)) ∙ checked-yes soundStatus _ (sym (c .before .before .before .sound-status .ensures) ∙ not-false _ (c .before .before .if2 .left)) in
-    sym (ap statusRead (frame-end (statusFrom s) L (not-false _ (c .before .before .before .before .before .before .if1 .left)) (nowhere L) f))
+returns-3 c = sym (ap statusRead (read (c .before .before .before .before) (checked-yes soundStatus _ (sym (c .before .before .before .sound-status .ensures) ∙ not-false _ (c .before .before .if2 .left)))))
 
 pub status-of-spec : {M : Type 1} → statement M
 status-of-spec =

@@ -1,6 +1,4 @@
-use mathlib.Core.Path.{sym, ap, _∙_}
-use Prim.Native.Nat.{_-_}
-use Rattle.members.specs.Pass.{Pass, passFrom}
+use mathlib.Core.Path.{sym, _∙_}
 use Rattle.members.proofs.PassCases.{of-other, of-deep, of-in}
 use borrow.Author.Needs.{needs}
 use Rattle.members.proofs.begin.Statement.{statement}
@@ -22,10 +20,7 @@ resume-requires : tie.Need-resume-requires
 resume-requires c κs = search needs
 
 returns-3 : tie.Need-returns-3
-returns-3 c = let a = c .before .before .before .before .before .before .before .before .before .before .before .args in
-    c .resume .ensures
-    ∙ ap (λ (r : Pass). passFrom (a .left - 1) (a .s .now) (a .kind) (a .listed .now) (a .stops .now) (r .at) (r .codes) (a .e .next .at)) (c .before .before .before .before .before .before .before .refused .ensures)
-    ∙ sym (of-in (a .kind) (a .left) (a .s .now) (a .listed .now) (a .stops .now) (a .e) (c .before .before .before .before .before .if1 .left) (c .before .before .before .before .if2 .left))
+returns-3 c = let a = c .before .before .before .before .before .before .before .before .before .before .before .args in of-in (a .kind) (a .left) (a .s .now) (a .listed .now) (a .stops .now) (a .e) (c .before .before .before .before .before .if1 .left) (c .before .before .before .before .if2 .left) (c .before .before .before .before .before .before .before .refused .ensures) (c .resume .ensures)
 
 pub begin-spec : {M : Type 1} → statement M
 begin-spec =
