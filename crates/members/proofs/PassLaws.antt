@@ -212,14 +212,15 @@ pub record Left (d : ℕ) (s : List ℕ) (kind : ℕ) (listed stops : List Bool)
   pub stopped : r .slot < 10 → Stops s stops r
   pub kept : r .good ≡ true → (i v : ℕ) → getD before i 0 ≡ v + 1 → getD (r .at) i 0 ≡ v + 1
   pub passed : r .good ≡ true → (i : ℕ) → getD stops i false ≡ true → (r .slot ≡ i → ⊥) → getD (r .at) i 0 ≡ getD before i 0
+  pub free : r .slot < 10 → getD before (r .slot) 0 ≡ 0
 
 module _ (d : ℕ) (s : List ℕ) (kind : ℕ) (listed stops : List Bool) (seen : List ℕ) {g : Got (List ℕ)} where
   pub left-bad : g ≡ bad → Left d s kind listed stops seen g noPass
   unfolding codeIn
-  left-bad q = record { left = q ∙ sym (left-none d s kind listed noPass refl); coded = refl; ten = refl; stopped = λ l. absurd (omega arith); kept = λ b. absurd (clash b); passed = λ b. absurd (clash b) }
+  left-bad q = record { left = q ∙ sym (left-none d s kind listed noPass refl); coded = refl; ten = refl; stopped = λ l. absurd (omega arith); kept = λ b. absurd (clash b); passed = λ b. absurd (clash b); free = λ l. absurd (omega arith) }
 
   left-last : (e : Element) (codes : List ℕ) → length seen ≡ 10 → codes ≡ map (codeIn s) seen → g ≡ got seen (e .next .at) → Left d s kind listed stops seen g (passAt 10 e seen codes)
-  left-last e codes n k q = record { left = q ∙ sym (left-end d s kind listed (passAt 10 e seen codes) refl (omega arith)); coded = k; ten = n; stopped = λ l. absurd (omega arith); kept = λ b i v w. w; passed = λ b i w m. refl }
+  left-last e codes n k q = record { left = q ∙ sym (left-end d s kind listed (passAt 10 e seen codes) refl (omega arith)); coded = k; ten = n; stopped = λ l. absurd (omega arith); kept = λ b i v w. w; passed = λ b i w m. refl; free = λ l. absurd (omega arith) }
 
   left-at : (at i : ℕ) {e : Element} (codes : List ℕ) → length seen ≡ 10 → codes ≡ map (codeIn s) (set seen i (at + 1)) → i < 10 → headAt s at ≡ Found e → getD seen i 0 ≡ 0 → getD stops i false ≡ true → g ≡ bindG (elementEnd d s e) (λ u n. fieldsFrom d s kind listed (set seen i (at + 1)) n) → Left d s kind listed stops seen g (passAt i e (set seen i (at + 1)) codes)
   left-at at i {e = x} codes n k l h y w q = record {
@@ -229,6 +230,7 @@ module _ (d : ℕ) (s : List ℕ) (kind : ℕ) (listed stops : List Bool) (seen 
     stopped = λ m. record { sound = refl; wanted = w; place = at; placed = set-here seen i (at + 1) (omega arith); here = h };
     kept = λ b j v u. set-other seen i j (at + 1) (λ z. taken j v u z) ∙ u;
     passed = λ b j u m. set-other seen i j (at + 1) m;
+    free = λ m. y;
   }
     where
       taken : (j v : ℕ) → getD seen j 0 ≡ v + 1 → i ≡ j → ⊥
@@ -236,13 +238,14 @@ module _ (d : ℕ) (s : List ℕ) (kind : ℕ) (listed stops : List Bool) (seen 
 
   -- a member that was walked, put in a slot where the pass is not to stop
   left-put : (i v : ℕ) {r : Pass} {f : Got (List ℕ)} → length seen ≡ 10 → getD seen i 0 ≡ 0 → getD stops i false ≡ false → g ≡ f → Left d s kind listed stops (set seen i v) f r → Left d s kind listed stops seen g r
-  left-put i v n y w q L = record {
+  left-put i v {r} n y w q L = record {
     left = q ∙ L .left;
     coded = L .coded;
     ten = L .ten;
     stopped = L .stopped;
     kept = λ b j x u. L .kept b j x (set-other seen i j v (λ z. taken j x u z) ∙ u);
     passed = λ b j u m. L .passed b j u m ∙ set-other seen i j v (λ z. other j u z);
+    free = λ m. (let j = r .slot in vacant j (eqb i j) refl (L .free m));
   }
     where
       taken : (j x : ℕ) → getD seen j 0 ≡ x + 1 → i ≡ j → ⊥
@@ -251,8 +254,12 @@ module _ (d : ℕ) (s : List ℕ) (kind : ℕ) (listed stops : List Bool) (seen 
       other : (j : ℕ) → getD stops j false ≡ true → i ≡ j → ⊥
       other j u z = clash (sym w ∙ ap (λ (k : ℕ). getD stops k false) z ∙ u)
 
+      vacant : (j : ℕ) (b : Bool) → eqb i j ≡ b → getD (set seen i v) j 0 ≡ 0 → getD seen j 0 ≡ 0
+      vacant j true e u = ap (λ (k : ℕ). getD seen k 0) (sym (eqb-true i j e)) ∙ y
+      vacant j false e u = sym (set-other seen i j v (eqb-false i j e)) ∙ u
+
   left-same : {r : Pass} {f : Got (List ℕ)} → g ≡ f → Left d s kind listed stops seen f r → Left d s kind listed stops seen g r
-  left-same q L = record { left = q ∙ L .left; coded = L .coded; ten = L .ten; stopped = L .stopped; kept = L .kept; passed = L .passed }
+  left-same q L = record { left = q ∙ L .left; coded = L .coded; ten = L .ten; stopped = L .stopped; kept = L .kept; passed = L .passed; free = L .free }
 
 -- one member after which the pass goes on so
 module _ (d : ℕ) (s : List ℕ) (kind : ℕ) (listed stops : List Bool) (seen codes : List ℕ) (at : ℕ) (n : length seen ≡ 10) (k : codes ≡ map (codeIn s) seen) (rest : List ℕ → List ℕ → ℕ → Pass) (on : (xs ks : List ℕ) (m : ℕ) → at < m → length xs ≡ 10 → ks ≡ map (codeIn s) xs → Left d s kind listed stops xs (fieldsFrom d s kind listed xs m) (rest xs ks m)) where
@@ -446,7 +453,7 @@ module _ {d : ℕ} {s : List ℕ} {kind : ℕ} {tags stops : List Bool} {before 
   after = resumes d (r .at) (r .codes) n (L .ten) (L .coded) q
 
   goes-on : Left d s kind tags further (r .at) t z
-  goes-on = let M = after in record { left = L .left ∙ left-stop d s kind tags r (L .stopped l .sound) l ∙ ap (λ h. bindG h (λ u m. fieldsFrom d s kind tags (r .at) m)) w ∙ M .left; coded = M .coded; ten = M .ten; stopped = M .stopped; kept = M .kept; passed = M .passed }
+  goes-on = let M = after in record { left = L .left ∙ left-stop d s kind tags r (L .stopped l .sound) l ∙ ap (λ h. bindG h (λ u m. fieldsFrom d s kind tags (r .at) m)) w ∙ M .left; coded = M .coded; ten = M .ten; stopped = M .stopped; kept = M .kept; passed = M .passed; free = M .free }
 
 -- a pass that is to stop nowhere does not stop
 pub nowhere : {d : ℕ} {s : List ℕ} {kind : ℕ} {tags : List Bool} {before : List ℕ} {t : Got (List ℕ)} {r : Pass} → Left d s kind tags (replicate 10 false) before t r → 10 ≤ r .slot
