@@ -1,14 +1,17 @@
 -- The first of a list, kept in so many places.
-use mathlib.Core.Path.{_≡_, refl, ap, _∙_}
+use mathlib.Core.Path.{_≡_, refl, sym, ap, _∙_}
 use mathlib.Core.Bool.{Bool, true, false}
-use mathlib.Core.List.{List, [], _∷_}
-use Prim.Native.Nat.{ℕ, zero, suc, _+_, _≤_}
+use mathlib.Core.List.{List, [], _∷_, _++_, append-assoc, append-nil}
+use Prim.Native.Nat.{ℕ, zero, suc, _+_, _*_, _≤_, _<_}
+use native.Mathlib.Nat.{suc-mul}
 use native.Mathlib.Omega.{arith}
 use borrow.Author.Tests.{lt-ltb, le-ltb, ltb-true, ltb-false}
-use lib.ListN.{length, set, replicate, length-append}
+use lib.ListN.{length, set, take, replicate, length-append}
 use lib.Dec.{ltb}
+use Rattle.octets.specs.Store.{store}
+use Rattle.octets.proofs.StoreLaws.{store-store}
 use Rattle.tlv.specs.Octet.{pick}
-use Rattle.interaction.specs.Message.{snoc, firstOf, keepOf}
+use Rattle.interaction.specs.Message.{snoc, firstOf, keepOf, wordsOf, keepMore}
 
 pub length-snoc : {A : Type 0} (l : List A) (a : A) → length (snoc l a) ≡ length l + 1
 length-snoc l a = length-append l (a ∷ [])
@@ -40,10 +43,41 @@ keep-one (suc n) z (x ∷ l) a = ap (λ r. x ∷ r) (keep-one n z l a) ∙ go (l
     go true e = let h = ltb-true (length l) n e in rw (e, lt-ltb (suc (length l)) (suc n) (omega arith)) refl
     go false e = let h = ltb-false (length l) n e in rw (e, le-ltb (suc (length l)) (suc n) (omega arith)) refl
 
--- what a loop knows that counts and keeps: some list of what it has seen, from which its definition goes on
-pub record Kept {A : Type 0} (n : ℕ) (z : A) (Goes : List A → ℕ → Type 0) (count : ℕ) (places : List A) (at : ℕ) : Type 0 where
-  pub list : List A
-  pub counted : count ≡ length list
-  pub kept : places ≡ firstOf n z list
-  pub below : count ≤ at
-  pub goes-on : Goes list at
+-- ---- a list in words
+
+take-short : {A : Type 0} (n : ℕ) (l : List A) → length l ≤ n → take n l ≡ l
+take-short zero [] h = refl
+take-short zero (x ∷ l) h = absurd (omega arith)
+take-short (suc n) [] h = refl
+take-short (suc n) (x ∷ l) h = ap (λ r. x ∷ r) (take-short n l (omega arith))
+
+take-over : {A : Type 0} (n : ℕ) (l : List A) (a : A) → n ≤ length l → take n (snoc l a) ≡ take n l
+take-over zero l a h = refl
+take-over (suc n) [] a h = absurd (omega arith)
+take-over (suc n) (x ∷ l) a h = ap (λ r. x ∷ r) (take-over n l a (omega arith))
+
+module _ {A : Type 0} (enc : A → List ℕ) where
+  words-more : (l : List A) (a : A) → wordsOf enc (snoc l a) ≡ wordsOf enc l ++ enc a
+  unfolding wordsOf
+  words-more [] a = append-nil (enc a)
+  words-more (x ∷ l) a = ap (λ r. enc x ++ r) (words-more l a) ∙ sym (append-assoc (enc x) (wordsOf enc l) (enc a))
+
+  module _ (size : ℕ) (wide : (a : A) → length (enc a) ≡ size) where
+    pub words-length : (l : List A) → length (wordsOf enc l) ≡ length l * size
+    unfolding wordsOf
+    words-length [] = omega arith
+    words-length (x ∷ l) = omega (arith, length-append (enc x) (wordsOf enc l), wide x, words-length l, suc-mul (length l) size)
+
+    -- one more of a list is one more stored, if there is room
+    pub words-keep : (n : ℕ) (old : List ℕ) (l : List A) (a : A) → keepMore n size enc (store old 0 (wordsOf enc (take n l))) (length l) a ≡ store old 0 (wordsOf enc (take n (snoc l a)))
+    words-keep n old l a = go (ltb (length l) n) refl
+      where
+        here : length (wordsOf enc l) ≡ 0 + length (wordsOf enc l)
+        here = omega arith
+
+        go : (b : Bool) → ltb (length l) n ≡ b → pick (ltb (length l) n) (store (store old 0 (wordsOf enc (take n l))) (length l * size) (enc a)) (store old 0 (wordsOf enc (take n l))) ≡ store old 0 (wordsOf enc (take n (snoc l a)))
+        go true e =
+            let h = ltb-true (length l) n e in
+            rw (e, take-short n l (omega arith), take-short n (snoc l a) (omega (arith, length-snoc l a)), words-more l a, ← (words-length l))
+            (ap (λ (p : ℕ). store (store old 0 (wordsOf enc l)) p (enc a)) here ∙ store-store old 0 (wordsOf enc l) (enc a))
+        go false e = let h = ltb-false (length l) n e in rw (e, take-over n l a h) refl

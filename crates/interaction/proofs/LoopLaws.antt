@@ -1,12 +1,13 @@
--- A loop over the members of an array that are all read by one reader, counted, and the first of them kept as β makes them: for any
--- reader. With no places (n = 0) it only counts.
+-- A loop over the members of an array that are all read by one reader, counted, and the first n of them stored in words: for any
+-- reader. With no room (n = 0) it only counts.
 use mathlib.Core.Path.{_≡_, refl, sym, ap, _∙_}
 use mathlib.Core.Bool.{Bool, true, false}
-use mathlib.Core.List.{List, [], _∷_, map}
+use mathlib.Core.List.{List, []}
 use lib.Dec.{ltb}
-use Prim.Native.Nat.{ℕ, _+_, _-_, _<_, _≤_}
+use Prim.Native.Nat.{ℕ, zero, suc, _+_, _-_, _<_, _≤_}
 use native.Mathlib.Omega.{arith}
-use lib.ListN.{length, length-map, replicate}
+use lib.ListN.{length, take}
+use Rattle.octets.specs.Store.{store}
 use Rattle.tlv.specs.declared.Cursor.{Cursor}
 use Rattle.tlv.specs.declared.Element.{Element}
 use Rattle.tlv.specs.Octet.{pick, array}
@@ -18,32 +19,23 @@ use Rattle.members.specs.Item.{itemAt}
 use Rattle.members.specs.Array.{eachStep}
 use Rattle.members.proofs.PassLaws.{Reads, reads-forward}
 use Rattle.members.proofs.ItemLaws.{standing, item-bad, item-end, item-breaks, item-on}
-use Rattle.interaction.specs.Message.{snoc, firstOf, keepOf}
-use Rattle.interaction.proofs.KeepLaws.{length-snoc, keep-one, first-none}
-
-map-snoc : {A K : Type 0} (β : A → K) (l : List A) (a : A) → map β (snoc l a) ≡ snoc (map β l) (β a)
-map-snoc β [] a = refl
-map-snoc β (x ∷ l) a = ap (λ r. β x ∷ r) (map-snoc β l a)
-
-pub map-same : {A : Type 0} (l : List A) → map (λ x. x) l ≡ l
-map-same [] = refl
-map-same (x ∷ l) = ap (λ r. x ∷ r) (map-same l)
+use Rattle.interaction.specs.Message.{snoc, wordsOf, keepMore}
+use Rattle.interaction.proofs.KeepLaws.{length-snoc, words-keep}
 
 -- what the loop knows: some list of what it has seen, from which the definition goes on
-pub record Kept {A K : Type 0} (β : A → K) (n : ℕ) (z : K) (Goes : List A → ℕ → Type 0) (count : ℕ) (places : List K) (at : ℕ) : Type 0 where
+pub record Seen {A : Type 0} (enc : A → List ℕ) (n : ℕ) (old : List ℕ) (Goes : List A → ℕ → Type 0) (count : ℕ) (words : List ℕ) (at : ℕ) : Type 0 where
   pub list : List A
   pub counted : count ≡ length list
-  pub kept : places ≡ firstOf n z (map β list)
+  pub kept : words ≡ store old 0 (wordsOf enc (take n list))
   pub below : count ≤ at
   pub goes-on : Goes list at
 
-module _ {A K : Type 0} (β : A → K) (n : ℕ) (z : K) (d : ℕ) (s : List ℕ) {read : ℕ → Got A} {on : Element → Got A} (reads : Reads d s read on) (target : Got (List A)) where
+module _ {A : Type 0} (enc : A → List ℕ) (n : ℕ) (old : List ℕ) (d : ℕ) (s : List ℕ) {read : ℕ → Got A} {on : Element → Got A} (reads : Reads d s read on) (target : Got (List A)) where
   abbrev Goes : List A → ℕ → Type 0
   Goes l p = target ≡ foldAt (eachStep snoc read) (length s) s array l p
 
-  -- what the loop knows
-  abbrev pub Loop : ℕ → List K → ℕ → Type 0
-  Loop count places at = Kept β n z Goes count places at
+  abbrev pub Loop : ℕ → List ℕ → ℕ → Type 0
+  Loop count words at = Seen enc n old Goes count words at
 
   forward : (l : List A) → Forward s (eachStep snoc read l)
   unfolding eachStep
@@ -53,10 +45,15 @@ module _ {A K : Type 0} (β : A → K) (n : ℕ) (z : K) (d : ℕ) (s : List ℕ
       go bad o = tt
       go (got a m) o = o
 
-  pub loop-starts : (at : ℕ) → target ≡ foldAt (eachStep snoc read) (length s) s array [] at → Loop 0 (replicate n z) at
-  loop-starts at e = record { list = []; counted = refl; kept = sym (first-none n z); below = omega arith; goes-on = e }
+  pub loop-starts : (at : ℕ) → target ≡ foldAt (eachStep snoc read) (length s) s array [] at → Loop 0 old at
+  unfolding store wordsOf
+  loop-starts at e = record { list = []; counted = refl; kept = kept-none n; below = omega arith; goes-on = e }
+    where
+      kept-none : (i : ℕ) → old ≡ store old 0 (wordsOf enc (take i []))
+      kept-none zero = refl
+      kept-none (suc i) = refl
 
-  module _ {count : ℕ} {places : List K} {at : ℕ} (k : Loop count places at) where
+  module _ {count : ℕ} {words : List ℕ} {at : ℕ} (k : Loop count words at) where
     pub loop-bad : itemAt array s at ≡ BadItem → target ≡ bad
     loop-bad w = k .goes-on ∙ item-bad (eachStep snoc read) s forward array (k .list) at w
 
@@ -85,22 +82,23 @@ module _ {A K : Type 0} (β : A → K) (n : ℕ) (z : K) (d : ℕ) (s : List ℕ
         pub loop-room : count < length s
         loop-room = let o = onward in let c = k .below in omega arith
 
-        pub loop-goes : {more : List K} → more ≡ keepOf n places count (β a) → Loop (count + 1) more m
+        pub loop-goes : (size : ℕ) → ((x : A) → length (enc x) ≡ size) → {more : List ℕ} → more ≡ keepMore n size enc words count a → Loop (count + 1) more m
         unfolding eachStep
-        loop-goes q = let o = onward in let c = k .below in record {
+        loop-goes size wide q = let o = onward in let c = k .below in record {
           list = snoc (k .list) a;
           counted = rw (k .counted) (sym (length-snoc (k .list) a));
-          kept = q ∙ ap (λ (p : List K). keepOf n p count (β a)) (k .kept) ∙ ap (λ (c : ℕ). keepOf n (firstOf n z (map β (k .list))) c (β a)) (k .counted ∙ sym (length-map (k .list) β)) ∙ sym (keep-one n z (map β (k .list)) (β a)) ∙ ap (firstOf n z) (sym (map-snoc β (k .list) a));
+          kept = q ∙ (λ j. keepMore n size enc (k .kept j) (k .counted j) a) ∙ words-keep enc size wide n old (k .list) a;
           below = omega arith;
           goes-on = k .goes-on ∙ item-on (eachStep snoc read) s forward array (k .list) at (standing array s at w) (ap (mapG (snoc (k .list))) (found ∙ b));
         }
 
 -- a loop that only counts
-abbrev pub counted : {A : Type 0} → A → ℕ
-counted x = 0
+abbrev pub counted : {A : Type 0} → A → List ℕ
+counted x = []
 
-pub loop-counts : {A : Type 0} (d : ℕ) (s : List ℕ) {read : ℕ → Got A} {on : Element → Got A} (reads : Reads d s read on) (target : Got (List A)) {count at : ℕ} → Loop counted 0 0 d s reads target count [] at → {e : Element} → itemAt array s at ≡ Member e → {a : A} {m : ℕ} → on e ≡ got a m → Loop counted 0 0 d s reads target (count + 1) [] m
-loop-counts d s reads target {count} k w b = loop-goes counted 0 0 d s reads target k w b (nothing-kept (ltb count 0))
+pub loop-counts : {A : Type 0} (d : ℕ) (s : List ℕ) {read : ℕ → Got A} {on : Element → Got A} (reads : Reads d s read on) (target : Got (List A)) {count at : ℕ} → Loop counted 0 [] d s reads target count [] at → {e : Element} → itemAt array s at ≡ Member e → {a : A} {m : ℕ} → on e ≡ got a m → Loop counted 0 [] d s reads target (count + 1) [] m
+unfolding store
+loop-counts d s reads target {count} k w b = loop-goes counted 0 [] d s reads target k w b 0 (λ x. refl) (nothing-kept (ltb count 0))
   where
     nothing-kept : (b : Bool) → _≡_ {A = List ℕ} [] (pick b [] [])
     nothing-kept true = refl

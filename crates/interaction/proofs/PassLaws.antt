@@ -20,8 +20,7 @@ use Rattle.tlv.specs.Decode.Opt.{just, nothing}
 use Rattle.tlv.proofs.WalkLaws.{end-within}
 use Rattle.members.specs.Array.{optOf, eachStep}
 use Rattle.members.specs.Fields.{insideAt}
-use Rattle.members.specs.Pass.{noPass, made, passOf}
-use Rattle.members.specs.declared.Pass.{Pass}
+use Rattle.members.specs.Pass.{Pass, noPass, made, passOf}
 use Rattle.members.proofs.PassLaws.{Under, fold-under, Reads, on-head, Left, left-bad, begun, frame-none, frame-end}
 use Rattle.interaction.specs.Message.{untagged, messageAt, structureAt, openPass, wholePass, wholeIn, snoc, listAt, listOn}
 

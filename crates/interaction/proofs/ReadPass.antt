@@ -7,29 +7,22 @@ use native.Mathlib.Omega.{arith}
 use borrow.Author.Tests.{eqb-true, eqb-false, ltb-true, ltb-false}
 use lib.ListN.{length, getD, replicate}
 use lib.Dec.{ltb, eqb}
+use Rattle.bounds.specs.Bounds.{maxPaths, maxFilters}
+use Rattle.octets.specs.Store.{store}
 use Rattle.tlv.specs.Octet.{pick, structure}
 use Rattle.tlv.specs.Walk.{Got}
 use Rattle.tlv.specs.Walk.Got.{got, bad}
 use Rattle.tlv.specs.Decode.{Opt, bindO}
 use Rattle.tlv.specs.Decode.Opt.{just, nothing}
-use Rattle.members.specs.declared.Pass.{Pass}
 use Rattle.members.specs.Array.{optionalIn}
 use Rattle.members.specs.Scalar.{numberIn, flagIn}
-use Rattle.members.specs.Pass.{noPass, passFrom, codeIn, numberBy, flagBy}
+use Rattle.members.specs.Pass.{Pass, noPass, passFrom, codeIn, numberBy, flagBy}
 use Rattle.members.proofs.ArrayLaws.{optional-none}
 use Rattle.members.proofs.PassLaws.{Left, frame-none, number-coded, flag-coded, Reads, nowhere, none-true, only-first, nest-on, nest-no-option, nest-option, nest-there}
-use Rattle.interaction.specs.Message.{given, listAt, listOn, structureAt, openPass, wholePass}
-use Rattle.interaction.specs.Read.{Read, askedAt, askedOn, unwanted, wantedAt, wantedOn, pathsStruct, pathsEnd, pathsFound, passPaths, wantsStruct, wantsEnd, wantsFound, passWants, readTags, readOf, readFrom, readIn, readRead, readBy}
-use Rattle.interaction.specs.Read as read
-use Rattle.interaction.specs.declared.Paths.{Paths}
-use Rattle.interaction.specs.declared.Wants.{Wants}
+use Rattle.interaction.specs.Message.{given, listAt, listOn, structureAt, openPass, wholePass, wordsOf, Kept, keptAs, ListRead, listRead}
+use Rattle.interaction.specs.Read.{Read, targetSize, targetWords, askedAt, askedOn, wantedSize, wantedWords, wantedAt, wantedOn, PassKept, foundOn, passPaths, passWants, readTags, readOf, readFrom, readIn, readKept, readable, readBy}
 use Rattle.interaction.specs.declared.Target.{Target}
 use Rattle.interaction.specs.declared.Wanted.{Wanted}
-use Rattle.interaction.specs.declared.PathList.{PathList}
-use Rattle.interaction.specs.declared.WantList.{WantList}
-use Rattle.interaction.specs.declared.PathsPass.{PathsPass}
-use Rattle.interaction.specs.declared.WantsPass.{WantsPass}
-use Rattle.interaction.proofs.KeepLaws.{first-none}
 use Rattle.interaction.proofs.ReadLaws.{asked-reads, wanted-reads}
 use Rattle.interaction.proofs.PassLaws.{list-reads, opened, whole-bad, whole-refused, whole-passed}
 
@@ -72,75 +65,105 @@ PathsIn s m = optionalIn [] (listAt askedAt 9 s) (getD (m .at) 0 0)
 abbrev WantsIn : List ℕ → Pass → Opt (List Wanted)
 WantsIn s m = optionalIn [] (listAt wantedAt 9 s) (getD (m .at) 4 0)
 
-pub record ReadTo (s : List ℕ) (Stage : Pass → Type 0) (m : Pass) (ps : Paths) (fs : Wants) : Type 0 where
-  pub lost : m .good ≡ false → readIn s ≡ nothing
-  pub sound : m .slot < 10 → m .good ≡ true
-  pub stops : List Bool
-  pub before : List ℕ
-  pub left : m .good ≡ true → Left 9 s structure readTags stops before (structureAt readTags s) m
-  pub paths : m .good ≡ true → (m .slot ≡ 0 → ⊥) → (l : List Target) × (PathsIn s m ≡ just l) × (ps ≡ pathsStruct l)
-  pub wants : m .good ≡ true → (m .slot ≡ 4 → ⊥) → (l : List Wanted) × (WantsIn s m ≡ just l) × (fs ≡ wantsStruct l)
-  pub stage : m .slot < 10 → Stage m
+-- the lists as they are kept, over what their words held before
+module _ (old old′ : List ℕ) where
+  abbrev KeptPaths : List Target → Kept
+  KeptPaths l = keptAs maxPaths targetWords old l
 
--- the pass that goes on, after the list at its stop was read
-abbrev After : List ℕ → List Bool → Pass → Pass → Type 0
-After s further m z = Left 9 s structure readTags further (m .at) (structureAt readTags s) z
+  abbrev KeptWants : List Wanted → Kept
+  KeptWants l = keptAs maxFilters wantedWords old′ l
 
-module _ (s : List ℕ) {Stage Stage′ : Pass → Type 0} (m : Pass) (ps : Paths) (fs : Wants) (R : ReadTo s Stage m ps fs) (further : List Bool) where
-  paths-step : ((m .slot ≡ 0 → ⊥) → Stage m → Stage′ m) → (m .slot ≡ 0 → Stage m → (z : Pass) → After s further m z → z .slot < 10 → Stage′ z) → (m .slot ≡ 0 → Stage m → (z : Pass) → After s further m z → z .good ≡ true → (z .slot ≡ 4 → ⊥) → getD (z .at) 4 0 ≡ getD (m .at) 4 0) → let x = passPaths s further m ps in ReadTo s Stage′ (x .pass) (x .paths) fs
-  unfolding passPaths readIn
-  paths-step skips goes keeps = go (eqb (m .slot) 0) refl (listOn askedAt 9 s (m .head)) refl
-    where
-      go : (b : Bool) → eqb (m .slot) 0 ≡ b → (g : Got (List Target)) → listOn askedAt 9 s (m .head) ≡ g → let x = pick b (pathsFound (passFrom 9 s structure readTags further m) g) (record { pass = m; paths = ps }) in ReadTo s Stage′ (x .pass) (x .paths) fs
-      go false e g w = record { lost = R .lost; sound = R .sound; stops = R .stops; before = R .before; left = R .left; paths = R .paths; wants = R .wants; stage = λ l. skips (eqb-false _ 0 e) (R .stage l) }
-      go true e bad w =
-          let i = eqb-true (m .slot) 0 e in
-          let l : m .slot < 10 = omega arith in
-          record { lost = λ g. whole-refused readTags (readFrom s) s (nest-no-option (R .left (R .sound l)) i l (paths-reads s) (readFrom s) w [] (lacks-paths s)); sound = λ l. absurd (omega arith); stops = []; before = []; left = λ g. absurd (clash (sym g)); paths = λ g. absurd (clash (sym g)); wants = λ g. absurd (clash (sym g)); stage = λ l. absurd (omega arith) }
-      go true e (got x n) w =
-          let i = eqb-true (m .slot) 0 e in
-          let l : m .slot < 10 = omega arith in
-          let L = R .left (R .sound l) in
-          let z = passFrom 9 s structure readTags further m n in
-          let N : After s further m z = nest-on L i l (paths-reads s) w further refl in
-          record {
-            lost = λ g. whole-refused readTags (readFrom s) s (frame-none (readFrom s) N g);
-            sound = λ k. N .stopped k .sound;
-            stops = further;
-            before = m .at;
-            left = λ g. N;
-            paths = λ g k. (x, nest-option L i l (paths-reads s) w further refl [] g, refl);
-            wants = λ g k. (let f = R .wants (R .sound l) (λ y. omega arith) in (f .0, ap (optionalIn [] (listAt wantedAt 9 s)) (keeps i (R .stage l) z N g k) ∙ f .1, f .2));
-            stage = λ k. goes i (R .stage l) z N k;
-          }
+  none-kept : {A : Type 0} (enc : A → List ℕ) (n : ℕ) (words : List ℕ) → record { count = 0; words = words } ≡ keptAs (suc n) enc words []
+  unfolding store wordsOf
+  none-kept enc n words = refl
 
-module _ (s : List ℕ) {Stage Stage′ : Pass → Type 0} (m : Pass) (ps : Paths) (R : ReadTo s Stage m ps (wantsStruct [])) (further : List Bool) where
-  wants-step : ((m .slot ≡ 4 → ⊥) → Stage m → Stage′ m) → ((z : Pass) → After s further m z → (z .good ≡ true → getD (z .at) 4 0 ≡ 0 → ⊥) → z .slot < 10 → Stage′ z) → ((z : Pass) → After s further m z → z .good ≡ true → (z .slot ≡ 0 → ⊥) → getD (z .at) 0 0 ≡ getD (m .at) 0 0) → let x = passWants s further m in ReadTo s Stage′ (x .pass) ps (x .wants)
-  unfolding passWants readIn
-  wants-step skips goes keeps = go (eqb (m .slot) 4) refl (listOn wantedAt 9 s (m .head)) refl
-    where
-      go : (b : Bool) → eqb (m .slot) 4 ≡ b → (g : Got (List Wanted)) → listOn wantedAt 9 s (m .head) ≡ g → let x = pick b (wantsFound (passFrom 9 s structure readTags further m) g) (record { pass = m; wants = wantsStruct [] }) in ReadTo s Stage′ (x .pass) ps (x .wants)
-      go false e g w = record { lost = R .lost; sound = R .sound; stops = R .stops; before = R .before; left = R .left; paths = R .paths; wants = R .wants; stage = λ l. skips (eqb-false _ 4 e) (R .stage l) }
-      go true e bad w =
-          let i = eqb-true (m .slot) 4 e in
-          let l : m .slot < 10 = omega arith in
-          record { lost = λ g. whole-refused readTags (readFrom s) s (nest-no-option (R .left (R .sound l)) i l (wants-reads s) (readFrom s) w [] (lacks-wants s)); sound = λ l. absurd (omega arith); stops = []; before = []; left = λ g. absurd (clash (sym g)); paths = λ g. absurd (clash (sym g)); wants = λ g. absurd (clash (sym g)); stage = λ l. absurd (omega arith) }
-      go true e (got x n) w =
-          let i = eqb-true (m .slot) 4 e in
-          let l : m .slot < 10 = omega arith in
-          let L = R .left (R .sound l) in
-          let z = passFrom 9 s structure readTags further m n in
-          let N : After s further m z = nest-on L i l (wants-reads s) w further refl in
-          record {
-            lost = λ g. whole-refused readTags (readFrom s) s (frame-none (readFrom s) N g);
-            sound = λ k. N .stopped k .sound;
-            stops = further;
-            before = m .at;
-            left = λ g. N;
-            paths = λ g k. (let f = R .paths (R .sound l) (λ y. omega arith) in (f .0, ap (optionalIn [] (listAt askedAt 9 s)) (keeps z N g k) ∙ f .1, f .2));
-            wants = λ g k. (x, nest-option L i l (wants-reads s) w further refl [] g, refl);
-            stage = λ k. goes z N (λ g. nest-there L i l (wants-reads s) w further refl g) k;
-          }
+  pub record ReadTo (s : List ℕ) (Stage : Pass → Type 0) (m : Pass) (ps fs : Kept) : Type 0 where
+    pub lost : m .good ≡ false → readIn s ≡ nothing
+    pub sound : m .slot < 10 → m .good ≡ true
+    pub stops : List Bool
+    pub before : List ℕ
+    pub left : m .good ≡ true → Left 9 s structure readTags stops before (structureAt readTags s) m
+    pub paths : m .good ≡ true → (m .slot ≡ 0 → ⊥) → (l : List Target) × (PathsIn s m ≡ just l) × (ps ≡ KeptPaths l)
+    pub wants : m .good ≡ true → (m .slot ≡ 4 → ⊥) → (l : List Wanted) × (WantsIn s m ≡ just l) × (fs ≡ KeptWants l)
+    pub stage : m .slot < 10 → Stage m
+    pub fresh : m .slot ≡ 0 → ps .words ≡ old
+
+  -- the pass that goes on, after the list at its stop was read
+  abbrev After : List ℕ → List Bool → Pass → Pass → Type 0
+  After s further m z = Left 9 s structure readTags further (m .at) (structureAt readTags s) z
+
+  module _ (s : List ℕ) {Stage Stage′ : Pass → Type 0} (m : Pass) (ps fs : Kept) (R : ReadTo s Stage m ps fs) (further : List Bool) where
+    paths-step : ((m .slot ≡ 0 → ⊥) → Stage m → Stage′ m) → (m .slot ≡ 0 → Stage m → (z : Pass) → After s further m z → z .slot < 10 → Stage′ z) → (m .slot ≡ 0 → Stage m → (z : Pass) → After s further m z → z .good ≡ true → (z .slot ≡ 4 → ⊥) → getD (z .at) 4 0 ≡ getD (m .at) 4 0) → let x = passPaths s further m ps in ReadTo s Stage′ (x .pass) (x .kept) fs
+    unfolding passPaths readIn
+    paths-step skips goes keeps = go (eqb (m .slot) 0) refl (listOn askedAt 9 s (m .head)) refl
+      where
+        go : (b : Bool) → eqb (m .slot) 0 ≡ b → (g : Got (List Target)) → listOn askedAt 9 s (m .head) ≡ g → let x = pick b (foundOn (passFrom 9 s structure readTags further (m .at) (m .codes)) (listRead maxPaths targetSize targetWords (ps .words) g)) (record { pass = m; kept = ps }) in ReadTo s Stage′ (x .pass) (x .kept) fs
+        go false e g w = record { lost = R .lost; sound = R .sound; stops = R .stops; before = R .before; left = R .left; paths = R .paths; wants = R .wants; stage = λ l. skips (eqb-false _ 0 e) (R .stage l); fresh = R .fresh }
+        go true e bad w =
+            let i = eqb-true (m .slot) 0 e in
+            let l : m .slot < 10 = omega arith in
+            record { lost = λ g. whole-refused readTags (readFrom s) s (nest-no-option (R .left (R .sound l)) i l (paths-reads s) (readFrom s) w [] (lacks-paths s)); sound = λ l. absurd (omega arith); stops = []; before = []; left = λ g. absurd (clash (sym g)); paths = λ g. absurd (clash (sym g)); wants = λ g. absurd (clash (sym g)); stage = λ l. absurd (omega arith); fresh = λ j. absurd (omega (arith, j)) }
+        go true e (got x n) w =
+            let i = eqb-true (m .slot) 0 e in
+            let l : m .slot < 10 = omega arith in
+            let L = R .left (R .sound l) in
+            let z = passFrom 9 s structure readTags further (m .at) (m .codes) n in
+            let N : After s further m z = nest-on L i l (paths-reads s) w further refl in
+            record {
+              lost = λ g. whole-refused readTags (readFrom s) s (frame-none (readFrom s) N g);
+              sound = λ k. N .stopped k .sound;
+              stops = further;
+              before = m .at;
+              left = λ g. N;
+              paths = λ g k. (x, nest-option L i l (paths-reads s) w further refl [] g, ap (λ (o : List ℕ). keptAs maxPaths targetWords o x) (R .fresh i));
+              wants = λ g k. (let f = R .wants (R .sound l) (λ y. omega arith) in (f .0, ap (optionalIn [] (listAt wantedAt 9 s)) (keeps i (R .stage l) z N g k) ∙ f .1, f .2));
+              stage = λ k. goes i (R .stage l) z N k;
+              fresh = λ j. absurd (twice N j i _ (L .stopped l .placed));
+            }
+          where
+            -- it does not stop at the paths again
+            twice : {z : Pass} → After s further m z → z .slot ≡ 0 → m .slot ≡ 0 → (p : ℕ) → getD (m .at) (m .slot) 0 ≡ p + 1 → ⊥
+            twice N j i p q = let f = N .free (omega (arith, j)) in let o = rw j at f in let y = rw i at q in omega (arith, o, y)
+
+  module _ (s : List ℕ) {Stage Stage′ : Pass → Type 0} (m : Pass) (ps : Kept) (R : ReadTo s Stage m ps (record { count = 0; words = old′ })) (further : List Bool) where
+    wants-step : ((m .slot ≡ 4 → ⊥) → Stage m → Stage′ m) → ((z : Pass) → After s further m z → (z .good ≡ true → getD (z .at) 4 0 ≡ 0 → ⊥) → z .slot < 10 → Stage′ z) → ((z : Pass) → After s further m z → z .good ≡ true → (z .slot ≡ 0 → ⊥) → getD (z .at) 0 0 ≡ getD (m .at) 0 0) → let x = passWants s further m (record { count = 0; words = old′ }) in ReadTo s Stage′ (x .pass) ps (x .kept)
+    unfolding passWants readIn store wordsOf
+    wants-step skips goes keeps = go (eqb (m .slot) 4) refl (listOn wantedAt 9 s (m .head)) refl
+      where
+        go : (b : Bool) → eqb (m .slot) 4 ≡ b → (g : Got (List Wanted)) → listOn wantedAt 9 s (m .head) ≡ g → let x = pick b (foundOn (passFrom 9 s structure readTags further (m .at) (m .codes)) (listRead maxFilters wantedSize wantedWords old′ g)) (record { pass = m; kept = record { count = 0; words = old′ } }) in ReadTo s Stage′ (x .pass) ps (x .kept)
+        go false e g w = record { lost = R .lost; sound = R .sound; stops = R .stops; before = R .before; left = R .left; paths = R .paths; wants = R .wants; stage = λ l. skips (eqb-false _ 4 e) (R .stage l); fresh = R .fresh }
+        go true e bad w =
+            let i = eqb-true (m .slot) 4 e in
+            let l : m .slot < 10 = omega arith in
+            record { lost = λ g. whole-refused readTags (readFrom s) s (nest-no-option (R .left (R .sound l)) i l (wants-reads s) (readFrom s) w [] (lacks-wants s)); sound = λ l. absurd (omega arith); stops = []; before = []; left = λ g. absurd (clash (sym g)); paths = λ g. absurd (clash (sym g)); wants = λ g. absurd (clash (sym g)); stage = λ l. absurd (omega arith); fresh = λ j. absurd (omega (arith, j)) }
+        go true e (got x n) w =
+            let i = eqb-true (m .slot) 4 e in
+            let l : m .slot < 10 = omega arith in
+            let L = R .left (R .sound l) in
+            let z = passFrom 9 s structure readTags further (m .at) (m .codes) n in
+            let N : After s further m z = nest-on L i l (wants-reads s) w further refl in
+            record {
+              lost = λ g. whole-refused readTags (readFrom s) s (frame-none (readFrom s) N g);
+              sound = λ k. N .stopped k .sound;
+              stops = further;
+              before = m .at;
+              left = λ g. N;
+              paths = λ g k. (let f = R .paths (R .sound l) (λ y. omega arith) in (f .0, ap (optionalIn [] (listAt askedAt 9 s)) (keeps z N g k) ∙ f .1, f .2));
+              wants = λ g k. (x, nest-option L i l (wants-reads s) w further refl [] g, refl);
+              stage = λ k. goes z N (λ g. nest-there L i l (wants-reads s) w further refl g) k;
+              fresh = λ j. (let f = R .paths (R .sound l) (λ y. omega arith) in unread N j (f .0) (f .1) (f .2));
+            }
+          where
+            -- where it stops at the paths, none were read before
+            unread : {z : Pass} → After s further m z → z .slot ≡ 0 → (p : List Target) → PathsIn s m ≡ just p → ps ≡ KeptPaths p → ps .words ≡ old
+            unread N j p q k =
+                let f = N .free (omega (arith, j)) in
+                let o : getD (m .at) 0 0 ≡ 0 = rw j at f in
+                empty p (sym (optional-none [] (listAt askedAt 9 s) (getD (m .at) 0 0) o) ∙ q) k
+              where
+                empty : (p : List Target) → just [] ≡ just p → ps ≡ KeptPaths p → ps .words ≡ old
+                empty [] e k = ap (λ (y : Kept). y .words) k
+                empty (x ∷ p) e k = absurd (let y : _≡_ {A = List Target} [] (x ∷ p) = cc in let h : 0 ≡ length (x ∷ p) = ap length y in omega (arith, h))
 
 -- ---- the three steps: at first it stops at either list; then, where it has not stopped at the paths, at the filters; then at the paths,
 -- where the filters were read; then nowhere
@@ -178,18 +201,20 @@ Third m = (m .slot ≡ 0) × (getD (m .at) 4 0 ≡ 0 → ⊥)
 abbrev Done : Pass → Type 0
 Done m = ⊥
 
-read-opened : {s : List ℕ} {m : Pass} → m ≡ openPass readTags eitherList s → ReadTo s First m (pathsStruct []) (wantsStruct [])
-unfolding readIn
-read-opened {s} {m} e = let L = opened e in record {
-  lost = λ g. whole-refused readTags (readFrom s) s (frame-none (readFrom s) L g);
-  sound = λ l. L .stopped l .sound;
-  stops = eitherList;
-  before = replicate 10 0;
-  left = λ g. L;
-  paths = λ g k. ([], optional-none [] (listAt askedAt 9 s) (getD (m .at) 0 0) (L .passed g 0 refl k), refl);
-  wants = λ g k. ([], optional-none [] (listAt wantedAt 9 s) (getD (m .at) 4 0) (L .passed g 4 refl k), refl);
-  stage = λ l n. either (m .slot) (L .stopped l .wanted) n;
-}
+module _ (old old′ : List ℕ) where
+  read-opened : {s : List ℕ} {m : Pass} → m ≡ openPass readTags eitherList s → ReadTo old old′ s First m (record { count = 0; words = old }) (record { count = 0; words = old′ })
+  unfolding readIn
+  read-opened {s} {m} e = let L = opened e in record {
+    lost = λ g. whole-refused readTags (readFrom s) s (frame-none (readFrom s) L g);
+    sound = λ l. L .stopped l .sound;
+    stops = eitherList;
+    before = replicate 10 0;
+    left = λ g. L;
+    paths = λ g k. ([], optional-none [] (listAt askedAt 9 s) (getD (m .at) 0 0) (L .passed g 0 refl k), none-kept old old′ targetWords 15 old);
+    wants = λ g k. ([], optional-none [] (listAt wantedAt 9 s) (getD (m .at) 4 0) (L .passed g 4 refl k), none-kept old old′ wantedWords 31 old′);
+    stage = λ l n. either (m .slot) (L .stopped l .wanted) n;
+    fresh = λ j. refl;
+  }
 
 -- ---- at the end
 
@@ -197,71 +222,55 @@ from : (s xs ks : List ℕ) → ks ≡ map (codeIn s) xs → {p : List Target} {
 unfolding readFrom
 from s xs ks k a b = rw (a, b, ← (flag-coded s ks xs k 3 refl), ← (number-coded s ks xs k 9 255 false (omega arith) refl)) refl
 
-read-ended : {s : List ℕ} {m : Pass} {ps : Paths} {fs : Wants} → ReadTo s Done m ps fs → readBy (length s) m ps fs ≡ readRead (readIn s)
-unfolding readBy readIn
-read-ended {s} {m} {ps} {fs} R = by (m .good) refl
-  where
-    over : 10 ≤ m .slot
-    over = go (ltb (m .slot) 10) refl
-      where
-        go : (b : Bool) → ltb (m .slot) 10 ≡ b → 10 ≤ m .slot
-        go true e = absurd (R .stage (ltb-true (m .slot) 10 e))
-        go false e = ltb-false (m .slot) 10 e
+module _ (old old′ : List ℕ) where
+  read-ended : {s : List ℕ} {m : Pass} {ps fs : Kept} → ReadTo old old′ s Done m ps fs → readBy (length s) m ps fs ≡ readKept old old′ (readIn s)
+  unfolding readBy readable readIn
+  read-ended {s} {m} {ps} {fs} R = by (m .good) refl
+    where
+      over : 10 ≤ m .slot
+      over = go (ltb (m .slot) 10) refl
+        where
+          go : (b : Bool) → ltb (m .slot) 10 ≡ b → 10 ≤ m .slot
+          go true e = absurd (R .stage (ltb-true (m .slot) 10 e))
+          go false e = ltb-false (m .slot) 10 e
 
-    made : (p : List Target) (f : List Wanted) (w a b : Bool) → pick w (pick a (pick b (readRead (just (record { paths = p; filters = f }))) (readRead nothing)) (readRead nothing)) (readRead nothing) ≡ readRead (pick w (pick a (pick b (just (record { paths = p; filters = f })) nothing) nothing) nothing)
-    made p f false a b = refl
-    made p f true false b = refl
-    made p f true true false = refl
-    made p f true true true = refl
+      made : (p : List Target) (f : List Wanted) (w a b : Bool) → pick (pick w (pick a b false) false) (readKept old old′ (just (record { paths = p; filters = f }))) (readKept [] [] nothing) ≡ readKept old old′ (pick w (pick a (pick b (just (record { paths = p; filters = f })) nothing) nothing) nothing)
+      made p f false a b = refl
+      made p f true false b = refl
+      made p f true true false = refl
+      made p f true true true = refl
 
-    by : (b : Bool) → m .good ≡ b → readBy (length s) m ps fs ≡ readRead (readIn s)
-    by false g = rw (whole-bad (length s) m g) (sym (ap readRead (R .lost g)))
-    by true g =
-        let p = R .paths g (λ y. (let o = over in omega arith)) in
-        let f = R .wants g (λ y. (let o = over in omega arith)) in
-        let k = R .left g .coded in
-        ap (λ (y : Paths). readBy (length s) m y fs) (p .2) ∙ ap (λ (y : Wants). readBy (length s) m (pathsStruct (p .0)) y) (f .2)
-        ∙ made (p .0) (f .0) (wholePass (length s) m) (given (flagBy (getD (m .codes) 3 0))) (given (numberBy 255 false (getD (m .codes) 9 0)))
-        ∙ sym (ap readRead (whole-passed (readFrom s) (R .left g) over ∙ ap (λ o. pick (wholePass (length s) m) o nothing) (from s (m .at) (m .codes) k (p .1) (f .1))))
+      by : (b : Bool) → m .good ≡ b → readBy (length s) m ps fs ≡ readKept old old′ (readIn s)
+      by false g = rw (whole-bad (length s) m g) (sym (ap (readKept old old′) (R .lost g)))
+      by true g =
+          let p = R .paths g (λ y. (let o = over in omega arith)) in
+          let f = R .wants g (λ y. (let o = over in omega arith)) in
+          let k = R .left g .coded in
+          (λ j. readBy (length s) m (p .2 j) (f .2 j))
+          ∙ made (p .0) (f .0) (wholePass (length s) m) (given (flagBy (getD (m .codes) 3 0))) (given (numberBy 255 false (getD (m .codes) 9 0)))
+          ∙ sym (ap (readKept old old′) (whole-passed (readFrom s) (R .left g) over ∙ ap (λ o. pick (wholePass (length s) m) o nothing) (from s (m .at) (m .codes) k (p .1) (f .1))))
 
--- THE LAW of the request in one pass
-pub read-passed : (s : List ℕ) {m : Pass} {ps : Paths} {x z : PathsPass} {y : WantsPass} → m ≡ openPass readTags eitherList s → ps ≡ pathsStruct [] → x ≡ passPaths s onlyFilters m ps → y ≡ passWants s onlyPaths (x .pass) → z ≡ passPaths s (replicate 10 false) (y .pass) (x .paths) → readBy (length s) (z .pass) (z .paths) (y .wants) ≡ readRead (readIn s)
-read-passed s {m} {ps} {x} {z} {y} em ep ex ey ez = read-ended (rw ez three)
-  where
-    one : ReadTo s Second (x .pass) (x .paths) (wantsStruct [])
-    one = rw (ex, ep) (paths-step s m (pathsStruct []) (wantsStruct []) (read-opened em) onlyFilters (λ n t. t n) (λ i t r N l. fifth (r .slot) (N .stopped l .wanted)) (λ i t r N g n. N .passed g 4 refl n))
+  -- THE LAW of the request in one pass
+  pub read-passed : (s : List ℕ) {m : Pass} {x y z : PassKept} → m ≡ openPass readTags eitherList s → x ≡ passPaths s onlyFilters m (record { count = 0; words = old }) → y ≡ passWants s onlyPaths (x .pass) (record { count = 0; words = old′ }) → z ≡ passPaths s (replicate 10 false) (y .pass) (x .kept) → readBy (length s) (z .pass) (z .kept) (y .kept) ≡ readKept old old′ (readIn s)
+  read-passed s {m} {x} {y} {z} em ex ey ez = read-ended (rw ez three)
+    where
+      one : ReadTo old old′ s Second (x .pass) (x .kept) (record { count = 0; words = old′ })
+      one = rw ex (paths-step old old′ s m _ _ (read-opened old old′ em) onlyFilters (λ n t. t n) (λ i t r N l. fifth (r .slot) (N .stopped l .wanted)) (λ i t r N g n. N .passed g 4 refl n))
 
-    two : ReadTo s Third (y .pass) (x .paths) (y .wants)
-    two = rw ey (wants-step s (x .pass) (x .paths) one onlyPaths (λ n t. absurd (n t)) (λ r N h l. (only-first (r .slot) (N .stopped l .wanted), h (N .stopped l .sound))) (λ r N g n. N .passed g 0 refl n))
+      two : ReadTo old old′ s Third (y .pass) (x .kept) (y .kept)
+      two = rw ey (wants-step old old′ s (x .pass) (x .kept) one onlyPaths (λ n t. absurd (n t)) (λ r N h l. (only-first (r .slot) (N .stopped l .wanted), h (N .stopped l .sound))) (λ r N g n. N .passed g 0 refl n))
 
-    three : let v = passPaths s (replicate 10 false) (y .pass) (x .paths) in ReadTo s Done (v .pass) (v .paths) (y .wants)
-    three = paths-step s (y .pass) (x .paths) (y .wants) two (replicate 10 false) (λ n t. n (t .0)) (λ i t r N l. (let o = nowhere N in omega arith)) (λ i t r N g n. stays (getD (y .pass .at) 4 0) (t .1) (λ v k. N .kept g 4 v k))
-      where
-        stays : (p : ℕ) {q : ℕ} → (p ≡ 0 → ⊥) → ((v : ℕ) → p ≡ v + 1 → q ≡ v + 1) → q ≡ p
-        stays p n k = let e : p ≡ p - 1 + 1 = omega arith in k (p - 1) e ∙ sym e
+      three : let v = passPaths s (replicate 10 false) (y .pass) (x .kept) in ReadTo old old′ s Done (v .pass) (v .kept) (y .kept)
+      three = paths-step old old′ s (y .pass) (x .kept) (y .kept) two (replicate 10 false) (λ n t. n (t .0)) (λ i t r N l. (let o = nowhere N in omega arith)) (λ i t r N g n. stays (getD (y .pass .at) 4 0) (t .1) (λ v k. N .kept g 4 v k))
+        where
+          stays : (p : ℕ) {q : ℕ} → (p ≡ 0 → ⊥) → ((v : ℕ) → p ≡ v + 1 → q ≡ v + 1) → q ≡ p
+          stays p n k = let e : p ≡ p - 1 + 1 = omega arith in k (p - 1) e ∙ sym e
 
 -- ---- what the code makes of the list at a stop
 
-module _ (on : ℕ → Pass) (f : PathList) (z : Pass) where
-  pub paths-refused : (g : Got (List Target)) → f ≡ pathsEnd g → f .paths .good ≡ false → z ≡ noPass → record { pass = z; paths = f .paths } ≡ pathsFound on g
-  paths-refused bad e q k = λ j. record { pass = k j; paths = e j .paths }
-  paths-refused (got l n) e q k = absurd (clash (sym (ap (λ (y : PathList). y .paths .good) e) ∙ q))
+module _ (on : ℕ → Pass) {f g : ListRead} (e : f ≡ g) {z : Pass} where
+  pub found-none : f .good ≡ false → z ≡ noPass → record { pass = z; kept = f .kept } ≡ foundOn on g
+  found-none q k = rw (← e) (rw q (λ j. record { pass = k j; kept = f .kept }))
 
-  pub paths-read : (g : Got (List Target)) → f ≡ pathsEnd g → f .paths .good ≡ true → z ≡ on (f .next .at) → record { pass = z; paths = f .paths } ≡ pathsFound on g
-  paths-read bad e q k = absurd (clash (sym q ∙ ap (λ (y : PathList). y .paths .good) e))
-  paths-read (got l n) e q k = λ j. record { pass = (k ∙ ap (λ (y : PathList). on (y .next .at)) e) j; paths = e j .paths }
-
-module _ (on : ℕ → Pass) (f : WantList) (z : Pass) where
-  pub wants-refused : (g : Got (List Wanted)) → f ≡ wantsEnd g → f .wants .good ≡ false → z ≡ noPass → record { pass = z; wants = f .wants } ≡ wantsFound on g
-  wants-refused bad e q k = λ j. record { pass = k j; wants = e j .wants }
-  wants-refused (got l n) e q k = absurd (clash (sym (ap (λ (y : WantList). y .wants .good) e) ∙ q))
-
-  pub wants-read : (g : Got (List Wanted)) → f ≡ wantsEnd g → f .wants .good ≡ true → z ≡ on (f .next .at) → record { pass = z; wants = f .wants } ≡ wantsFound on g
-  wants-read bad e q k = absurd (clash (sym q ∙ ap (λ (y : WantList). y .wants .good) e))
-  wants-read (got l n) e q k = λ j. record { pass = (k ∙ ap (λ (y : WantList). on (y .next .at)) e) j; wants = e j .wants }
-
-pub no-paths-yet : record { good = true; count = 0; kept = replicate 16 read.nowhere } ≡ pathsStruct []
-no-paths-yet = λ j. record { good = true; count = 0; kept = sym (first-none 16 read.nowhere) j }
-
-pub no-wants-yet : record { good = true; count = 0; kept = replicate 32 unwanted } ≡ wantsStruct []
-no-wants-yet = λ j. record { good = true; count = 0; kept = sym (first-none 32 unwanted) j }
+  pub found-some : f .good ≡ true → z ≡ on (f .next .at) → record { pass = z; kept = f .kept } ≡ foundOn on g
+  found-some q k = rw (← e) (rw q (λ j. record { pass = k j; kept = f .kept }))

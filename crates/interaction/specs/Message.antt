@@ -1,10 +1,12 @@
 -- A whole message (document 01, Spelling): one untagged structure of depth at most 10 that ends where the payload ends.
-use Prim.Native.Nat.{ℕ, zero, suc}
+use Prim.Native.Nat.{ℕ, zero, suc, _*_}
 use mathlib.Core.List.{List, [], _∷_, _++_}
-use mathlib.Core.Bool.{Bool, false}
-use lib.ListN.{length, set}
+use mathlib.Core.Bool.{Bool, true, false}
+use lib.ListN.{length, set, take, replicate}
 use lib.Dec.{ltb, eqb}
 use Rattle.bounds.specs.Bounds.{maxDepth}
+use Rattle.octets.specs.Store.{store}
+use Rattle.tlv.specs.declared.Cursor.{Cursor}
 use Rattle.tlv.specs.declared.Element.{Element}
 use Rattle.tlv.specs.Octet.{pick, structure, array}
 use Rattle.tlv.specs.Tree.{Tree, Trees}
@@ -15,10 +17,10 @@ use Rattle.tlv.specs.Walk.Got.{got, bad}
 use Rattle.tlv.specs.Decode.{Opt, bindO, place, foldT}
 use Rattle.tlv.specs.Decode.Opt.{nothing}
 use Rattle.members.specs.Fields.{Slot, insideAt, fieldsT}
-use Rattle.members.specs.declared.Pass.{Pass}
-use Rattle.members.specs.Pass.{noPass, passOf}
+use Rattle.members.specs.Pass.{Pass, noPass, passOf}
 use Rattle.members.specs.Scalar.{ABSENT}
 use Rattle.members.specs.Array.{optOf, eachStep, eachT}
+use Rattle.interaction.specs.declared.Listed.{Listed}
 
 unfoldable pub untagged : List ℕ → Bool
 untagged s = headed false (λ e. eqb (e .form) 0) (headAt s 0)
@@ -65,6 +67,17 @@ firstOf zero z l = []
 firstOf (suc n) z [] = z ∷ firstOf n z []
 firstOf (suc n) z (x ∷ l) = x ∷ firstOf n z l
 
+-- how many members a list has, and the first n of them
+pub record Firsts (A : Type 0) : Type 0 where
+  pub count : ℕ
+  pub kept : List A
+
+abbrev pub firsts : {A : Type 0} → ℕ → A → List A → Firsts A
+firsts n z l = record { count = length l; kept = firstOf n z l }
+
+abbrev pub noFirsts : {A : Type 0} → ℕ → A → Firsts A
+noFirsts n z = record { count = 0; kept = replicate n z }
+
 -- a list of n places with one more stored at its place, if that is one of them
 abbrev pub keepOf : {A : Type 0} → ℕ → List A → ℕ → A → List A
 keepOf n kept count a = pick (ltb count n) (set kept count a) kept
@@ -79,3 +92,38 @@ listAt read (suc d) s at =
 unfoldable pub listOn : {A : Type 0} → (ℕ → List ℕ → ℕ → Got A) → ℕ → List ℕ → Element → Got (List A)
 listOn read zero s e = bad
 listOn read (suc d) s e = pick (eqb (e .kind) array) (foldAt (eachStep snoc (read d s)) (length s) s array [] (e .next .at)) bad
+
+-- ---- A LIST IN WORDS that are lent: so many for each member, one member after the other
+
+unfoldable pub wordsOf : {A : Type 0} → (A → List ℕ) → List A → List ℕ
+wordsOf enc [] = []
+wordsOf enc (x ∷ l) = enc x ++ wordsOf enc l
+
+-- one member more, if there is room for n
+abbrev pub keepMore : {A : Type 0} → ℕ → ℕ → (A → List ℕ) → List ℕ → ℕ → A → List ℕ
+keepMore n size enc words count a = pick (ltb count n) (store words (count * size) (enc a)) words
+
+-- how many members a list has, and the words that it is kept in
+pub record Kept : Type 0 where
+  pub count : ℕ
+  pub words : List ℕ
+
+-- the first n of a list are stored from the start on, what stands behind them stays; a list that is refused leaves nothing
+abbrev pub keptAs : {A : Type 0} → ℕ → (A → List ℕ) → List ℕ → List A → Kept
+keptAs n enc words l = record { count = length l; words = store words 0 (wordsOf enc (take n l)) }
+
+abbrev pub keptNone : ℕ → Kept
+keptNone room = record { count = 0; words = replicate room 0 }
+
+-- as the code has it, with where the array ends
+pub record ListRead : Type 0 where
+  pub good : Bool
+  pub kept : Kept
+  pub next : Cursor
+
+abbrev pub listWith : Listed → List ℕ → ListRead
+listWith r words = record { good = r .good; kept = record { count = r .count; words = words }; next = r .next }
+
+abbrev pub listRead : {A : Type 0} → ℕ → ℕ → (A → List ℕ) → List ℕ → Got (List A) → ListRead
+listRead n size enc words bad = record { good = false; kept = keptNone (n * size); next = record { at = 0 } }
+listRead n size enc words (got l m) = record { good = true; kept = keptAs n enc words l; next = record { at = m } }

@@ -1,9 +1,9 @@
 -- The Read Request (chapter 10, 10.6.2; document 01, Spelling and On the wire).
-use Prim.Native.Nat.{ℕ, _-_}
+use Prim.Native.Nat.{ℕ, _-_, _*_}
 use mathlib.Core.List.{List, [], _∷_}
 use mathlib.Core.Bool.{Bool, true, false}
-use lib.ListN.{length, getD, replicate}
-use lib.Dec.{ltb, eqb}
+use lib.ListN.{length, getD}
+use lib.Dec.{eqb}
 use Rattle.bounds.specs.Bounds.{maxDepth, maxPaths, maxFilters}
 use Rattle.tlv.specs.Octet.{pick, structure, array}
 use Rattle.tlv.specs.Tree.{Tree, Trees}
@@ -24,24 +24,25 @@ use Rattle.interaction.specs.declared.WantedRead.{WantedRead}
 use Rattle.interaction.specs.declared.WantedRead.the-variants as wanted
 use Rattle.blocks.specs.Path.{pathOn, pathAt, pathT, askableP}
 use Rattle.blocks.specs.Filter.{filterOn, filterAt, filterT}
-use Rattle.interaction.specs.Message.{snoc, listT, listAt, listOn, firstOf, given, wholeIn, wholeT, wholePass}
+use Rattle.interaction.specs.Message.{snoc, listT, listAt, listOn, given, wholeIn, wholeT, wholePass, Firsts, firsts, noFirsts, Kept, keptAs, keptNone, ListRead, listRead}
 use Rattle.interaction.specs.declared.Target.{Target}
-use Rattle.interaction.specs.declared.Paths.{Paths}
 use Rattle.interaction.specs.declared.Wanted.{Wanted}
-use Rattle.interaction.specs.declared.Wants.{Wants}
-use Rattle.interaction.specs.declared.WantList.{WantList}
-use Rattle.interaction.specs.declared.PathList.{PathList}
-use Rattle.interaction.specs.declared.PathsPass.{PathsPass}
-use Rattle.interaction.specs.declared.WantsPass.{WantsPass}
-use Rattle.members.specs.declared.Pass.{Pass}
-use Rattle.members.specs.Pass.{noPass, passFrom, numberBy, flagBy}
-use Rattle.interaction.specs.declared.ReadRequest.{ReadRequest}
+use Rattle.interaction.specs.declared.Passed.{Passed}
+use Rattle.interaction.specs.declared.ReadCounts.{ReadCounts}
+use Rattle.members.specs.Pass.{Pass, passWith, noPass, passFrom, numberBy, flagBy}
 
 abbrev pub targetOf : Path → Target
 targetOf p = record { endpoint = p .endpoint; cluster = p .cluster; attribute = p .attribute }
 
 abbrev pub nowhere : Target
 nowhere = record { endpoint = 0; cluster = 0; attribute = 0 }
+
+-- in words
+abbrev pub targetSize : ℕ
+targetSize = 3
+
+abbrev pub targetWords : Target → List ℕ
+targetWords t = t .endpoint ∷ t .cluster ∷ t .attribute ∷ []
 
 -- a path that a read may have, as what it asks for
 unfoldable pub askedOf : Path → Opt Target
@@ -68,21 +69,8 @@ pathsFrom d s l at = foldAt (eachStep snoc (askedAt d s)) (length s) s array l a
 unfoldable pub pathsAt : ℕ → List ℕ → ℕ → Got (List Target)
 pathsAt d s at = pathsFrom d s [] at
 
-abbrev pub pathsStruct : List Target → Paths
-pathsStruct l = record { good = true; count = length l; kept = firstOf maxPaths nowhere l }
-
-abbrev pub pathsRead : Got (List Target) → Paths
-pathsRead bad = record { good = false; count = 0; kept = replicate maxPaths nowhere }
-pathsRead (got l n) = pathsStruct l
-
--- with where the array ends
-abbrev pub pathsEnd : Got (List Target) → PathList
-pathsEnd bad = record { paths = pathsRead bad; next = record { at = 0 } }
-pathsEnd (got l n) = record { paths = pathsStruct l; next = record { at = n } }
-
-abbrev pub pathsOpt : Opt (List Target) → Paths
-pathsOpt nothing = record { good = false; count = 0; kept = replicate maxPaths nowhere }
-pathsOpt (just l) = pathsStruct l
+abbrev pub pathsStruct : List Target → Firsts Target
+pathsStruct l = firsts maxPaths nowhere l
 
 -- a filter as what it vouches for; one with a node in its path is refused
 abbrev pub wantedOf : Filter → Wanted
@@ -90,6 +78,12 @@ wantedOf f = record { endpoint = f .path .endpoint; cluster = f .path .cluster; 
 
 abbrev pub unwanted : Wanted
 unwanted = record { endpoint = 0; cluster = 0; version = 0 }
+
+abbrev pub wantedSize : ℕ
+wantedSize = 3
+
+abbrev pub wantedWords : Wanted → List ℕ
+wantedWords f = f .endpoint ∷ f .cluster ∷ f .version ∷ []
 
 unfoldable pub localF : Filter → Bool
 localF f = eqb (f .path .node) ABSENT
@@ -116,20 +110,8 @@ wantsFrom d s l at = foldAt (eachStep snoc (wantedAt d s)) (length s) s array l 
 unfoldable pub wantsAt : ℕ → List ℕ → ℕ → Got (List Wanted)
 wantsAt d s at = wantsFrom d s [] at
 
-abbrev pub wantsStruct : List Wanted → Wants
-wantsStruct l = record { good = true; count = length l; kept = firstOf maxFilters unwanted l }
-
-abbrev pub wantsRead : Got (List Wanted) → Wants
-wantsRead bad = record { good = false; count = 0; kept = replicate maxFilters unwanted }
-wantsRead (got l n) = wantsStruct l
-
-abbrev pub wantsEnd : Got (List Wanted) → WantList
-wantsEnd bad = record { wants = wantsRead bad; next = record { at = 0 } }
-wantsEnd (got l n) = record { wants = wantsStruct l; next = record { at = n } }
-
-abbrev pub wantsOpt : Opt (List Wanted) → Wants
-wantsOpt nothing = record { good = false; count = 0; kept = replicate maxFilters unwanted }
-wantsOpt (just l) = wantsStruct l
+abbrev pub wantsStruct : List Wanted → Firsts Wanted
+wantsStruct l = firsts maxFilters unwanted l
 
 -- THE MEANING of a read: all that it asks for, and all its filters
 pub record Read : Type 0 where
@@ -158,39 +140,57 @@ readSlots xs =
 unfoldable pub readT : Trees → Opt Read
 readT ts = wholeT readTags readSlots ts
 
--- as the code has it
+-- A REQUEST: whether it is well-formed, and the first of its paths and filters
+pub record ReadRequest : Type 0 where
+  pub good : Bool
+  pub paths : Firsts Target
+  pub filters : Firsts Wanted
+
 abbrev pub readRead : Opt Read → ReadRequest
-readRead nothing = record { good = false; paths = pathsOpt nothing; filters = wantsOpt nothing }
-readRead (just r) = record {
-  good = true;
-  paths = pathsStruct (r .paths);
-  filters = wantsStruct (r .filters);
-}
+readRead nothing = record { good = false; paths = noFirsts maxPaths nowhere; filters = noFirsts maxFilters unwanted }
+readRead (just r) = record { good = true; paths = pathsStruct (r .paths); filters = wantsStruct (r .filters) }
+
+-- ---- AS THE CODE HAS IT: the counts, and the lists in the words that are lent
+
+pub record ReadKept : Type 0 where
+  pub good : Bool
+  pub paths : Kept
+  pub filters : Kept
+
+abbrev pub readWith : ReadCounts → List ℕ → List ℕ → ReadKept
+readWith r paths filters =
+    record { good = r .good; paths = record { count = r .paths; words = paths }; filters = record { count = r .filters; words = filters } }
+
+abbrev pub readKept : List ℕ → List ℕ → Opt Read → ReadKept
+readKept paths filters nothing = record { good = false; paths = keptNone (maxPaths * targetSize); filters = keptNone (maxFilters * wantedSize) }
+readKept paths filters (just r) =
+    record { good = true; paths = keptAs maxPaths targetWords paths (r .paths); filters = keptAs maxFilters wantedWords filters (r .filters) }
 
 -- BY A PASS over the request's members: at a stop its list is read, and the pass goes on after it
-abbrev pub pathsFound : (ℕ → Pass) → Got (List Target) → PathsPass
-pathsFound on bad = record { pass = noPass; paths = pathsRead bad }
-pathsFound on (got l n) = record { pass = on n; paths = pathsStruct l }
+pub record PassKept : Type 0 where
+  pub pass : Pass
+  pub kept : Kept
 
-unfoldable pub passPaths : List ℕ → List Bool → Pass → Paths → PathsPass
-passPaths s stops m before =
-    pick (eqb (m .slot) 0) (pathsFound (passFrom (maxDepth - 1) s structure readTags stops m) (listOn askedAt (maxDepth - 1) s (m .head))) (record { pass = m; paths = before })
+abbrev pub passedWith : Passed → List ℕ → List ℕ → List ℕ → PassKept
+passedWith r at codes words = record { pass = passWith (r .stop) at codes; kept = record { count = r .count; words = words } }
 
-abbrev pub wantsFound : (ℕ → Pass) → Got (List Wanted) → WantsPass
-wantsFound on bad = record { pass = noPass; wants = wantsRead bad }
-wantsFound on (got l n) = record { pass = on n; wants = wantsStruct l }
+abbrev pub foundOn : (ℕ → Pass) → ListRead → PassKept
+foundOn on x = record { pass = pick (x .good) (on (x .next .at)) noPass; kept = x .kept }
 
-unfoldable pub passWants : List ℕ → List Bool → Pass → WantsPass
-passWants s stops m =
-    pick (eqb (m .slot) 4) (wantsFound (passFrom (maxDepth - 1) s structure readTags stops m) (listOn wantedAt (maxDepth - 1) s (m .head))) (record { pass = m; wants = wantsStruct [] })
+abbrev pub stoppedAt : ℕ → (List ℕ → Element → ListRead) → List ℕ → List Bool → Pass → Kept → PassKept
+stoppedAt i read s stops m before =
+    pick (eqb (m .slot) i) (foundOn (passFrom (maxDepth - 1) s structure readTags stops (m .at) (m .codes)) (read (before .words) (m .head))) (record { pass = m; kept = before })
+
+unfoldable pub passPaths : List ℕ → List Bool → Pass → Kept → PassKept
+passPaths s stops m before = stoppedAt 0 (λ words e. listRead maxPaths targetSize targetWords words (listOn askedAt (maxDepth - 1) s e)) s stops m before
+
+unfoldable pub passWants : List ℕ → List Bool → Pass → Kept → PassKept
+passWants s stops m before = stoppedAt 4 (λ words e. listRead maxFilters wantedSize wantedWords words (listOn wantedAt (maxDepth - 1) s e)) s stops m before
 
 -- and the request is made of the pass that has ended, and of the lists
-unfoldable pub readBy : ℕ → Pass → Paths → Wants → ReadRequest
-readBy len m ps fs =
-    pick (wholePass len m)
-    (pick (given (flagBy (getD (m .codes) 3 0)))
-    (pick (given (numberBy 255 false (getD (m .codes) 9 0)))
-    (record { good = true; paths = ps; filters = fs })
-    (readRead nothing))
-    (readRead nothing))
-    (readRead nothing)
+unfoldable pub readable : ℕ → Pass → Bool
+readable len m =
+    pick (wholePass len m) (pick (given (flagBy (getD (m .codes) 3 0))) (given (numberBy 255 false (getD (m .codes) 9 0))) false) false
+
+unfoldable pub readBy : ℕ → Pass → Kept → Kept → ReadKept
+readBy len m ps fs = pick (readable len m) (record { good = true; paths = ps; filters = fs }) (readKept [] [] nothing)

@@ -1,10 +1,13 @@
 // Payloads of the Interaction Model, read to their meaning (chapter 10, section 10.6; document 01, Spelling).
 ghost use mathlib.Core.Path.{_≡_};
-ghost use Rattle.tlv.specs.Walk.Got.{bad};
-ghost use Rattle.tlv.specs.Decode.Opt.{nothing};
-ghost use Rattle.interaction.specs.Message.{openPass, wholePass, listOn};
+ghost use mathlib.Core.List.{List, [], _∷_};
+ghost use Prim.Native.Nat.{ℕ, _≤_, _*_};
+ghost use lib.ListN.{length};
+ghost use Rattle.bounds.specs.Bounds.{maxPaths, maxFilters};
+ghost use Rattle.members.specs.Pass.{passWith};
+ghost use Rattle.interaction.specs.Message.{openPass, wholePass, listOn, keepMore, listWith, listRead};
 ghost use Rattle.interaction.specs.Status.{responseIn, responseRead};
-ghost use Rattle.interaction.specs.Read.{targetOf, askedAt, askedOn, askedRead, wantedOn, wantedRead, pathsAt, pathsRead, pathsEnd, localF, wantedOf, wantedAt, wantsAt, wantsRead, wantsEnd, readIn, readRead, passPaths, passWants, readBy};
+ghost use Rattle.interaction.specs.Read.{targetOf, targetSize, targetWords, askedAt, askedOn, askedRead, wantedOn, wantedRead, pathsAt, localF, wantedOf, wantedSize, wantedWords, wantedAt, wantsAt, readIn, passedWith, passPaths, passWants, readable, readWith, readKept, readBy};
 use blocks::Filter;
 use blocks::FilterRead;
 use blocks::Path;
@@ -13,28 +16,43 @@ use bounds::MAX_FILTERS;
 use bounds::MAX_PATHS;
 use members::ABSENT;
 use members::Item;
-use members::Pass;
+use members::Stop;
 use tlv::Cursor;
 use tlv::Element;
 use tlv::Head;
 
 // A pass over the members of a message, from the untagged structure on that it starts with.
-pub fn begin_message(s: &[u8], listed: &[bool; 10], stops: &[bool; 10]) -> Pass
-    ensures { λ r. ⌜ r ≡ openPass (now (listed .entry)) (now (stops .entry)) (now (s .entry)) ⌝ }
+pub fn begin_message(
+    s: &[u8],
+    listed: &[bool; 10],
+    stops: &[bool; 10],
+    at: &mut [usize; 10],
+    codes: &mut [u64; 10],
+) -> Stop
+    ensures { λ r. ⌜ passWith r (now (at .exit)) (now (codes .exit)) ≡ openPass (now (listed .entry)) (now (stops .entry)) (now (s .entry)) ⌝ }
 {
     let start = Cursor { at: 0 };
     let Head::Found(e) = start.head(s) else {
-        return members::refused();
+        return members::refused(at, codes);
     };
     if e.form != 0 {
-        return members::refused();
+        return members::refused(at, codes);
     }
-    members::begin(s, e, bounds::MAX_DEPTH, tlv::STRUCTURE, listed, stops)
+    members::begin(
+        s,
+        e,
+        bounds::MAX_DEPTH,
+        tlv::STRUCTURE,
+        listed,
+        stops,
+        at,
+        codes,
+    )
 }
 
 // Whether a pass has ended where the payload ends.
-pub fn is_whole(m: Pass, len: usize) -> bool
-    ensures { λ r. ⌜ r ≡ wholePass len m ⌝ }
+pub fn is_whole(m: Stop, len: usize) -> bool
+    ensures { λ r. ⌜ ((at codes : List ℕ) → r ≡ wholePass len (passWith m at codes)) ⌝ }
 {
     if !m.good {
         return false;
@@ -68,16 +86,17 @@ pub fn status_response(s: &[u8]) -> StatusResponse
 {
     let listed = STATUS;
     let never = members::NO_STOP;
-    let m = begin_message(s, &listed, &never);
+    let mut at = [0usize; 10];
+    let mut codes = [0u64; 10];
+    let m = begin_message(s, &listed, &never, &mut at, &mut codes);
     if !is_whole(m, s.len()) {
         return StatusResponse::BadResponse;
     }
-    let k = m.codes;
-    let code = members::number_by(k[0], 255, false);
+    let code = members::number_by(codes[0], 255, false);
     if ABSENT <= code {
         return StatusResponse::BadResponse;
     }
-    let revision = members::number_by(k[9], 255, false);
+    let revision = members::number_by(codes[9], 255, false);
     if ABSENT <= revision {
         return StatusResponse::BadResponse;
     }
@@ -101,43 +120,37 @@ fn target_of(p: Path) -> Target
     }
 }
 
-// The paths of a read: how many, and the first of them.
-pub struct Paths {
+// The words that the first paths of a read are kept in: endpoint, cluster, attribute of one path after the other.
+pub const PATH_WORDS: usize = MAX_PATHS * 3;
+
+// And its filters: endpoint, cluster, version.
+pub const FILTER_WORDS: usize = MAX_FILTERS * 3;
+
+// A list that was read from an array: whether it is well-formed, how many members it has, and where it ends. The first of them are in words that are lent.
+pub struct Listed {
     pub good: bool,
     pub count: usize,
-    pub kept: [Target; MAX_PATHS],
-}
-
-const NOWHERE: Target = Target {
-    endpoint: 0,
-    cluster: 0,
-    attribute: 0,
-};
-
-fn no_paths() -> Paths
-    ensures { λ r. ⌜ r ≡ pathsRead bad ⌝ }
-{
-    Paths {
-        good: false,
-        count: 0,
-        kept: [NOWHERE; MAX_PATHS],
-    }
-}
-
-// The paths of an array, and where it ends.
-pub struct PathList {
-    pub paths: Paths,
     pub next: Cursor,
 }
 
-fn no_path_list() -> PathList
-    ensures { λ r. ⌜ r ≡ pathsEnd bad ⌝ }
+pub const NO_LIST: Listed = Listed {
+    good: false,
+    count: 0,
+    next: Cursor { at: 0 },
+};
+
+// One member more of a list, in three words, if there is room.
+fn keep_three(kept: &mut [u64], limit: usize, count: usize, a: u64, b: u64, c: u64)
+    requires { ⌜ limit * 3 ≤ length (now kept) ⌝ }
+    ensures { λ _. ⌜ now (kept .exit) ≡ keepMore limit 3 (λ l. l) (now (kept .entry)) count (a ∷ b ∷ c ∷ []) ⌝ }
 {
-    let paths = no_paths();
-    PathList {
-        paths,
-        next: Cursor { at: 0 },
+    if limit <= count {
+        return;
     }
+    let at = count * 3;
+    kept[at] = a;
+    kept[at + 1] = b;
+    kept[at + 2] = c;
 }
 
 // What a path of a read asks for.
@@ -159,33 +172,31 @@ fn asked_of(s: &[u8], e: Element, left: usize) -> AskedRead
 }
 
 // The paths of an array from one of its members on: all are checked and counted, the first are kept.
-pub fn paths_from(s: &[u8], c: Cursor, left: usize) -> PathList
-    ensures { λ r. ⌜ r ≡ pathsEnd (pathsAt left (now (s .entry)) (c .at)) ⌝ }
+pub fn paths_from(s: &[u8], c: Cursor, left: usize, kept: &mut [u64; PATH_WORDS]) -> Listed
+    ensures { λ r. ⌜ listWith r (now (kept .exit)) ≡ listRead maxPaths targetSize targetWords (now (kept .entry)) (pathsAt left (now (s .entry)) (c .at)) ⌝ }
 {
     let mut count: usize = 0;
-    let mut kept = [NOWHERE; MAX_PATHS];
     let mut at = c.at;
     loop {
         let item = members::item_at(s, Cursor { at }, tlv::ARRAY);
         match item {
             Item::BadItem => {
-                return no_path_list();
+                *kept = [0u64; PATH_WORDS];
+                return NO_LIST;
             }
             Item::Ended(next) => {
-                let paths = Paths {
+                return Listed {
                     good: true,
                     count,
-                    kept,
+                    next,
                 };
-                return PathList { paths, next };
             }
             Item::Member(e) => {
                 let AskedRead::Asked(t, next) = asked_of(s, e, left) else {
-                    return no_path_list();
+                    *kept = [0u64; PATH_WORDS];
+                    return NO_LIST;
                 };
-                if count < MAX_PATHS {
-                    kept[count] = t;
-                }
+                keep_three(kept, MAX_PATHS, count, t.endpoint, t.cluster, t.attribute);
                 count += 1;
                 at = next.at;
             }
@@ -194,17 +205,19 @@ pub fn paths_from(s: &[u8], c: Cursor, left: usize) -> PathList
 }
 
 // The paths of the array whose head was read.
-fn paths_of(s: &[u8], e: Element, left: usize) -> PathList
-    ensures { λ r. ⌜ r ≡ pathsEnd (listOn askedAt left (now (s .entry)) e) ⌝ }
+fn paths_of(s: &[u8], e: Element, left: usize, kept: &mut [u64; PATH_WORDS]) -> Listed
+    ensures { λ r. ⌜ listWith r (now (kept .exit)) ≡ listRead maxPaths targetSize targetWords (now (kept .entry)) (listOn askedAt left (now (s .entry)) e) ⌝ }
 {
     if e.kind != tlv::ARRAY {
-        return no_path_list();
+        *kept = [0u64; PATH_WORDS];
+        return NO_LIST;
     }
     if left == 0 {
-        return no_path_list();
+        *kept = [0u64; PATH_WORDS];
+        return NO_LIST;
     }
     let c = e.next;
-    paths_from(s, c, left - 1)
+    paths_from(s, c, left - 1, kept)
 }
 
 // A cluster with the version that the reader of it has.
@@ -212,29 +225,6 @@ pub struct Wanted {
     pub endpoint: u64,
     pub cluster: u64,
     pub version: u64,
-}
-
-// The filters of a read: how many, and the first of them.
-pub struct Wants {
-    pub good: bool,
-    pub count: usize,
-    pub kept: [Wanted; MAX_FILTERS],
-}
-
-const UNWANTED: Wanted = Wanted {
-    endpoint: 0,
-    cluster: 0,
-    version: 0,
-};
-
-fn no_wants() -> Wants
-    ensures { λ r. ⌜ r ≡ wantsRead bad ⌝ }
-{
-    Wants {
-        good: false,
-        count: 0,
-        kept: [UNWANTED; MAX_FILTERS],
-    }
 }
 
 fn wanted_of(f: Filter) -> Wanted
@@ -256,22 +246,6 @@ fn is_local(f: Filter) -> bool
     path.node == ABSENT
 }
 
-// The filters of an array, and where it ends.
-pub struct WantList {
-    pub wants: Wants,
-    pub next: Cursor,
-}
-
-fn no_want_list() -> WantList
-    ensures { λ r. ⌜ r ≡ wantsEnd bad ⌝ }
-{
-    let wants = no_wants();
-    WantList {
-        wants,
-        next: Cursor { at: 0 },
-    }
-}
-
 // What a filter vouches for.
 pub enum WantedRead {
     Wanted(Wanted, Cursor),
@@ -291,33 +265,31 @@ fn wanted_at(s: &[u8], e: Element, left: usize) -> WantedRead
 }
 
 // The filters of an array from one of its members on: all are checked and counted, the first are kept.
-pub fn wants_from(s: &[u8], c: Cursor, left: usize) -> WantList
-    ensures { λ r. ⌜ r ≡ wantsEnd (wantsAt left (now (s .entry)) (c .at)) ⌝ }
+pub fn wants_from(s: &[u8], c: Cursor, left: usize, kept: &mut [u64; FILTER_WORDS]) -> Listed
+    ensures { λ r. ⌜ listWith r (now (kept .exit)) ≡ listRead maxFilters wantedSize wantedWords (now (kept .entry)) (wantsAt left (now (s .entry)) (c .at)) ⌝ }
 {
     let mut count: usize = 0;
-    let mut kept = [UNWANTED; MAX_FILTERS];
     let mut at = c.at;
     loop {
         let item = members::item_at(s, Cursor { at }, tlv::ARRAY);
         match item {
             Item::BadItem => {
-                return no_want_list();
+                *kept = [0u64; FILTER_WORDS];
+                return NO_LIST;
             }
             Item::Ended(next) => {
-                let wants = Wants {
+                return Listed {
                     good: true,
                     count,
-                    kept,
+                    next,
                 };
-                return WantList { wants, next };
             }
             Item::Member(e) => {
                 let WantedRead::Wanted(t, next) = wanted_at(s, e, left) else {
-                    return no_want_list();
+                    *kept = [0u64; FILTER_WORDS];
+                    return NO_LIST;
                 };
-                if count < MAX_FILTERS {
-                    kept[count] = t;
-                }
+                keep_three(kept, MAX_FILTERS, count, t.endpoint, t.cluster, t.version);
                 count += 1;
                 at = next.at;
             }
@@ -326,24 +298,26 @@ pub fn wants_from(s: &[u8], c: Cursor, left: usize) -> WantList
 }
 
 // The filters of the array whose head was read.
-fn wants_of(s: &[u8], e: Element, left: usize) -> WantList
-    ensures { λ r. ⌜ r ≡ wantsEnd (listOn wantedAt left (now (s .entry)) e) ⌝ }
+fn wants_of(s: &[u8], e: Element, left: usize, kept: &mut [u64; FILTER_WORDS]) -> Listed
+    ensures { λ r. ⌜ listWith r (now (kept .exit)) ≡ listRead maxFilters wantedSize wantedWords (now (kept .entry)) (listOn wantedAt left (now (s .entry)) e) ⌝ }
 {
     if e.kind != tlv::ARRAY {
-        return no_want_list();
+        *kept = [0u64; FILTER_WORDS];
+        return NO_LIST;
     }
     if left == 0 {
-        return no_want_list();
+        *kept = [0u64; FILTER_WORDS];
+        return NO_LIST;
     }
     let c = e.next;
-    wants_from(s, c, left - 1)
+    wants_from(s, c, left - 1, kept)
 }
 
-// A read request: whether it is well-formed, its paths and filters.
-pub struct ReadRequest {
+// A read request: whether it is well-formed, and how many paths and filters it has.
+pub struct ReadCounts {
     pub good: bool,
-    pub paths: Paths,
-    pub filters: Wants,
+    pub paths: usize,
+    pub filters: usize,
 }
 
 const READ: [bool; 10] = [
@@ -358,16 +332,6 @@ const READ: [bool; 10] = [
     false,
     true,
 ];
-
-fn refused_read() -> ReadRequest
-    ensures { λ r. ⌜ r ≡ readRead nothing ⌝ }
-{
-    ReadRequest {
-        good: false,
-        paths: no_paths(),
-        filters: no_wants(),
-    }
-}
 
 const EITHER_LIST: [bool; 10] = [
     true,
@@ -408,129 +372,166 @@ const FILTERS: [bool; 10] = [
     false,
 ];
 
-// A pass over a request's members, and the paths that were read by then.
-pub struct PathsPass {
-    pub pass: Pass,
-    pub paths: Paths,
+// Where a pass over a request's members stopped, and how many members a list of it has that was read by then.
+pub struct Passed {
+    pub stop: Stop,
+    pub count: usize,
 }
 
 // If the pass has stopped at the paths, they are read, and it goes on.
-fn pass_paths(s: &[u8], m: Pass, before: Paths, stops: &[bool; 10]) -> PathsPass
-    ensures { λ r. ⌜ r ≡ passPaths (now (s .entry)) (now (stops .entry)) m before ⌝ }
+fn pass_paths(
+    s: &[u8],
+    m: Stop,
+    before: usize,
+    stops: &[bool; 10],
+    at: &mut [usize; 10],
+    codes: &mut [u64; 10],
+    kept: &mut [u64; PATH_WORDS],
+) -> Passed
+    ensures { λ r. ⌜ passedWith r (now (at .exit)) (now (codes .exit)) (now (kept .exit)) ≡ passPaths (now (s .entry)) (now (stops .entry)) (passWith m (now (at .entry)) (now (codes .entry))) (record { count = before; words = now (kept .entry) }) ⌝ }
 {
     if m.slot != 0 {
-        return PathsPass {
-            pass: m,
-            paths: before,
+        return Passed {
+            stop: m,
+            count: before,
         };
     }
     let inner = m.head;
-    let f = paths_of(s, inner, bounds::MAX_DEPTH - 1);
-    let paths = f.paths;
-    if !paths.good {
-        return PathsPass {
-            pass: members::refused(),
-            paths,
-        };
+    let f = paths_of(s, inner, bounds::MAX_DEPTH - 1, kept);
+    let count = f.count;
+    if !f.good {
+        let stop = members::refused(at, codes);
+        return Passed { stop, count };
     }
     let after = f.next;
     let listed = READ;
-    let pass = members::resume(
+    let stop = members::resume(
         s,
         after,
         bounds::MAX_DEPTH - 1,
         tlv::STRUCTURE,
         &listed,
         stops,
-        m,
+        at,
+        codes,
     );
-    PathsPass { pass, paths }
-}
-
-// A pass over a request's members, and its filters, if they were read.
-pub struct WantsPass {
-    pub pass: Pass,
-    pub wants: Wants,
+    Passed { stop, count }
 }
 
 // If the pass has stopped at the filters, they are read, and it goes on.
-fn pass_wants(s: &[u8], m: Pass, stops: &[bool; 10]) -> WantsPass
-    ensures { λ r. ⌜ r ≡ passWants (now (s .entry)) (now (stops .entry)) m ⌝ }
+fn pass_wants(
+    s: &[u8],
+    m: Stop,
+    stops: &[bool; 10],
+    at: &mut [usize; 10],
+    codes: &mut [u64; 10],
+    kept: &mut [u64; FILTER_WORDS],
+) -> Passed
+    ensures { λ r. ⌜ passedWith r (now (at .exit)) (now (codes .exit)) (now (kept .exit)) ≡ passWants (now (s .entry)) (now (stops .entry)) (passWith m (now (at .entry)) (now (codes .entry))) (record { count = 0; words = now (kept .entry) }) ⌝ }
 {
     if m.slot != 4 {
-        return WantsPass {
-            pass: m,
-            wants: Wants {
-                good: true,
-                count: 0,
-                kept: [UNWANTED; MAX_FILTERS],
-            },
-        };
+        return Passed { stop: m, count: 0 };
     }
     let inner = m.head;
-    let f = wants_of(s, inner, bounds::MAX_DEPTH - 1);
-    let wants = f.wants;
-    if !wants.good {
-        return WantsPass {
-            pass: members::refused(),
-            wants,
-        };
+    let f = wants_of(s, inner, bounds::MAX_DEPTH - 1, kept);
+    let count = f.count;
+    if !f.good {
+        let stop = members::refused(at, codes);
+        return Passed { stop, count };
     }
     let after = f.next;
     let listed = READ;
-    let pass = members::resume(
+    let stop = members::resume(
         s,
         after,
         bounds::MAX_DEPTH - 1,
         tlv::STRUCTURE,
         &listed,
         stops,
-        m,
+        at,
+        codes,
     );
-    WantsPass { pass, wants }
+    Passed { stop, count }
 }
 
-// The request whose members were passed, with its lists.
-fn read_of(len: usize, m: Pass, paths: Paths, filters: Wants) -> ReadRequest
-    ensures { λ r. ⌜ r ≡ readBy len m paths filters ⌝ }
+// Whether the members that were passed make a request.
+fn is_read(len: usize, m: Stop, codes: &[u64; 10]) -> bool
+    ensures { λ r. ⌜ ((at : List ℕ) → r ≡ readable len (passWith m at (now (codes .entry)))) ⌝ }
 {
     if !is_whole(m, len) {
-        return refused_read();
+        return false;
     }
-    let k = m.codes;
-    let filtered = members::flag_by(k[3]);
+    let filtered = members::flag_by(codes[3]);
     if ABSENT <= filtered {
-        return refused_read();
+        return false;
     }
-    let revision = members::number_by(k[9], 255, false);
-    if ABSENT <= revision {
-        return refused_read();
+    let revision = members::number_by(codes[9], 255, false);
+    revision < ABSENT
+}
+
+// The request whose members were passed, with its lists. One that is refused leaves nothing in their words.
+fn read_of(
+    len: usize,
+    m: Stop,
+    codes: &[u64; 10],
+    asked: usize,
+    wanted: usize,
+    paths: &mut [u64; PATH_WORDS],
+    filters: &mut [u64; FILTER_WORDS],
+) -> ReadCounts
+    ensures { λ r. ⌜ ((at : List ℕ) → readWith r (now (paths .exit)) (now (filters .exit)) ≡ readBy len (passWith m at (now (codes .entry))) (record { count = asked; words = now (paths .entry) }) (record { count = wanted; words = now (filters .entry) })) ⌝ }
+{
+    if !is_read(len, m, codes) {
+        *paths = [0u64; PATH_WORDS];
+        *filters = [0u64; FILTER_WORDS];
+        return ReadCounts {
+            good: false,
+            paths: 0,
+            filters: 0,
+        };
     }
-    ReadRequest {
+    ReadCounts {
         good: true,
-        paths,
-        filters,
+        paths: asked,
+        filters: wanted,
     }
 }
 
 // ReadRequestMessage: paths (tag 0), FabricFiltered (tag 3), filters (tag 4) and the revision. The lists come in either order: the pass
 // stops at whichever comes first, then at the other.
-pub fn read_request(s: &[u8]) -> ReadRequest
-    ensures { λ r. ⌜ r ≡ readRead (readIn (now (s .entry))) ⌝ }
+pub fn read_request(
+    s: &[u8],
+    paths: &mut [u64; PATH_WORDS],
+    filters: &mut [u64; FILTER_WORDS],
+) -> ReadCounts
+    ensures { λ r. ⌜ readWith r (now (paths .exit)) (now (filters .exit)) ≡ readKept (now (paths .entry)) (now (filters .entry)) (readIn (now (s .entry))) ⌝ }
 {
     let listed = READ;
     let either = EITHER_LIST;
-    let filters = FILTERS;
-    let paths = PATHS;
+    let to_filters = FILTERS;
+    let to_paths = PATHS;
     let never = members::NO_STOP;
-    let m = begin_message(s, &listed, &either);
-    let none = Paths {
-        good: true,
-        count: 0,
-        kept: [NOWHERE; MAX_PATHS],
-    };
-    let first = pass_paths(s, m, none, &filters);
-    let second = pass_wants(s, first.pass, &paths);
-    let third = pass_paths(s, second.pass, first.paths, &never);
-    read_of(s.len(), third.pass, third.paths, second.wants)
+    let mut at = [0usize; 10];
+    let mut codes = [0u64; 10];
+    let m = begin_message(s, &listed, &either, &mut at, &mut codes);
+    let first = pass_paths(s, m, 0, &to_filters, &mut at, &mut codes, paths);
+    let second = pass_wants(s, first.stop, &to_paths, &mut at, &mut codes, filters);
+    let third = pass_paths(
+        s,
+        second.stop,
+        first.count,
+        &never,
+        &mut at,
+        &mut codes,
+        paths,
+    );
+    read_of(
+        s.len(),
+        third.stop,
+        &codes,
+        third.count,
+        second.count,
+        paths,
+        filters,
+    )
 }

@@ -19,21 +19,21 @@ refused-requires c κs = search needs
 
 returns : tie.Need-returns
 unfolding openPass
-returns c = c .refused .ensures ∙ sym (simp (sym (c .before .before .before .head .ensures) ∙ c .before .enum-told .given .1))
+returns c = c .refused .ensures ∙ sym (simp (sym (c .before .before .before .before .before .head .ensures) ∙ c .before .before .before .enum-told .given .1))
 
 refused-requires-2 : tie.Need-refused-requires-2
 refused-requires-2 c κs = search needs
 
 returns-2 : tie.Need-returns-2
 unfolding openPass
-returns-2 c = c .refused2 .ensures ∙ sym (simp (sym (c .before .before .before .before .before .before .head .ensures) ∙ c .before .before .before .before .e .given .1, ne-eqb _ _ (c .before .if1 .taken)))
+returns-2 c = c .refused2 .ensures ∙ sym (simp (sym (c .before .before .before .before .before .before .before .before .head .ensures) ∙ c .before .before .before .before .before .before .e .given .1, ne-eqb _ _ (c .before .before .before .if1 .taken)))
 
 begin-requires : tie.Need-begin-requires
 begin-requires c κs = search needs
 
 returns-3 : tie.Need-returns-3
 unfolding openPass
-returns-3 c = c .begin .ensures ∙ sym (simp (sym (c .before .before .before .before .before .before .head .ensures) ∙ c .before .before .before .before .e .given .1, eq-eqb _ _ (c .before .if1 .left)))
+returns-3 c = c .begin .ensures ∙ sym (simp (sym (c .before .before .before .before .before .before .before .before .head .ensures) ∙ c .before .before .before .before .before .before .e .given .1, eq-eqb _ _ (c .before .before .before .if1 .left)))
 
 pub begin-message-spec : {M : Type 1} → statement M
 begin-message-spec =

@@ -2,9 +2,8 @@ use mathlib.Core.Path.{sym, _∙_}
 use borrow.Author.Tests.{eq-eqb, ne-eqb, not-true, not-false}
 use Rattle.tlv.specs.Octet.{structure}
 use Rattle.members.specs.Pass.{passFrom}
-use Rattle.interaction.specs.Message.{listOn}
-use Rattle.interaction.specs.Read.{askedAt, readTags, passPaths}
-use Rattle.interaction.proofs.ReadPass.{paths-refused, paths-read}
+use Rattle.interaction.specs.Read.{readTags, passPaths}
+use Rattle.interaction.proofs.ReadPass.{found-none, found-some}
 use borrow.Author.Needs.{needs}
 use Rattle.interaction.proofs.pass_paths.Statement.{statement}
 use Rattle.interaction.proofs.pass_paths.Tie as tie
@@ -24,8 +23,7 @@ refused-requires c κs = search needs
 
 returns-2 : tie.Need-returns-2
 unfolding passPaths
-returns-2 c = let a = c .before .before .before .before .before .before .before .before .before .args in let s = a .s .now in let f = c .before .before .before .before .paths-of in
-    paths-refused (passFrom 9 s structure readTags (a .stops .now) (a .m)) (f .result) (c .refused .result) (listOn askedAt 9 s (a .m .head)) (f .ensures) (not-true _ (c .before .if2 .taken)) (c .refused .ensures) ∙ sym (simp (eq-eqb _ _ (c .before .before .before .before .before .before .if1 .left)))
+returns-2 c = let a = c .before .before .before .before .before .before .before .before .before .before .before .args in let on = passFrom 9 (a .s .now) structure readTags (a .stops .now) (a .at .now) (a .codes .now) in found-none on (c .before .before .before .before .before .paths-of .ensures) (not-true _ (c .before .before .before .if2 .taken)) (c .refused .ensures) ∙ sym (simp (eq-eqb _ _ (c .before .before .before .before .before .before .before .before .if1 .left)))
 
 sub-resume : tie.Need-sub-resume
 sub-resume c = search needs
@@ -35,8 +33,7 @@ resume-requires c κs = search needs
 
 returns-3 : tie.Need-returns-3
 unfolding passPaths
-returns-3 c = let a = c .before .before .before .before .before .before .before .before .before .before .before .args in let s = a .s .now in let f = c .before .before .before .before .before .before .paths-of in
-    paths-read (passFrom 9 s structure readTags (a .stops .now) (a .m)) (f .result) (c .resume .result) (listOn askedAt 9 s (a .m .head)) (f .ensures) (not-false _ (c .before .before .before .if2 .left)) (c .resume .ensures) ∙ sym (simp (eq-eqb _ _ (c .before .before .before .before .before .before .before .before .if1 .left)))
+returns-3 c = let a = c .before .before .before .before .before .before .before .before .before .before .before .before .before .args in let on = passFrom 9 (a .s .now) structure readTags (a .stops .now) (a .at .now) (a .codes .now) in found-some on (c .before .before .before .before .before .before .before .paths-of .ensures) (not-false _ (c .before .before .before .before .before .if2 .left)) (c .resume .ensures) ∙ sym (simp (eq-eqb _ _ (c .before .before .before .before .before .before .before .before .before .before .if1 .left)))
 
 pub pass-paths-spec : {M : Type 1} → statement M
 pass-paths-spec =

@@ -1,21 +1,17 @@
 use mathlib.Core.Path.{sym, ap, _∙_}
-use Rattle.interaction.specs.Read.{askedAt, pathsAt, pathsFrom, pathsEnd}
+use Rattle.bounds.specs.Bounds.{maxPaths}
+use Rattle.interaction.specs.Message.{listRead}
+use Rattle.interaction.specs.Read.{targetSize, targetWords, askedAt, pathsAt, pathsFrom}
 use Rattle.interaction.proofs.PassLaws.{list-other, list-deeper, list-in}
 use borrow.Author.Needs.{needs}
 use Rattle.interaction.proofs.paths_of.Statement.{statement}
 use Rattle.interaction.proofs.paths_of.Tie as tie
 
-no-path-list-requires : tie.Need-no-path-list-requires
-no-path-list-requires c κs = search needs
-
 returns : tie.Need-returns
-returns c = let a = c .before .before .before .before .args in c .no-path-list .ensures ∙ ap pathsEnd (sym (list-other askedAt (a .left) (a .s .now) (a .e) (c .before .if1 .taken)))
-
-no-path-list-requires-2 : tie.Need-no-path-list-requires-2
-no-path-list-requires-2 c κs = search needs
+returns c = let a = c .before .before .before .before .args in sym (ap (listRead maxPaths targetSize targetWords (c .before .before .before .before .args .kept .now)) (list-other askedAt (a .left) (a .s .now) (a .e) (c .before .if1 .taken)))
 
 returns-2 : tie.Need-returns-2
-returns-2 c = let a = c .before .before .before .before .before .args in c .no-path-list2 .ensures ∙ ap pathsEnd (sym (list-deeper askedAt (a .left) (a .s .now) (a .e) (c .before .if2 .taken)))
+returns-2 c = let a = c .before .before .before .before .before .args in sym (ap (listRead maxPaths targetSize targetWords (c .before .before .before .before .before .args .kept .now)) (list-deeper askedAt (a .left) (a .s .now) (a .e) (c .before .if2 .taken)))
 
 sub-paths-from : tie.Need-sub-paths-from
 sub-paths-from c = search needs
@@ -25,16 +21,7 @@ paths-from-requires c κs = search needs
 
 returns-3 : tie.Need-returns-3
 unfolding pathsAt pathsFrom
-returns-3 c = let a = c .before .before .before .before .before .before .args in c .paths-from .ensures ∙ ap pathsEnd (sym (list-in askedAt (a .left) (a .s .now) (a .e) (c .before .before .before .if1 .left) (c .before .before .if2 .left)))
+returns-3 c = let a = c .before .before .before .before .before .before .before .args in c .paths-from .ensures ∙ ap (listRead maxPaths targetSize targetWords (c .before .before .before .before .before .before .before .args .kept .now)) (sym (list-in askedAt (a .left) (a .s .now) (a .e) (c .before .before .before .before .if1 .left) (c .before .before .before .if2 .left)))
 
 pub paths-of-spec : {M : Type 1} → statement M
-paths-of-spec =
-    tie.close
-    (tie.spec
-    no-path-list-requires
-    returns
-    no-path-list-requires-2
-    returns-2
-    sub-paths-from
-    paths-from-requires
-    returns-3)
+paths-of-spec = tie.close (tie.spec returns returns-2 sub-paths-from paths-from-requires returns-3)

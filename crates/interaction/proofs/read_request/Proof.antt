@@ -1,5 +1,5 @@
 use mathlib.Core.Path.{_∙_}
-use Rattle.interaction.proofs.ReadPass.{read-passed, no-paths-yet}
+use Rattle.interaction.proofs.ReadPass.{read-passed}
 use borrow.Author.Needs.{needs}
 use Rattle.interaction.proofs.read_request.Statement.{statement}
 use Rattle.interaction.proofs.read_request.Tie as tie
@@ -20,7 +20,7 @@ read-of-requires : tie.Need-read-of-requires
 read-of-requires c κs = search needs
 
 returns : tie.Need-returns
-returns c = c .read-of .ensures ∙ read-passed (c .before .before .before .before .before .before .before .before .before .before .before .args .s .now) (c .before .before .before .before .before .before .before .begin-message .ensures) no-paths-yet (c .before .before .before .before .before .pass-paths .ensures) (c .before .before .before .pass-wants .ensures) (c .before .pass-paths2 .ensures)
+returns c = let a = c .before .before .before .before .before .before .before .before .before .before .before .before .before .before .before .before .before .before .before .before .before .before .before .before .before .args in c .read-of .ensures (c .before .before .before .before .pass-paths2 .last .1 .1 .1 .1 .0) ∙ read-passed (a .paths .now) (a .filters .now) (a .s .now) (c .before .before .before .before .before .before .before .before .before .before .before .before .before .before .before .before .before .before .before .begin-message .ensures) (c .before .before .before .before .before .before .before .before .before .before .before .before .before .before .pass-paths .ensures) (c .before .before .before .before .before .before .before .before .before .pass-wants .ensures) (c .before .before .before .before .pass-paths2 .ensures)
 
 pub read-request-spec : {M : Type 1} → statement M
 read-request-spec =
