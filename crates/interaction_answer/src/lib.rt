@@ -94,7 +94,9 @@ pub fn write_response(s: &[u8]) -> Answered
 {
     let listed = RESPONSE;
     let stops = STATUSES;
-    let m = interaction::begin_message(s, &listed, &stops);
+    let mut at = [0usize; 10];
+    let mut codes = [0u64; 10];
+    let m = interaction::begin_message(s, &listed, &stops, &mut at, &mut codes);
     if 10 <= m.slot {
         return Answered::NotOne;
     }
@@ -102,21 +104,19 @@ pub fn write_response(s: &[u8]) -> Answered
     let OneRead::Only(x, after) = one_of(s, inner, bounds::MAX_DEPTH - 1) else {
         return Answered::NotOne;
     };
-    let never = members::NO_STOP;
-    let z = members::resume(
+    let z = members::finish(
         s,
         after,
         bounds::MAX_DEPTH - 1,
         tlv::STRUCTURE,
         &listed,
-        &never,
-        m,
+        &mut at,
+        &mut codes,
     );
     if !interaction::is_whole(z, s.len()) {
         return Answered::NotOne;
     }
-    let k = z.codes;
-    let revision = members::number_by(k[9], 255, false);
+    let revision = members::number_by(codes[9], 255, false);
     if ABSENT <= revision {
         return Answered::NotOne;
     }

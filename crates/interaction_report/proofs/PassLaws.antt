@@ -14,10 +14,9 @@ use Rattle.tlv.specs.Head.{headAt}
 use Rattle.tlv.specs.Walk.{Got}
 use Rattle.tlv.specs.Walk.Got.{got, bad}
 use Rattle.tlv.specs.Decode.Opt.{just, nothing}
-use Rattle.members.specs.declared.Pass.{Pass}
 use Rattle.members.specs.Array.{optionalIn}
 use Rattle.members.specs.Scalar.{WRONG, numberIn, flagIn}
-use Rattle.members.specs.Pass.{codeIn, numberBy, flagBy}
+use Rattle.members.specs.Pass.{Pass, codeIn, numberBy, flagBy}
 use Rattle.members.proofs.PassLaws.{Left, number-coded, flag-coded, Reads}
 use Rattle.blocks.specs.Data.{ReportOf, reportAt, reportOn}
 use Rattle.blocks.proofs.OnLaws.{report-reads}

@@ -14,8 +14,7 @@ use Rattle.tlv.specs.Decode.{Opt, bindO}
 use Rattle.tlv.specs.Decode.Opt.{just, nothing}
 use Rattle.members.specs.Fields.{Slot}
 use Rattle.members.specs.Fields.Slot.{absent}
-use Rattle.members.specs.declared.Pass.{Pass}
-use Rattle.members.specs.Pass.{numberBy, flagBy}
+use Rattle.members.specs.Pass.{Pass, numberBy, flagBy}
 use Rattle.members.specs.Scalar.{WRONG, numberIn, flagIn, numberT, flagT}
 use Rattle.members.specs.Array.{eachStep, optionalIn, optionalT}
 use Rattle.blocks.specs.Data.{ReportOf, reportAt, reportT, reportTree}

@@ -1,14 +1,17 @@
 // Report Data, read to its meaning (chapter 10, section 10.6.3; document 01, Spelling and The panel).
 ghost use mathlib.Core.Path.{_≡_};
+ghost use mathlib.Core.List.{List};
+ghost use Prim.Native.Nat.{ℕ};
 ghost use Rattle.tlv.specs.Walk.Got.{bad};
 ghost use Rattle.tlv.specs.Decode.Opt.{nothing};
+ghost use Rattle.members.specs.Pass.{passWith};
 ghost use Rattle.blocks.specs.Data.{reportAt};
 ghost use Rattle.interaction.specs.Message.{listOn};
 ghost use Rattle.interaction_report.specs.Report.{blocksAt, countRead, partIn, partRead, partBy};
 use blocks::ReportRead;
 use members::ABSENT;
 use members::Item;
-use members::Pass;
+use members::Stop;
 use members::WRONG;
 use tlv::Cursor;
 use tlv::Element;
@@ -107,17 +110,16 @@ fn no_part() -> Part
 }
 
 // The part whose members were passed, with so many blocks from a place on.
-fn part_of(len: usize, m: Pass, blocks: usize, first: usize) -> Part
-    ensures { λ r. ⌜ r ≡ partBy len m blocks first ⌝ }
+fn part_of(len: usize, m: Stop, codes: &[u64; 10], blocks: usize, first: usize) -> Part
+    ensures { λ r. ⌜ ((at : List ℕ) → r ≡ partBy len (passWith m at (now (codes .entry))) blocks first) ⌝ }
 {
     if !interaction::is_whole(m, len) {
         return no_part();
     }
-    let k = m.codes;
-    let subscription = members::number_by(k[0], 4294967295, false);
-    let more = members::flag_by(k[3]);
-    let suppress = members::flag_by(k[4]);
-    let revision = members::number_by(k[9], 255, false);
+    let subscription = members::number_by(codes[0], 4294967295, false);
+    let more = members::flag_by(codes[3]);
+    let suppress = members::flag_by(codes[4]);
+    let revision = members::number_by(codes[9], 255, false);
     if subscription == WRONG {
         return no_part();
     }
@@ -157,9 +159,11 @@ pub fn report_data(s: &[u8]) -> Part
 {
     let listed = REPORT;
     let stops = SECOND;
-    let m = interaction::begin_message(s, &listed, &stops);
+    let mut at = [0usize; 10];
+    let mut codes = [0u64; 10];
+    let m = interaction::begin_message(s, &listed, &stops, &mut at, &mut codes);
     if 10 <= m.slot {
-        return part_of(s.len(), m, 0, 0);
+        return part_of(s.len(), m, &codes, 0, 0);
     }
     let inner = m.head;
     let n = blocks_of(s, inner, bounds::MAX_DEPTH - 1);
@@ -167,16 +171,15 @@ pub fn report_data(s: &[u8]) -> Part
         return no_part();
     }
     let after = n.next;
-    let never = members::NO_STOP;
-    let z = members::resume(
+    let z = members::finish(
         s,
         after,
         bounds::MAX_DEPTH - 1,
         tlv::STRUCTURE,
         &listed,
-        &never,
-        m,
+        &mut at,
+        &mut codes,
     );
     let first = inner.next;
-    part_of(s.len(), z, n.blocks, first.at)
+    part_of(s.len(), z, &codes, n.blocks, first.at)
 }

@@ -1,25 +1,53 @@
-use mathlib.Core.Path.{refl, sym, ap, _∙_}
-use mathlib.Core.Bool.{false}
+use mathlib.Core.Path.{_≡_, refl, sym, ap, _∙_}
+use mathlib.Core.Bool.{true, false}
+use mathlib.Core.List.{_∷_}
 use native.Mathlib.Omega.{arith}
-use lib.ListN.{length}
+use lib.ListN.{length, getD, replicate}
 use borrow.Author.Tests.{not-true, not-false}
+use Rattle.tlv.specs.Octet.{structure}
+use Rattle.tlv.specs.Decode.{Opt}
+use Rattle.tlv.specs.Decode.Opt.{just}
+use Rattle.members.specs.Array.{requiredIn}
+use Rattle.members.specs.Pass.{passWith}
 use Rattle.members.proofs.ArrayLaws.{required-none}
-use Rattle.members.proofs.PassLaws.{number-coded, nowhere, only-first, nest-refused, nest-on, nest-found}
+use Rattle.members.proofs.PassLaws.{Left, number-coded, nowhere, only-first, nest-refused, nest-on, nest-found}
+use Rattle.blocks.specs.declared.Answer.{Answer}
 use Rattle.blocks.specs.Status.{answerAt}
-use Rattle.interaction.specs.Message.{listOn}
-use Rattle.interaction.proofs.PassLaws.{opened, whole-good, whole-refused, whole-lacks, whole-short, whole-ends}
-use Rattle.interaction_answer.specs.Answered.{onlyOf, oneRead, answeredTags, answeredFrom, answeredIn}
+use Rattle.interaction.specs.Message.{structureAt, wholePass, listAt}
+use Rattle.interaction.proofs.PassLaws.{opened, whole-good, whole-refused, whole-short, whole-ends, whole-lacks}
+use Rattle.interaction_answer.specs.Answered.{onlyOf, answeredTags, answeredFrom, answeredIn, oneRead}
 use Rattle.interaction_answer.proofs.AnsweredLaws.{one-reads, one-none, one-some, answered-lacks, answered-no, answered-has}
 use borrow.Author.Needs.{needs}
 use Rattle.interaction_answer.proofs.write_response.Statement.{statement}
 use Rattle.interaction_answer.proofs.write_response.Tie as tie
+
+-- the pass to the statuses
+first : (c : tie.After-begin-message) → let s = c .before .before .before .before .before .before .args .s .now in Left 9 s structure answeredTags (true ∷ replicate 9 false) (replicate 10 0) (structureAt answeredTags s) (passWith (c .begin-message .result) (c .begin-message .last .1 .1 .1 .0) (c .begin-message .last .1 .1 .1 .1 .0))
+first c = opened (c .begin-message .ensures)
+
+at-statuses : (c : tie.Else1) → c .before .before .begin-message .result .slot ≡ 0
+at-statuses c = only-first _ (first (c .before .before) .stopped (c .if1 .left) .wanted)
+
+-- the pass after them
+second : (c : tie.After-finish) → let s = c .before .before .before .before .before .before .before .before .before .before .before .before .before .before .before .before .before .args .s .now in Left 9 s structure answeredTags (replicate 10 false) (c .before .before .before .before .before .before .before .before .before .before .before .begin-message .last .1 .1 .1 .0) (structureAt answeredTags s) (passWith (c .finish .result) (c .finish .last .1 .1 .1 .1 .1 .0) (c .finish .last .1 .1 .1 .1 .1 .1 .0))
+second c = nest-on (first (c .before .before .before .before .before .before .before .before .before .before .before)) (at-statuses (c .before .before .before .before .before .before .before .before .before)) (c .before .before .before .before .before .before .before .before .before .if1 .left) (one-reads (c .before .before .before .before .before .before .before .before .before .before .before .before .before .before .before .before .before .args .s .now)) (one-some _ (sym (c .before .before .before .before .before .before .before .one-of .ensures) ∙ c .before .before .before .before .before .x .given .1)) _ (c .finish .ensures)
+
+whole : (c : tie.Else2) → let z = c .before .before .finish in wholePass (length (c .before .before .before .before .before .before .before .before .before .before .before .before .before .before .before .before .before .before .before .args .s .now)) (passWith (z .result) (z .last .1 .1 .1 .1 .1 .0) (z .last .1 .1 .1 .1 .1 .1 .0)) ≡ true
+whole c = let z = c .before .before .finish in sym (c .before .is-whole .ensures (z .last .1 .1 .1 .1 .1 .0) (z .last .1 .1 .1 .1 .1 .1 .0)) ∙ not-false _ (c .if2 .left)
+
+found : (c : tie.Else2) → requiredIn (λ at. onlyOf (listAt answerAt 9 (c .before .before .before .before .before .before .before .before .before .before .before .before .before .before .before .before .before .before .before .args .s .now) at)) (getD (c .before .before .finish .last .1 .1 .1 .1 .1 .0) 0 0) ≡ just (c .before .before .before .before .before .before .before .x .given .0 .0)
+found c = nest-found (first (c .before .before .before .before .before .before .before .before .before .before .before .before .before)) (at-statuses (c .before .before .before .before .before .before .before .before .before .before .before)) (c .before .before .before .before .before .before .before .before .before .before .before .if1 .left) (one-reads (c .before .before .before .before .before .before .before .before .before .before .before .before .before .before .before .before .before .before .before .args .s .now)) (one-some _ (sym (c .before .before .before .before .before .before .before .before .before .one-of .ensures) ∙ c .before .before .before .before .before .before .before .x .given .1)) _ (c .before .before .finish .ensures) (whole-good _ _ (whole c))
+
+ends : (c : tie.Else2) {o : Opt Answer} → let s = c .before .before .before .before .before .before .before .before .before .before .before .before .before .before .before .before .before .before .before .args .s .now in answeredFrom s (c .before .before .finish .last .1 .1 .1 .1 .1 .0) ≡ o → answeredIn s ≡ o
+unfolding answeredIn
+ends c f = let N = second (c .before .before) in whole-ends (answeredFrom (c .before .before .before .before .before .before .before .before .before .before .before .before .before .before .before .before .before .before .before .args .s .now)) N (nowhere N) (whole c) f
 
 begin-message-requires : tie.Need-begin-message-requires
 begin-message-requires c κs = search needs
 
 returns : tie.Need-returns
 unfolding answeredIn
-returns c = let s = c .before .before .before .before .before .before .args .s .now in let m = c .before .before .begin-message in let L = opened (m .ensures) in let o = c .if1 .taken in
+returns c = let s = c .before .before .before .before .before .before .before .before .args .s .now in let L = first (c .before .before) in let o = c .if1 .taken in
     sym (ap oneRead (whole-lacks (answeredFrom s) L o (λ g. answered-lacks s _ (required-none _ _ (L .passed g 0 refl (λ z. omega arith))))))
 
 sub-one-of : tie.Need-sub-one-of
@@ -36,23 +64,22 @@ enum-told c = search needs
 
 returns-2 : tie.Need-returns-2
 unfolding answeredIn
-returns-2 c = let s = c .before .before .before .before .before .before .before .before .before .before .args .s .now in let m = c .before .before .before .before .before .before .begin-message in let L = opened (m .ensures) in let l = c .before .before .before .before .if1 .left in let is = only-first _ (L .stopped l .wanted) in let f = c .before .before .one-of in
-    sym (ap oneRead (whole-refused answeredTags (answeredFrom s) s (nest-refused L is l (one-reads s) (answeredFrom s) (one-none (onlyOf (listOn answerAt 9 s (m .result .head))) (sym (f .ensures) ∙ c .enum-told .given .1)) (λ xs n k. answered-lacks s xs k))))
+returns-2 c = let s = c .before .before .before .before .before .before .before .before .before .before .before .before .args .s .now in
+    sym (ap oneRead (whole-refused answeredTags (answeredFrom s) s (nest-refused (first (c .before .before .before .before .before .before)) (at-statuses (c .before .before .before .before)) (c .before .before .before .before .if1 .left) (one-reads s) (answeredFrom s) (one-none _ (sym (c .before .before .one-of .ensures) ∙ c .enum-told .given .1)) (λ xs n k. answered-lacks s xs k))))
 
-sub-resume : tie.Need-sub-resume
-sub-resume c = search needs
+sub-finish : tie.Need-sub-finish
+sub-finish c = search needs
 
-resume-requires : tie.Need-resume-requires
-resume-requires c κs = search needs
+finish-requires : tie.Need-finish-requires
+finish-requires c κs = search needs
 
 is-whole-requires : tie.Need-is-whole-requires
 is-whole-requires c κs = search needs
 
 returns-3 : tie.Need-returns-3
 unfolding answeredIn
-returns-3 c = let s = c .before .before .before .before .before .before .before .before .before .before .before .before .before .before .before .before .args .s .now in let m = c .before .before .before .before .before .before .before .before .before .before .before .before .begin-message in let L = opened (m .ensures) in let l = c .before .before .before .before .before .before .before .before .before .before .if1 .left in let is = only-first _ (L .stopped l .wanted) in let f = c .before .before .before .before .before .before .before .before .one-of in
-    let w = one-some (onlyOf (listOn answerAt 9 s (m .result .head))) (sym (f .ensures) ∙ c .before .before .before .before .before .before .x .given .1) in let z = c .before .before .resume in let N = nest-on L is l (one-reads s) w _ (z .ensures) in
-    sym (ap oneRead (whole-short (answeredFrom s) N (nowhere N) (sym (c .before .is-whole .ensures) ∙ not-true _ (c .if2 .taken))))
+returns-3 c = let s = c .before .before .before .before .before .before .before .before .before .before .before .before .before .before .before .before .before .before .before .args .s .now in let z = c .before .before .finish in let N = second (c .before .before) in
+    sym (ap oneRead (whole-short (answeredFrom s) N (nowhere N) (sym (c .before .is-whole .ensures (z .last .1 .1 .1 .1 .1 .0) (z .last .1 .1 .1 .1 .1 .1 .0)) ∙ not-true _ (c .if2 .taken))))
 
 array-read-number-by : tie.Need-array-read-number-by
 array-read-number-by c = search needs
@@ -61,18 +88,12 @@ number-by-requires : tie.Need-number-by-requires
 number-by-requires c κs = search needs
 
 returns-4 : tie.Need-returns-4
-unfolding answeredIn
-returns-4 c = let s = c .before .before .before .before .before .before .before .before .before .before .before .before .before .before .before .before .before .before .before .args .s .now in let m = c .before .before .before .before .before .before .before .before .before .before .before .before .before .before .before .begin-message in let L = opened (m .ensures) in let l = c .before .before .before .before .before .before .before .before .before .before .before .before .before .if1 .left in let is = only-first _ (L .stopped l .wanted) in let f = c .before .before .before .before .before .before .before .before .before .before .before .one-of in
-    let w = one-some (onlyOf (listOn answerAt 9 s (m .result .head))) (sym (f .ensures) ∙ c .before .before .before .before .before .before .before .before .before .x .given .1) in let z = c .before .before .before .before .before .resume in let N = nest-on L is l (one-reads s) w _ (z .ensures) in
-    let e = sym (c .before .before .before .before .is-whole .ensures) ∙ not-false _ (c .before .before .before .if2 .left) in let p = nest-found L is l (one-reads s) w _ (z .ensures) (whole-good (length s) (z .result) e) in let r = number-coded s (z .result .codes) (z .result .at) (N .coded) 9 255 false (omega arith) (c .before .number-by .ensures) in
-    sym (ap oneRead (whole-ends (answeredFrom s) N (nowhere N) e (answered-no s (z .result .at) p r (c .if3 .taken))))
+returns-4 c = let s = c .before .before .before .before .before .before .before .before .before .before .before .before .before .before .before .before .before .before .before .before .before .args .s .now in let xs = c .before .before .before .before .finish .last .1 .1 .1 .1 .1 .0 in
+    sym (ap oneRead (ends (c .before .before) (answered-no s xs (found (c .before .before)) (number-coded s _ xs (second (c .before .before .before .before) .coded) 9 255 false (omega arith) (c .before .number-by .ensures)) (c .if3 .taken))))
 
 returns-5 : tie.Need-returns-5
-unfolding answeredIn
-returns-5 c = let s = c .before .before .before .before .before .before .before .before .before .before .before .before .before .before .before .before .before .before .before .args .s .now in let m = c .before .before .before .before .before .before .before .before .before .before .before .before .before .before .before .begin-message in let L = opened (m .ensures) in let l = c .before .before .before .before .before .before .before .before .before .before .before .before .before .if1 .left in let is = only-first _ (L .stopped l .wanted) in let f = c .before .before .before .before .before .before .before .before .before .before .before .one-of in
-    let w = one-some (onlyOf (listOn answerAt 9 s (m .result .head))) (sym (f .ensures) ∙ c .before .before .before .before .before .before .before .before .before .x .given .1) in let z = c .before .before .before .before .before .resume in let N = nest-on L is l (one-reads s) w _ (z .ensures) in
-    let e = sym (c .before .before .before .before .is-whole .ensures) ∙ not-false _ (c .before .before .before .if2 .left) in let p = nest-found L is l (one-reads s) w _ (z .ensures) (whole-good (length s) (z .result) e) in let r = number-coded s (z .result .codes) (z .result .at) (N .coded) 9 255 false (omega arith) (c .before .number-by .ensures) in
-    sym (ap oneRead (whole-ends (answeredFrom s) N (nowhere N) e (answered-has s (z .result .at) p r (c .if3 .left))))
+returns-5 c = let s = c .before .before .before .before .before .before .before .before .before .before .before .before .before .before .before .before .before .before .before .before .before .args .s .now in let xs = c .before .before .before .before .finish .last .1 .1 .1 .1 .1 .0 in
+    sym (ap oneRead (ends (c .before .before) (answered-has s xs (found (c .before .before)) (number-coded s _ xs (second (c .before .before .before .before) .coded) 9 255 false (omega arith) (c .before .number-by .ensures)) (c .if3 .left))))
 
 pub write-response-spec : {M : Type 1} → statement M
 write-response-spec =
@@ -85,8 +106,8 @@ write-response-spec =
     enum-known-x
     enum-told
     returns-2
-    sub-resume
-    resume-requires
+    sub-finish
+    finish-requires
     is-whole-requires
     returns-3
     array-read-number-by

@@ -1,9 +1,17 @@
-use mathlib.Core.Path.{sym, _∙_}
+use mathlib.Core.Path.{_≡_, sym, _∙_}
+use mathlib.Core.List.{List}
+use Prim.Native.Nat.{ℕ}
 use borrow.Author.Tests.{eq-eqb, ne-eqb, lt-ltb, le-ltb, not-true, not-false}
-use Rattle.interaction_report.specs.Report.{partBy}
+use Rattle.members.specs.Pass.{passWith}
+use Rattle.interaction_report.specs.Report.{partBy, partMade}
 use borrow.Author.Needs.{needs}
 use Rattle.interaction_report.proofs.part_of.Statement.{statement}
 use Rattle.interaction_report.proofs.part_of.Tie as tie
+
+-- what the codes stand for
+read : (c : tie.After-number-by2) (at : List ℕ) → let a = c .before .before .before .before .before .before .before .before .before .before .args in partBy (a .len) (passWith (a .m) at (a .codes .now)) (a .blocks) (a .first) ≡ partMade (c .before .before .before .before .before .before .number-by .result) (c .before .before .before .before .flag-by .result) (c .before .before .flag-by2 .result) (c .number-by2 .result) (a .blocks) (a .first)
+unfolding partBy
+read c at = simp (sym (c .before .before .before .before .before .before .before .before .before .is-whole .ensures at (c .before .before .before .before .before .before .before .before .before .before .args .codes .now)) ∙ not-false _ (c .before .before .before .before .before .before .before .before .if1 .left), ← (c .before .before .before .before .before .before .number-by .ensures), ← (c .before .before .before .before .flag-by .ensures), ← (c .before .before .flag-by2 .ensures), ← (c .number-by2 .ensures))
 
 is-whole-requires : tie.Need-is-whole-requires
 is-whole-requires c κs = search needs
@@ -13,28 +21,28 @@ no-part-requires c κs = search needs
 
 returns : tie.Need-returns
 unfolding partBy
-returns c = c .no-part .ensures ∙ sym (simp (sym (c .before .before .is-whole .ensures) ∙ not-true _ (c .before .if1 .taken)))
+returns c = λ at. c .no-part .ensures ∙ sym (simp (sym (c .before .before .is-whole .ensures at (c .before .before .before .args .codes .now)) ∙ not-true _ (c .before .if1 .taken)))
 
-array-read-number-by : tie.Need-array-read-number-by
-array-read-number-by c = search needs
+element-copy-out-number-by : tie.Need-element-copy-out-number-by
+element-copy-out-number-by c = search needs
 
 number-by-requires : tie.Need-number-by-requires
 number-by-requires c κs = search needs
 
-array-read-flag-by : tie.Need-array-read-flag-by
-array-read-flag-by c = search needs
+element-copy-out-flag-by : tie.Need-element-copy-out-flag-by
+element-copy-out-flag-by c = search needs
 
 flag-by-requires : tie.Need-flag-by-requires
 flag-by-requires c κs = search needs
 
-array-read-flag-by-2 : tie.Need-array-read-flag-by-2
-array-read-flag-by-2 c = search needs
+element-copy-out-flag-by-2 : tie.Need-element-copy-out-flag-by-2
+element-copy-out-flag-by-2 c = search needs
 
 flag-by-requires-2 : tie.Need-flag-by-requires-2
 flag-by-requires-2 c κs = search needs
 
-array-read-number-by-2 : tie.Need-array-read-number-by-2
-array-read-number-by-2 c = search needs
+element-copy-out-number-by-2 : tie.Need-element-copy-out-number-by-2
+element-copy-out-number-by-2 c = search needs
 
 number-by-requires-2 : tie.Need-number-by-requires-2
 number-by-requires-2 c κs = search needs
@@ -43,33 +51,28 @@ no-part-requires-2 : tie.Need-no-part-requires-2
 no-part-requires-2 c κs = search needs
 
 returns-2 : tie.Need-returns-2
-unfolding partBy
-returns-2 c = c .no-part2 .ensures ∙ sym (simp (sym (c .before .before .before .before .before .before .before .before .is-whole .ensures) ∙ not-false _ (c .before .before .before .before .before .before .before .if1 .left), ← (c .before .before .before .before .before .number-by .ensures), ← (c .before .before .before .before .flag-by .ensures), ← (c .before .before .before .flag-by2 .ensures), ← (c .before .before .number-by2 .ensures), eq-eqb _ _ (c .before .if2 .taken)))
+returns-2 c = λ at. c .no-part2 .ensures ∙ sym (read (c .before .before) at ∙ simp (eq-eqb _ _ (c .before .if2 .taken)))
 
 no-part-requires-3 : tie.Need-no-part-requires-3
 no-part-requires-3 c κs = search needs
 
 returns-3 : tie.Need-returns-3
-unfolding partBy
-returns-3 c = c .no-part3 .ensures ∙ sym (simp (sym (c .before .before .before .before .before .before .before .before .before .is-whole .ensures) ∙ not-false _ (c .before .before .before .before .before .before .before .before .if1 .left), ← (c .before .before .before .before .before .before .number-by .ensures), ← (c .before .before .before .before .before .flag-by .ensures), ← (c .before .before .before .before .flag-by2 .ensures), ← (c .before .before .before .number-by2 .ensures), ne-eqb _ _ (c .before .before .if2 .left), eq-eqb _ _ (c .before .if3 .taken)))
+returns-3 c = λ at. c .no-part3 .ensures ∙ sym (read (c .before .before .before) at ∙ simp (ne-eqb _ _ (c .before .before .if2 .left), eq-eqb _ _ (c .before .if3 .taken)))
 
 no-part-requires-4 : tie.Need-no-part-requires-4
 no-part-requires-4 c κs = search needs
 
 returns-4 : tie.Need-returns-4
-unfolding partBy
-returns-4 c = c .no-part4 .ensures ∙ sym (simp (sym (c .before .before .before .before .before .before .before .before .before .before .is-whole .ensures) ∙ not-false _ (c .before .before .before .before .before .before .before .before .before .if1 .left), ← (c .before .before .before .before .before .before .before .number-by .ensures), ← (c .before .before .before .before .before .before .flag-by .ensures), ← (c .before .before .before .before .before .flag-by2 .ensures), ← (c .before .before .before .before .number-by2 .ensures), ne-eqb _ _ (c .before .before .before .if2 .left), ne-eqb _ _ (c .before .before .if3 .left), eq-eqb _ _ (c .before .if4 .taken)))
+returns-4 c = λ at. c .no-part4 .ensures ∙ sym (read (c .before .before .before .before) at ∙ simp (ne-eqb _ _ (c .before .before .before .if2 .left), ne-eqb _ _ (c .before .before .if3 .left), eq-eqb _ _ (c .before .if4 .taken)))
 
 no-part-requires-5 : tie.Need-no-part-requires-5
 no-part-requires-5 c κs = search needs
 
 returns-5 : tie.Need-returns-5
-unfolding partBy
-returns-5 c = c .no-part5 .ensures ∙ sym (simp (sym (c .before .before .before .before .before .before .before .before .before .before .before .is-whole .ensures) ∙ not-false _ (c .before .before .before .before .before .before .before .before .before .before .if1 .left), ← (c .before .before .before .before .before .before .before .before .number-by .ensures), ← (c .before .before .before .before .before .before .before .flag-by .ensures), ← (c .before .before .before .before .before .before .flag-by2 .ensures), ← (c .before .before .before .before .before .number-by2 .ensures), ne-eqb _ _ (c .before .before .before .before .if2 .left), ne-eqb _ _ (c .before .before .before .if3 .left), ne-eqb _ _ (c .before .before .if4 .left), le-ltb _ _ (c .before .if5 .taken)))
+returns-5 c = λ at. c .no-part5 .ensures ∙ sym (read (c .before .before .before .before .before) at ∙ simp (ne-eqb _ _ (c .before .before .before .before .if2 .left), ne-eqb _ _ (c .before .before .before .if3 .left), ne-eqb _ _ (c .before .before .if4 .left), le-ltb _ _ (c .before .if5 .taken)))
 
 returns-6 : tie.Need-returns-6
-unfolding partBy
-returns-6 c = sym (simp (sym (c .before .before .before .before .before .before .before .before .before .before .is-whole .ensures) ∙ not-false _ (c .before .before .before .before .before .before .before .before .before .if1 .left), ← (c .before .before .before .before .before .before .before .number-by .ensures), ← (c .before .before .before .before .before .before .flag-by .ensures), ← (c .before .before .before .before .before .flag-by2 .ensures), ← (c .before .before .before .before .number-by2 .ensures), ne-eqb _ _ (c .before .before .before .if2 .left), ne-eqb _ _ (c .before .before .if3 .left), ne-eqb _ _ (c .before .if4 .left), lt-ltb _ _ (c .if5 .left)))
+returns-6 c = λ at. sym (read (c .before .before .before .before) at ∙ simp (ne-eqb _ _ (c .before .before .before .if2 .left), ne-eqb _ _ (c .before .before .if3 .left), ne-eqb _ _ (c .before .if4 .left), lt-ltb _ _ (c .if5 .left)))
 
 pub part-of-spec : {M : Type 1} → statement M
 part-of-spec =
@@ -78,13 +81,13 @@ part-of-spec =
     is-whole-requires
     no-part-requires
     returns
-    array-read-number-by
+    element-copy-out-number-by
     number-by-requires
-    array-read-flag-by
+    element-copy-out-flag-by
     flag-by-requires
-    array-read-flag-by-2
+    element-copy-out-flag-by-2
     flag-by-requires-2
-    array-read-number-by-2
+    element-copy-out-number-by-2
     number-by-requires-2
     no-part-requires-2
     returns-2
