@@ -26,7 +26,7 @@ pub enum PathRead {
     BadPath,
 }
 
-// No slot.
+// The tags that a schema lists.
 const PATH: [bool; 10] = [
     true,
     true,
@@ -156,7 +156,7 @@ pub enum ClusterRead {
     BadCluster,
 }
 
-const CLUSTER: [bool; 10] = [
+const TRIPLE: [bool; 10] = [
     true,
     true,
     true,
@@ -185,7 +185,7 @@ fn sound_cluster(p: Cluster) -> bool
 pub fn cluster_of(s: &[u8], e: Element, left: usize) -> ClusterRead
     ensures { λ r. ⌜ r ≡ clusterRead (clusterOn left (now (s .entry)) e) ⌝ }
 {
-    let listed = CLUSTER;
+    let listed = TRIPLE;
     let stops = members::NO_STOP;
     let mut at = [0usize; 10];
     let mut codes = [0u64; 10];
@@ -230,19 +230,6 @@ const PAIR: [bool; 10] = [
     false,
 ];
 
-const FIRST: [bool; 10] = [
-    true,
-    false,
-    false,
-    false,
-    false,
-    false,
-    false,
-    false,
-    false,
-    false,
-];
-
 // DataVersionFilterIB: a structure with a cluster path (tag 0) and a version (tag 1), whose head was read.
 pub fn filter_of(s: &[u8], e: Element, left: usize) -> FilterRead
     ensures { λ r. ⌜ r ≡ filterRead (filterOn left (now (s .entry)) e) ⌝ }
@@ -251,7 +238,7 @@ pub fn filter_of(s: &[u8], e: Element, left: usize) -> FilterRead
         return FilterRead::BadFilter;
     }
     let listed = PAIR;
-    let stops = FIRST;
+    let stops = members::FIRST;
     let mut at = [0usize; 10];
     let mut codes = [0u64; 10];
     let m = members::begin(s, e, left, STRUCTURE, &listed, &stops, &mut at, &mut codes);
@@ -351,7 +338,7 @@ pub fn answer_of(s: &[u8], e: Element, left: usize) -> AnswerRead
         return AnswerRead::BadAnswer;
     }
     let listed = PAIR;
-    let stops = FIRST;
+    let stops = members::FIRST;
     let mut at = [0usize; 10];
     let mut codes = [0u64; 10];
     let m = members::begin(s, e, left, STRUCTURE, &listed, &stops, &mut at, &mut codes);
@@ -403,32 +390,6 @@ pub enum DataRead {
     BadData,
 }
 
-const TRIPLE: [bool; 10] = [
-    true,
-    true,
-    true,
-    false,
-    false,
-    false,
-    false,
-    false,
-    false,
-    false,
-];
-
-const SECOND: [bool; 10] = [
-    false,
-    true,
-    false,
-    false,
-    false,
-    false,
-    false,
-    false,
-    false,
-    false,
-];
-
 // AttributeDataIB: a structure with a version (tag 0, optional), a path (tag 1) and data (tag 2), whose head was read.
 pub fn data_of(s: &[u8], e: Element, left: usize) -> DataRead
     ensures { λ r. ⌜ r ≡ dataRead (dataOn left (now (s .entry)) e) ⌝ }
@@ -437,7 +398,7 @@ pub fn data_of(s: &[u8], e: Element, left: usize) -> DataRead
         return DataRead::BadData;
     }
     let listed = TRIPLE;
-    let stops = SECOND;
+    let stops = members::SECOND;
     let mut at = [0usize; 10];
     let mut codes = [0u64; 10];
     let m = members::begin(s, e, left, STRUCTURE, &listed, &stops, &mut at, &mut codes);

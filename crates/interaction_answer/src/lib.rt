@@ -75,25 +75,12 @@ const RESPONSE: [bool; 10] = [
     true,
 ];
 
-const STATUSES: [bool; 10] = [
-    true,
-    false,
-    false,
-    false,
-    false,
-    false,
-    false,
-    false,
-    false,
-    false,
-];
-
 // WriteResponseMessage: statuses (tag 0) and the revision.
 pub fn write_response(s: &[u8]) -> Answered
     ensures { λ r. ⌜ r ≡ oneRead (answeredIn (now (s .entry))) ⌝ }
 {
     let listed = RESPONSE;
-    let stops = STATUSES;
+    let stops = members::FIRST;
     let mut at = [0usize; 10];
     let mut codes = [0u64; 10];
     let m = interaction::begin_message(s, &listed, &stops, &mut at, &mut codes);

@@ -140,25 +140,12 @@ fn part_of(len: usize, m: Stop, codes: &[u64; 10], blocks: usize, first: usize) 
     }
 }
 
-const SECOND: [bool; 10] = [
-    false,
-    true,
-    false,
-    false,
-    false,
-    false,
-    false,
-    false,
-    false,
-    false,
-];
-
 // ReportDataMessage: SubscriptionID (tag 0), blocks (1), MoreChunkedMessages (3), SuppressResponse (4) and the revision.
 pub fn report_data(s: &[u8]) -> Part
     ensures { λ r. ⌜ r ≡ partRead (partIn (now (s .entry))) ⌝ }
 {
     let listed = REPORT;
-    let stops = SECOND;
+    let stops = members::SECOND;
     let mut at = [0usize; 10];
     let mut codes = [0u64; 10];
     let m = interaction::begin_message(s, &listed, &stops, &mut at, &mut codes);

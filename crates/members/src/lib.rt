@@ -70,10 +70,25 @@ pub fn refused(at: &mut [usize; 10], codes: &mut [u64; 10]) -> Stop
     }
 }
 
-// A pass that stops only at the container's end.
-pub const NO_STOP: [bool; 10] = [
+// A pass that stops only at the container's end, at the member of slot 0, or at that of slot 1.
+pub const NO_STOP: [bool; 10] = [false; 10];
+
+pub const FIRST: [bool; 10] = [
+    true,
     false,
     false,
+    false,
+    false,
+    false,
+    false,
+    false,
+    false,
+    false,
+];
+
+pub const SECOND: [bool; 10] = [
+    false,
+    true,
     false,
     false,
     false,
