@@ -7,6 +7,7 @@ use native.Mathlib.Omega.{arith}
 use borrow.Author.Tests.{ne-eqb}
 use lib.ListN.{length, getD}
 use lib.Dec.{eqb}
+use Rattle.bounds.specs.Bounds.{maxWrites}
 use Rattle.tlv.specs.declared.Element.{Element}
 use Rattle.tlv.specs.Octet.{pick, structure}
 use Rattle.tlv.specs.Tree.{Tree, Trees, SpellsMessage, tagOfTree}
@@ -16,20 +17,19 @@ use Rattle.tlv.specs.Walk.Got.{got, bad}
 use Rattle.tlv.specs.Decode.{Opt, bindO}
 use Rattle.tlv.specs.Decode.Opt.{just, nothing}
 use Rattle.members.specs.Fields.{slotT, slotIn}
-use Rattle.members.specs.declared.Pass.{Pass}
-use Rattle.members.specs.Pass.{codeIn, numberBy, flagBy}
+use Rattle.members.specs.Pass.{Pass, codeIn, numberBy, flagBy}
 use Rattle.members.specs.Scalar.{numberIn, flagIn}
 use Rattle.members.specs.Array.{mapO, requiredIn}
 use Rattle.members.proofs.OrderLaws.{Reordered}
 use Rattle.members.proofs.MeaningLaws.{at-place}
 use Rattle.members.proofs.ArrayLaws.{required-mapped, number-here, flag-here}
 use Rattle.members.proofs.PassLaws.{Left, Reads, number-coded, flag-coded}
-use Rattle.interaction.specs.Message.{given, structureAt, wholePass, listT, listAt, listOn}
+use Rattle.interaction.specs.Message.{given, structureAt, wholePass, listT, listAt, listOn, Kept, keptAs, ListRead, listRead}
 use Rattle.interaction.proofs.ListLaws.{list-law}
 use Rattle.interaction.proofs.PassLaws.{list-reads, whole-bad, whole-lacks, whole-passed}
 use Rattle.interaction.proofs.WholeLaws.{whole-law, whole-mapped, whole-any-order, whole-unlisted}
-use Rattle.interaction_write.specs.declared.EntryList.{EntryList}
-use Rattle.interaction_write.specs.Write.{EntryOf, entryAt, entryOn, entryT, entryTree, entriesStruct, entriesEnd, WriteOf, writeTags, unchunked, isEmpty, writeOf, writeFrom, writeIn, writeSlots, writeT, writeRead, writeMade, writeBy, writeTree}
+use Rattle.interaction_write.specs.declared.WriteCounts.{WriteCounts}
+use Rattle.interaction_write.specs.Write.{EntryOf, entryAt, entryOn, entryT, entryTree, entrySize, keptWords, WriteOf, writeTags, unchunked, isEmpty, writeOf, writeFrom, writeIn, writeSlots, writeT, WriteKept, writeWith, writeKept, noWrite, writeMade, writeBy, writeTree}
 use Rattle.interaction_write.proofs.EntryLaws.{entry-law, entry-reads}
 
 -- ---- for the code
@@ -52,20 +52,20 @@ write-lacks s xs e = rw e (go (given (flagIn s (getD xs 0 0))) (given (flagIn s 
     go true true true false = refl
     go true true true true = refl
 
-module _ (s : List ℕ) (e : Element) (f : EntryList) (q : f ≡ entriesEnd (listOn entryAt 9 s e)) where
-  pub entries-bad : f .entries .good ≡ false → listOn entryAt 9 s e ≡ bad
+module _ (s : List ℕ) (e : Element) (old : List ℕ) {f : ListRead} (q : f ≡ listRead maxWrites entrySize keptWords old (listOn entryAt 9 s e)) where
+  pub entries-bad : f .good ≡ false → listOn entryAt 9 s e ≡ bad
   entries-bad g = go (listOn entryAt 9 s e) q
     where
-      go : (x : Got (List (EntryOf ℕ))) → f ≡ entriesEnd x → x ≡ bad
+      go : (x : Got (List (EntryOf ℕ))) → f ≡ listRead maxWrites entrySize keptWords old x → x ≡ bad
       go bad z = refl
-      go (got l n) z = absurd (clash (sym (ap (λ (y : EntryList). y .entries .good) z) ∙ g))
+      go (got l n) z = absurd (clash (sym (ap (λ (y : ListRead). y .good) z) ∙ g))
 
-  pub entries-good : f .entries .good ≡ true → (l : List (EntryOf ℕ)) × (listOn entryAt 9 s e ≡ got l (f .next .at)) × (f .entries ≡ entriesStruct l)
+  pub entries-good : f .good ≡ true → (l : List (EntryOf ℕ)) × (listOn entryAt 9 s e ≡ got l (f .next .at)) × (f .kept ≡ keptAs maxWrites keptWords old l)
   entries-good g = go (listOn entryAt 9 s e) q
     where
-      go : (x : Got (List (EntryOf ℕ))) → f ≡ entriesEnd x → (l : List (EntryOf ℕ)) × (x ≡ got l (f .next .at)) × (f .entries ≡ entriesStruct l)
-      go bad z = absurd (clash (sym g ∙ ap (λ (y : EntryList). y .entries .good) z))
-      go (got l n) z = (l, ap (got l) (sym (ap (λ (y : EntryList). y .next .at) z)), ap (λ (y : EntryList). y .entries) z)
+      go : (x : Got (List (EntryOf ℕ))) → f ≡ listRead maxWrites entrySize keptWords old x → (l : List (EntryOf ℕ)) × (x ≡ got l (f .next .at)) × (f .kept ≡ keptAs maxWrites keptWords old l)
+      go bad z = absurd (clash (sym g ∙ ap (λ (y : ListRead). y .good) z))
+      go (got l n) z = (l, ap (got l) (sym (ap (λ (y : ListRead). y .next .at) z)), ap (λ (y : ListRead). y .kept) z)
 
 from : (s xs ks : List ℕ) → ks ≡ map (codeIn s) xs → {l : List (EntryOf ℕ)} → requiredIn (listAt entryAt 9 s) (getD xs 2 0) ≡ just l → writeFrom s xs ≡ writeOf (flagBy (getD ks 0 0)) (flagBy (getD ks 1 0)) (flagBy (getD ks 3 0)) (numberBy 255 false (getD ks 9 0)) (just l)
 unfolding writeFrom
@@ -75,10 +75,14 @@ no-entry : (l : List (EntryOf ℕ)) → eqb (length l) 0 ≡ isEmpty l
 no-entry [] = refl
 no-entry (x ∷ l) = ne-eqb (length (x ∷ l)) 0 (λ z. omega arith)
 
-made : (su ti mo re : ℕ) (l : List (EntryOf ℕ)) (w : Bool) → pick w (writeMade su ti mo re (entriesStruct l)) (writeRead nothing) ≡ writeRead (pick w (writeOf su ti mo re (just l)) nothing)
-made su ti mo re l w = rw (no-entry l) (go w (given su) (given ti) (unchunked mo) (given re) (isEmpty l))
+-- what is kept of a request that was made or refused
+abbrev pub keptOf : List ℕ → WriteCounts → Kept → WriteKept
+keptOf old r k = pick (r .good) (writeWith r (k .words)) (writeKept old nothing)
+
+made : (old : List ℕ) (su ti mo re : ℕ) (l : List (EntryOf ℕ)) (w : Bool) → keptOf old (pick w (writeMade su ti mo re (length l)) noWrite) (keptAs maxWrites keptWords old l) ≡ writeKept old (pick w (writeOf su ti mo re (just l)) nothing)
+made old su ti mo re l w = rw (no-entry l) (go w (given su) (given ti) (unchunked mo) (given re) (isEmpty l))
   where
-    go : (w a b c d x : Bool) → let full : WriteOf ℕ = record { suppress = su; timed = ti; entries = l } in pick w (pick a (pick b (pick c (pick d (pick x (writeRead nothing) (writeRead (just full))) (writeRead nothing)) (writeRead nothing)) (writeRead nothing)) (writeRead nothing)) (writeRead nothing) ≡ writeRead (pick w (pick a (pick b (pick c (pick d (pick x nothing (just full)) nothing) nothing) nothing) nothing) nothing)
+    go : (w a b c d x : Bool) → let full : WriteOf ℕ = record { suppress = su; timed = ti; entries = l } in keptOf old (pick w (pick a (pick b (pick c (pick d (pick x noWrite (record { good = true; suppress = su; timed = ti; entries = length l })) noWrite) noWrite) noWrite) noWrite) noWrite) (keptAs maxWrites keptWords old l) ≡ writeKept old (pick w (pick a (pick b (pick c (pick d (pick x nothing (just full)) nothing) nothing) nothing) nothing) nothing)
     go false a b c d x = refl
     go true false b c d x = refl
     go true true false c d x = refl
@@ -88,15 +92,22 @@ made su ti mo re l w = rw (no-entry l) (go w (given su) (given ti) (unchunked mo
     go true true true true true false = refl
 
 -- what is made of the members is what the code makes of their codes
-pub write-passed : {s before : List ℕ} {stops : List Bool} {z : Pass} → Left 9 s structure writeTags stops before (structureAt writeTags s) z → 10 ≤ z .slot → (l : List (EntryOf ℕ)) → (z .good ≡ true → requiredIn (listAt entryAt 9 s) (getD (z .at) 2 0) ≡ just l) → writeBy (length s) z (entriesStruct l) ≡ writeRead (writeIn s)
+pub write-passed : (old : List ℕ) {s before : List ℕ} {stops : List Bool} {z : Pass} → Left 9 s structure writeTags stops before (structureAt writeTags s) z → 10 ≤ z .slot → (l : List (EntryOf ℕ)) → (z .good ≡ true → requiredIn (listAt entryAt 9 s) (getD (z .at) 2 0) ≡ just l) → keptOf old (writeBy (length s) z (length l)) (keptAs maxWrites keptWords old l) ≡ writeKept old (writeIn s)
 unfolding writeBy writeIn
-write-passed {s} {z = z} L o l some = by (z .good) refl
+write-passed old {s} {z = z} L o l some = by (z .good) refl
   where
-    by : (b : Bool) → z .good ≡ b → writeBy (length s) z (entriesStruct l) ≡ writeRead (writeIn s)
-    by false g = rw (whole-bad (length s) z g) (sym (ap writeRead (whole-lacks (writeFrom s) L o (λ h. absurd (clash (sym h ∙ g))))))
+    by : (b : Bool) → z .good ≡ b → keptOf old (writeBy (length s) z (length l)) (keptAs maxWrites keptWords old l) ≡ writeKept old (writeIn s)
+    by false g = rw (whole-bad (length s) z g) (sym (ap (writeKept old) (whole-lacks (writeFrom s) L o (λ h. absurd (clash (sym h ∙ g))))))
     by true g =
-        made (flagBy (getD (z .codes) 0 0)) (flagBy (getD (z .codes) 1 0)) (flagBy (getD (z .codes) 3 0)) (numberBy 255 false (getD (z .codes) 9 0)) l (wholePass (length s) z)
-        ∙ sym (ap writeRead (whole-passed (writeFrom s) L o ∙ ap (λ x. pick (wholePass (length s) z) x nothing) (from s (z .at) (z .codes) (L .coded) (some g))))
+        made old (flagBy (getD (z .codes) 0 0)) (flagBy (getD (z .codes) 1 0)) (flagBy (getD (z .codes) 3 0)) (numberBy 255 false (getD (z .codes) 9 0)) l (wholePass (length s) z)
+        ∙ sym (ap (writeKept old) (whole-passed (writeFrom s) L o ∙ ap (λ x. pick (wholePass (length s) z) x nothing) (from s (z .at) (z .codes) (L .coded) (some g))))
+
+module _ (old : List ℕ) (o : Opt (WriteOf ℕ)) (r : WriteCounts) (k : Kept) (p : keptOf old r k ≡ writeKept old o) where
+  pub kept-none : r .good ≡ false → writeKept old nothing ≡ writeKept old o
+  kept-none g = sym (ap (λ (b : Bool). pick b (writeWith r (k .words)) (writeKept old nothing)) g) ∙ p
+
+  pub kept-some : r .good ≡ true → writeWith r (k .words) ≡ writeKept old o
+  kept-some g = sym (ap (λ (b : Bool). pick b (writeWith r (k .words)) (writeKept old nothing)) g) ∙ p
 
 -- ---- the law of the message
 

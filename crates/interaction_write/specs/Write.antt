@@ -1,10 +1,10 @@
 -- The Write Request (chapter 10, 10.6.6; document 01, Spelling and On the wire). In bytes an entry's data is the place where it
 -- stands, in trees it is a tree.
-use Prim.Native.Nat.{ℕ, _-_}
+use Prim.Native.Nat.{ℕ, _+_, _-_, _*_}
 use mathlib.Core.List.{List, [], _∷_, map}
 use mathlib.Core.Bool.{Bool, true, false}
-use lib.ListN.{length, getD, replicate}
-use lib.Dec.{ltb, eqb}
+use lib.ListN.{length, getD}
+use lib.Dec.{eqb}
 use Rattle.bounds.specs.Bounds.{maxDepth, maxWrites}
 use Rattle.tlv.specs.Octet.{pick, array}
 use Rattle.tlv.specs.Tree.{Tree, Trees}
@@ -16,19 +16,16 @@ use Rattle.members.specs.Fields.{Slot, orNone}
 use Rattle.members.specs.Fields.Slot.{absent}
 use Rattle.members.specs.Scalar.{ABSENT, numberIn, flagIn, numberT, flagT}
 use Rattle.members.specs.Array.{eachStep, requiredIn, requiredT}
-use Rattle.members.specs.declared.Pass.{Pass}
-use Rattle.members.specs.Pass.{numberBy, flagBy}
+use Rattle.members.specs.Pass.{Pass, numberBy, flagBy}
 use Rattle.blocks.specs.declared.Data.{Data}
 use Rattle.blocks.specs.Path.{exactP}
 use Rattle.blocks.specs.Data.{DataOf, dataOn, dataAt, dataT}
-use Rattle.interaction.specs.Message.{snoc, listT, listAt, firstOf, given, wholePass, wholeIn, wholeT}
+use Rattle.interaction.specs.Message.{snoc, listT, listAt, given, wholePass, wholeIn, wholeT, Firsts, firsts, noFirsts, Kept, keptAs, keptNone}
 use Rattle.tlv.specs.declared.Element.{Element}
 use Rattle.interaction_write.specs.declared.EntryRead.{EntryRead}
 use Rattle.interaction_write.specs.declared.EntryRead.the-variants as entry
 use Rattle.interaction_write.specs.declared.Entry.{Entry}
-use Rattle.interaction_write.specs.declared.Entries.{Entries}
-use Rattle.interaction_write.specs.declared.EntryList.{EntryList}
-use Rattle.interaction_write.specs.declared.WriteRequest.{WriteRequest}
+use Rattle.interaction_write.specs.declared.WriteCounts.{WriteCounts}
 
 -- an entry, over what data is
 pub record EntryOf (D : Type 0) : Type 0 where
@@ -81,21 +78,22 @@ entryOf d = record { version = d .version; endpoint = d .path .endpoint; cluster
 abbrev pub noEntry : Entry
 noEntry = record { version = 0; endpoint = 0; cluster = 0; attribute = 0; place = 0 }
 
-abbrev pub entriesStruct : List (EntryOf ℕ) → Entries
-entriesStruct l = record { good = true; count = length l; kept = firstOf maxWrites noEntry (map entryStruct l) }
+abbrev pub entriesStruct : List (EntryOf ℕ) → Firsts Entry
+entriesStruct l = firsts maxWrites noEntry (map entryStruct l)
 
-abbrev pub entriesRead : Got (List (EntryOf ℕ)) → Entries
-entriesRead bad = record { good = false; count = 0; kept = replicate maxWrites noEntry }
-entriesRead (got l n) = entriesStruct l
+-- in words, and back
+abbrev pub entrySize : ℕ
+entrySize = 5
 
--- with where the array ends
-abbrev pub entriesEnd : Got (List (EntryOf ℕ)) → EntryList
-entriesEnd bad = record { entries = entriesRead bad; next = record { at = 0 } }
-entriesEnd (got l n) = record { entries = entriesStruct l; next = record { at = n } }
+abbrev pub entryWords : Entry → List ℕ
+entryWords x = x .version ∷ x .endpoint ∷ x .cluster ∷ x .attribute ∷ x .place ∷ []
 
-abbrev pub entriesOpt : Opt (List (EntryOf ℕ)) → Entries
-entriesOpt nothing = record { good = false; count = 0; kept = replicate maxWrites noEntry }
-entriesOpt (just l) = entriesStruct l
+abbrev pub keptWords : EntryOf ℕ → List ℕ
+keptWords x = entryWords (entryStruct x)
+
+unfoldable pub entryIn : List ℕ → ℕ → Entry
+entryIn l i =
+    record { version = getD l (i * entrySize) 0; endpoint = getD l (i * entrySize + 1) 0; cluster = getD l (i * entrySize + 2) 0; attribute = getD l (i * entrySize + 3) 0; place = getD l (i * entrySize + 4) 0 }
 
 -- THE MEANING of a write
 pub record WriteOf (D : Type 0) : Type 0 where
@@ -138,29 +136,53 @@ writeSlots xs =
 unfoldable pub writeT : Trees → Opt (WriteOf Tree)
 writeT ts = wholeT writeTags writeSlots ts
 
--- as the code has it
+-- A REQUEST: whether it is well-formed, its two flags, and the first of its entries
+pub record WriteRequest : Type 0 where
+  pub good : Bool
+  pub suppress : ℕ
+  pub timed : ℕ
+  pub entries : Firsts Entry
+
 abbrev pub writeRead : Opt (WriteOf ℕ) → WriteRequest
-writeRead nothing = record { good = false; suppress = 0; timed = 0; entries = entriesOpt nothing }
+writeRead nothing = record { good = false; suppress = 0; timed = 0; entries = noFirsts maxWrites noEntry }
 writeRead (just w) = record { good = true; suppress = w .suppress; timed = w .timed; entries = entriesStruct (w .entries) }
 
--- by a pass over the request's members that has ended, with its entries
-abbrev pub writeMade : ℕ → ℕ → ℕ → ℕ → Entries → WriteRequest
-writeMade suppress timed more revision es =
+-- ---- AS THE CODE HAS IT: the count, and the entries in the words that are lent
+
+pub record WriteKept : Type 0 where
+  pub good : Bool
+  pub suppress : ℕ
+  pub timed : ℕ
+  pub entries : Kept
+
+abbrev pub writeWith : WriteCounts → List ℕ → WriteKept
+writeWith r words = record { good = r .good; suppress = r .suppress; timed = r .timed; entries = record { count = r .entries; words = words } }
+
+abbrev pub writeKept : List ℕ → Opt (WriteOf ℕ) → WriteKept
+writeKept words nothing = record { good = false; suppress = 0; timed = 0; entries = keptNone (maxWrites * entrySize) }
+writeKept words (just w) = record { good = true; suppress = w .suppress; timed = w .timed; entries = keptAs maxWrites keptWords words (w .entries) }
+
+abbrev pub noWrite : WriteCounts
+noWrite = record { good = false; suppress = 0; timed = 0; entries = 0 }
+
+-- by a pass over the request's members that has ended, with so many entries
+abbrev pub writeMade : ℕ → ℕ → ℕ → ℕ → ℕ → WriteCounts
+writeMade suppress timed more revision count =
     pick (given suppress)
     (pick (given timed)
     (pick (unchunked more)
     (pick (given revision)
-    (pick (eqb (es .count) 0) (writeRead nothing) (record { good = true; suppress = suppress; timed = timed; entries = es }))
-    (writeRead nothing))
-    (writeRead nothing))
-    (writeRead nothing))
-    (writeRead nothing)
+    (pick (eqb count 0) noWrite (record { good = true; suppress = suppress; timed = timed; entries = count }))
+    noWrite)
+    noWrite)
+    noWrite)
+    noWrite
 
-unfoldable pub writeBy : ℕ → Pass → Entries → WriteRequest
-writeBy len m es =
+unfoldable pub writeBy : ℕ → Pass → ℕ → WriteCounts
+writeBy len m count =
     pick (wholePass len m)
-    (writeMade (flagBy (getD (m .codes) 0 0)) (flagBy (getD (m .codes) 1 0)) (flagBy (getD (m .codes) 3 0)) (numberBy 255 false (getD (m .codes) 9 0)) es)
-    (writeRead nothing)
+    (writeMade (flagBy (getD (m .codes) 0 0)) (flagBy (getD (m .codes) 1 0)) (flagBy (getD (m .codes) 3 0)) (numberBy 255 false (getD (m .codes) 9 0)) count)
+    noWrite
 
 -- the tree that stands at a place, for each entry
 abbrev pub entryTree : ℕ → List ℕ → EntryOf ℕ → EntryOf Tree

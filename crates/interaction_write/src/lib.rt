@@ -1,15 +1,19 @@
 // Write Requests, read to their meaning (chapter 10, section 10.6.6; document 01, Spelling and On the wire).
 ghost use mathlib.Core.Path.{_≡_};
-ghost use Rattle.tlv.specs.Walk.Got.{bad};
-ghost use Rattle.tlv.specs.Decode.Opt.{nothing};
-ghost use Rattle.interaction.specs.Message.{listOn};
-ghost use Rattle.interaction_write.specs.Write.{entryOf, entryAt, entryOn, entryRead, entriesAt, entriesRead, entriesEnd, unchunked, writeIn, writeRead, writeBy};
+ghost use mathlib.Core.List.{List};
+ghost use Prim.Native.Nat.{ℕ, _<_};
+ghost use Rattle.bounds.specs.Bounds.{maxWrites};
+ghost use Rattle.members.specs.Pass.{passWith};
+ghost use Rattle.interaction.specs.Message.{listOn, keepMore, listWith, listRead};
+ghost use Rattle.interaction_write.specs.Write.{entryOf, entryAt, entryOn, entryRead, entrySize, entryWords, entryIn, keptWords, entriesAt, unchunked, noWrite, writeIn, writeWith, writeKept, writeBy};
 use blocks::Data;
 use blocks::DataRead;
 use bounds::MAX_WRITES;
+use interaction::Listed;
+use interaction::NO_LIST;
 use members::ABSENT;
 use members::Item;
-use members::Pass;
+use members::Stop;
 use tlv::Cursor;
 use tlv::Element;
 
@@ -22,45 +26,37 @@ pub struct Entry {
     pub place: usize,
 }
 
-// The entries of a write: how many, and the first of them.
-pub struct Entries {
-    pub good: bool,
-    pub count: usize,
-    pub kept: [Entry; MAX_WRITES],
-}
+// The words that the first entries of a write are kept in: the fields of one entry after the other.
+pub const ENTRY_WORDS: usize = MAX_WRITES * 5;
 
-const NO_ENTRY: Entry = Entry {
-    version: 0,
-    endpoint: 0,
-    cluster: 0,
-    attribute: 0,
-    place: 0,
-};
-
-fn no_entries() -> Entries
-    ensures { λ r. ⌜ r ≡ entriesRead bad ⌝ }
+// Entry number i.
+pub fn entry_in(entries: &[u64; ENTRY_WORDS], i: usize) -> Entry
+    requires { ⌜ i < maxWrites ⌝ }
+    ensures { λ r. ⌜ r ≡ entryIn (now (entries .entry)) i ⌝ }
 {
-    Entries {
-        good: false,
-        count: 0,
-        kept: [NO_ENTRY; MAX_WRITES],
+    let at = i * 5;
+    Entry {
+        version: entries[at],
+        endpoint: entries[at + 1],
+        cluster: entries[at + 2],
+        attribute: entries[at + 3],
+        place: entries[at + 4] as usize,
     }
 }
 
-// The entries of an array, and where it ends.
-pub struct EntryList {
-    pub entries: Entries,
-    pub next: Cursor,
-}
-
-fn no_list() -> EntryList
-    ensures { λ r. ⌜ r ≡ entriesEnd bad ⌝ }
+// One entry more, if there is room.
+fn keep_entry(kept: &mut [u64; ENTRY_WORDS], count: usize, x: Entry)
+    ensures { λ _. ⌜ now (kept .exit) ≡ keepMore maxWrites entrySize entryWords (now (kept .entry)) count x ⌝ }
 {
-    let entries = no_entries();
-    EntryList {
-        entries,
-        next: Cursor { at: 0 },
+    if MAX_WRITES <= count {
+        return;
     }
+    let at = count * 5;
+    kept[at] = x.version;
+    kept[at + 1] = x.endpoint;
+    kept[at + 2] = x.cluster;
+    kept[at + 3] = x.attribute;
+    kept[at + 4] = x.place as u64;
 }
 
 fn entry_of(d: Data) -> Entry
@@ -96,33 +92,31 @@ fn entry_at(s: &[u8], e: Element, left: usize) -> EntryRead
 }
 
 // The entries of an array from one of its members on: all are checked and counted, the first are kept.
-pub fn entries_from(s: &[u8], c: Cursor, left: usize) -> EntryList
-    ensures { λ r. ⌜ r ≡ entriesEnd (entriesAt left (now (s .entry)) (c .at)) ⌝ }
+pub fn entries_from(s: &[u8], c: Cursor, left: usize, kept: &mut [u64; ENTRY_WORDS]) -> Listed
+    ensures { λ r. ⌜ listWith r (now (kept .exit)) ≡ listRead maxWrites entrySize keptWords (now (kept .entry)) (entriesAt left (now (s .entry)) (c .at)) ⌝ }
 {
     let mut count: usize = 0;
-    let mut kept = [NO_ENTRY; MAX_WRITES];
     let mut at = c.at;
     loop {
         let item = members::item_at(s, Cursor { at }, tlv::ARRAY);
         match item {
             Item::BadItem => {
-                return no_list();
+                *kept = [0u64; ENTRY_WORDS];
+                return NO_LIST;
             }
             Item::Ended(next) => {
-                let entries = Entries {
+                return Listed {
                     good: true,
                     count,
-                    kept,
+                    next,
                 };
-                return EntryList { entries, next };
             }
             Item::Member(e) => {
                 let EntryRead::Entry(t, next) = entry_at(s, e, left) else {
-                    return no_list();
+                    *kept = [0u64; ENTRY_WORDS];
+                    return NO_LIST;
                 };
-                if count < MAX_WRITES {
-                    kept[count] = t;
-                }
+                keep_entry(kept, count, t);
                 count += 1;
                 at = next.at;
             }
@@ -131,17 +125,19 @@ pub fn entries_from(s: &[u8], c: Cursor, left: usize) -> EntryList
 }
 
 // The entries of the array whose head was read.
-fn entries_of(s: &[u8], e: Element, left: usize) -> EntryList
-    ensures { λ r. ⌜ r ≡ entriesEnd (listOn entryAt left (now (s .entry)) e) ⌝ }
+fn entries_of(s: &[u8], e: Element, left: usize, kept: &mut [u64; ENTRY_WORDS]) -> Listed
+    ensures { λ r. ⌜ listWith r (now (kept .exit)) ≡ listRead maxWrites entrySize keptWords (now (kept .entry)) (listOn entryAt left (now (s .entry)) e) ⌝ }
 {
     if e.kind != tlv::ARRAY {
-        return no_list();
+        *kept = [0u64; ENTRY_WORDS];
+        return NO_LIST;
     }
     if left == 0 {
-        return no_list();
+        *kept = [0u64; ENTRY_WORDS];
+        return NO_LIST;
     }
     let c = e.next;
-    entries_from(s, c, left - 1)
+    entries_from(s, c, left - 1, kept)
 }
 
 // A write that is no part of a longer one: MoreChunkedMessages false or absent.
@@ -154,12 +150,12 @@ fn is_unchunked(more: u64) -> bool
     more == ABSENT
 }
 
-// A write request: whether it is well-formed, whether its answer is suppressed, whether a timed one is meant, and its entries.
-pub struct WriteRequest {
+// A write request: whether it is well-formed, whether its answer is suppressed, whether a timed one is meant, and how many entries it has.
+pub struct WriteCounts {
     pub good: bool,
     pub suppress: u64,
     pub timed: u64,
-    pub entries: Entries,
+    pub entries: usize,
 }
 
 const WRITE: [bool; 10] = [
@@ -175,29 +171,28 @@ const WRITE: [bool; 10] = [
     true,
 ];
 
-fn refused_write() -> WriteRequest
-    ensures { λ r. ⌜ r ≡ writeRead nothing ⌝ }
+fn refused_write() -> WriteCounts
+    ensures { λ r. ⌜ r ≡ noWrite ⌝ }
 {
-    WriteRequest {
+    WriteCounts {
         good: false,
         suppress: 0,
         timed: 0,
-        entries: no_entries(),
+        entries: 0,
     }
 }
 
-// The request whose members were passed, with its entries.
-fn write_of(len: usize, m: Pass, entries: Entries) -> WriteRequest
-    ensures { λ r. ⌜ r ≡ writeBy len m entries ⌝ }
+// The request whose members were passed, with so many entries.
+fn write_of(len: usize, m: Stop, codes: &[u64; 10], entries: usize) -> WriteCounts
+    ensures { λ r. ⌜ ((at : List ℕ) → r ≡ writeBy len (passWith m at (now (codes .entry))) entries) ⌝ }
 {
     if !interaction::is_whole(m, len) {
         return refused_write();
     }
-    let k = m.codes;
-    let suppress = members::flag_by(k[0]);
-    let timed = members::flag_by(k[1]);
-    let more = members::flag_by(k[3]);
-    let revision = members::number_by(k[9], 255, false);
+    let suppress = members::flag_by(codes[0]);
+    let timed = members::flag_by(codes[1]);
+    let more = members::flag_by(codes[3]);
+    let revision = members::number_by(codes[9], 255, false);
     if ABSENT <= suppress {
         return refused_write();
     }
@@ -210,10 +205,10 @@ fn write_of(len: usize, m: Pass, entries: Entries) -> WriteRequest
     if ABSENT <= revision {
         return refused_write();
     }
-    if entries.count == 0 {
+    if entries == 0 {
         return refused_write();
     }
-    WriteRequest {
+    WriteCounts {
         good: true,
         suppress,
         timed,
@@ -235,31 +230,37 @@ const ENTRIES: [bool; 10] = [
 ];
 
 // WriteRequestMessage: SuppressResponse (tag 0), TimedRequest (1), the entries (2), MoreChunkedMessages (3) and the revision.
-pub fn write_request(s: &[u8]) -> WriteRequest
-    ensures { λ r. ⌜ r ≡ writeRead (writeIn (now (s .entry))) ⌝ }
+pub fn write_request(s: &[u8], entries: &mut [u64; ENTRY_WORDS]) -> WriteCounts
+    ensures { λ r. ⌜ writeWith r (now (entries .exit)) ≡ writeKept (now (entries .entry)) (writeIn (now (s .entry))) ⌝ }
 {
     let listed = WRITE;
     let stops = ENTRIES;
-    let m = interaction::begin_message(s, &listed, &stops);
+    let mut at = [0usize; 10];
+    let mut codes = [0u64; 10];
+    let m = interaction::begin_message(s, &listed, &stops, &mut at, &mut codes);
     if 10 <= m.slot {
+        *entries = [0u64; ENTRY_WORDS];
         return refused_write();
     }
     let inner = m.head;
-    let f = entries_of(s, inner, bounds::MAX_DEPTH - 1);
-    let entries = f.entries;
-    if !entries.good {
+    let f = entries_of(s, inner, bounds::MAX_DEPTH - 1, entries);
+    if !f.good {
         return refused_write();
     }
     let after = f.next;
-    let never = members::NO_STOP;
-    let z = members::resume(
+    let z = members::finish(
         s,
         after,
         bounds::MAX_DEPTH - 1,
         tlv::STRUCTURE,
         &listed,
-        &never,
-        m,
+        &mut at,
+        &mut codes,
     );
-    write_of(s.len(), z, entries)
+    let r = write_of(s.len(), z, &codes, f.count);
+    if !r.good {
+        *entries = [0u64; ENTRY_WORDS];
+        return refused_write();
+    }
+    r
 }

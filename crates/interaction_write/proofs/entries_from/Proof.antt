@@ -1,28 +1,27 @@
 use mathlib.Core.Path.{_≡_, refl, sym, ap, _∙_}
-use mathlib.Core.Logic.{⊎-elim}
 use mathlib.Core.Bool.{true}
 use Prim.Native.Nat.{_-_}
 use native.Mathlib.Omega.{arith}
 use lib.ListN.{length}
 use borrow.Author.Needs.{needs}
-use borrow.Author.Tests.{lt-ltb, le-ltb}
-use Rattle.interaction.specs.Message.{keepOf}
-use Rattle.interaction_write.specs.declared.Entry.{Entry}
-use Rattle.interaction_write.specs.Write.{noEntry, entryStruct, entriesAt, entriesFrom, entriesEnd, entryOn}
+use Rattle.bounds.specs.Bounds.{maxWrites}
+use Rattle.interaction.specs.Message.{keepMore, listRead}
 use Rattle.interaction.proofs.LoopLaws.{Loop, loop-starts, loop-bad, loop-ends, loop-refuses, loop-nearer, loop-room, loop-goes}
+use Rattle.interaction_write.specs.declared.Entry.{Entry}
+use Rattle.interaction_write.specs.Write.{entrySize, entryWords, keptWords, entriesAt, entriesFrom, entryOn}
 use Rattle.interaction_write.proofs.EntryLaws.{entry-reads, entry-none, entry-some}
 use Rattle.interaction_write.proofs.entries_from.Statement.{statement}
 use Rattle.interaction_write.proofs.entries_from.Tie as tie
 
 abbrev Inv-loop : tie.InvT-loop
-Inv-loop s left count₀ kept₀ at₀ count kept at = Loop entryStruct 16 noEntry left s (entry-reads left s) (entriesAt left s at₀) count kept at
+Inv-loop s left kept₀ count₀ at₀ kept count at = Loop keptWords maxWrites kept₀ left s (entry-reads left s) (entriesAt left s at₀) count kept at
 
 abbrev μ-loop : tie.MeasureT-loop
-μ-loop s left count₀ kept₀ at₀ count kept at = length s - at
+μ-loop s left kept₀ count₀ at₀ kept count at = length s - at
 
 loop-holds : tie.Need-loop-holds Inv-loop μ-loop
 unfolding entriesAt entriesFrom
-loop-holds c = let a = c .before .args in loop-starts entryStruct 16 noEntry (a .left) (a .s .now) (entry-reads (a .left) (a .s .now)) (entriesAt (a .left) (a .s .now) (a .c .at)) (a .c .at) refl
+loop-holds c = let a = c .before .args in loop-starts keptWords maxWrites (a .kept .now) (a .left) (a .s .now) (entry-reads (a .left) (a .s .now)) (entriesAt (a .left) (a .s .now) (a .c .at)) (a .c .at) refl
 
 item-at-requires : tie.Need-item-at-requires Inv-loop μ-loop
 item-at-requires c κs = search needs
@@ -30,19 +29,16 @@ item-at-requires c κs = search needs
 enum-told : tie.Need-enum-told Inv-loop μ-loop
 enum-told c = search needs
 
-no-list-requires : tie.Need-no-list-requires Inv-loop μ-loop
-no-list-requires c κs = search needs
-
 returns : tie.Need-returns Inv-loop μ-loop
-returns c = let a = c .before .before .before .before .before .before .args in let d = a .left in let s = a .s .now in let l = c .before .before .before .before .loop in let g = entriesAt d s (a .c .at) in
-    c .no-list .ensures ∙ ap entriesEnd (sym (loop-bad entryStruct 16 noEntry d s (entry-reads d s) g (l .inv) (sym (c .before .before .before .item-at .ensures) ∙ c .before .enum-told .given .1)))
+returns c = let a = c .before .before .before .before .before .before .args in let d = a .left in let s = a .s .now in let l = c .before .before .before .before .loop in let o = a .kept .now in let g = entriesAt d s (a .c .at) in
+    sym (ap (listRead maxWrites entrySize keptWords o) (loop-bad keptWords maxWrites o d s (entry-reads d s) g (l .inv) (sym (c .before .before .before .item-at .ensures) ∙ c .before .enum-told .given .1)))
 
 enum-known-item : tie.Need-enum-known-item Inv-loop μ-loop
 enum-known-item c = search needs
 
 returns-2 : tie.Need-returns-2 Inv-loop μ-loop
-returns-2 c = let a = c .before .before .before .before .before .before .args in let d = a .left in let s = a .s .now in let l = c .before .before .before .before .loop in let g = entriesAt d s (a .c .at) in
-    (λ j. record { entries = record { good = true; count = l .inv .counted j; kept = l .inv .kept j }; next = c .before .item .given .0 .0 }) ∙ ap entriesEnd (sym (loop-ends entryStruct 16 noEntry d s (entry-reads d s) g (l .inv) (sym (c .before .before .before .item-at .ensures) ∙ c .before .item .given .1)))
+returns-2 c = let a = c .before .before .before .before .before .before .args in let d = a .left in let s = a .s .now in let l = c .before .before .before .before .loop in let o = a .kept .now in let g = entriesAt d s (a .c .at) in
+    (λ j. record { good = true; kept = record { count = l .inv .counted j; words = l .inv .kept j }; next = c .before .item .given .0 .0 }) ∙ sym (ap (listRead maxWrites entrySize keptWords o) (loop-ends keptWords maxWrites o d s (entry-reads d s) g (l .inv) (sym (c .before .before .before .item-at .ensures) ∙ c .before .item .given .1)))
 
 enum-known-item-2 : tie.Need-enum-known-item-2 Inv-loop μ-loop
 enum-known-item-2 c = search needs
@@ -56,34 +52,24 @@ enum-known-t c = search needs
 enum-told-2 : tie.Need-enum-told-2 Inv-loop μ-loop
 enum-told-2 c = search needs
 
-no-list-requires-2 : tie.Need-no-list-requires-2 Inv-loop μ-loop
-no-list-requires-2 c κs = search needs
-
 returns-3 : tie.Need-returns-3 Inv-loop μ-loop
-returns-3 c = let a = c .before .before .before .before .before .before .before .before .before .before .args in let d = a .left in let s = a .s .now in let l = c .before .before .before .before .before .before .before .before .loop in let g = entriesAt d s (a .c .at) in
-    c .no-list2 .ensures ∙ ap entriesEnd (sym (loop-refuses entryStruct 16 noEntry d s (entry-reads d s) g (l .inv) (sym (c .before .before .before .before .before .before .before .item-at .ensures) ∙ c .before .before .before .before .before .item2 .given .1) (entry-none (entryOn d s _) (sym (c .before .before .before .entry-at .ensures) ∙ c .before .enum-told2 .given .1))))
+returns-3 c = let a = c .before .before .before .before .before .before .before .before .before .before .args in let d = a .left in let s = a .s .now in let l = c .before .before .before .before .before .before .before .before .loop in let o = a .kept .now in let g = entriesAt d s (a .c .at) in
+    sym (ap (listRead maxWrites entrySize keptWords o) (loop-refuses keptWords maxWrites o d s (entry-reads d s) g (l .inv) (sym (c .before .before .before .before .before .before .before .item-at .ensures) ∙ c .before .before .before .before .before .item2 .given .1) (entry-none (entryOn d s _) (sym (c .before .before .before .entry-at .ensures) ∙ c .before .enum-told2 .given .1))))
 
-mul-kept : tie.Need-mul-kept Inv-loop μ-loop
-mul-kept c = search needs
-
-array-set-from-kept : tie.Need-array-set-from-kept Inv-loop μ-loop
-array-set-from-kept c = search needs
-
--- one more is kept, if there is room
-joined : (c : tie.Joined1 Inv-loop μ-loop) → let l = c .before .before .before .before .before .before .before .before .before .loop in c .if1 .kept ≡ keepOf 16 (l .kept) (l .count) (c .before .before .t .given .0 .0)
-joined c = ⊎-elim (λ w. w .1 ∙ rw (lt-ltb _ _ (w .0 .taken)) refl) (λ w. w .1 ∙ rw (le-ltb _ _ (w .0 .left)) refl) (c .if1 .came)
+keep-entry-requires : tie.Need-keep-entry-requires Inv-loop μ-loop
+keep-entry-requires c κs = search needs
 
 add-count : tie.Need-add-count Inv-loop μ-loop
-add-count c = let a = c .before .before .before .before .before .before .before .before .before .before .before .args in let d = a .left in let s = a .s .now in let l = c .before .before .before .before .before .before .before .before .before .loop in let g = entriesAt d s (a .c .at) in let x = entry-some (entryOn d s _) (sym (c .before .before .before .before .entry-at .ensures) ∙ c .before .before .t .given .1) in
-    let r = loop-room entryStruct 16 noEntry d s (entry-reads d s) g (l .inv) (sym (c .before .before .before .before .before .before .before .before .item-at .ensures) ∙ c .before .before .before .before .before .before .item2 .given .1) (x .found) in omega arith
+add-count c = let a = c .before .before .before .before .before .before .before .before .before .before .before .before .args in let d = a .left in let s = a .s .now in let l = c .before .before .before .before .before .before .before .before .before .before .loop in let o = a .kept .now in let g = entriesAt d s (a .c .at) in let x = entry-some (entryOn d s _) (sym (c .before .before .before .before .before .entry-at .ensures) ∙ c .before .before .before .t .given .1) in
+    let r = loop-room keptWords maxWrites o d s (entry-reads d s) g (l .inv) (sym (c .before .before .before .before .before .before .before .before .before .item-at .ensures) ∙ c .before .before .before .before .before .before .before .item2 .given .1) (x .found) in omega arith
 
 loop-less : tie.Need-loop-less Inv-loop μ-loop
-loop-less c = let a = c .before .before .before .before .before .before .before .before .before .before .before .args in let d = a .left in let s = a .s .now in let l = c .before .before .before .before .before .before .before .before .before .loop in let g = entriesAt d s (a .c .at) in let x = entry-some (entryOn d s _) (sym (c .before .before .before .before .entry-at .ensures) ∙ c .before .before .t .given .1) in
-    loop-nearer entryStruct 16 noEntry d s (entry-reads d s) g (l .inv) (sym (c .before .before .before .before .before .before .before .before .item-at .ensures) ∙ c .before .before .before .before .before .before .item2 .given .1) (x .found)
+loop-less c = let a = c .before .before .before .before .before .before .before .before .before .before .before .before .args in let d = a .left in let s = a .s .now in let l = c .before .before .before .before .before .before .before .before .before .before .loop in let o = a .kept .now in let g = entriesAt d s (a .c .at) in let x = entry-some (entryOn d s _) (sym (c .before .before .before .before .before .entry-at .ensures) ∙ c .before .before .before .t .given .1) in
+    loop-nearer keptWords maxWrites o d s (entry-reads d s) g (l .inv) (sym (c .before .before .before .before .before .before .before .before .before .item-at .ensures) ∙ c .before .before .before .before .before .before .before .item2 .given .1) (x .found)
 
 loop-again : tie.Need-loop-again Inv-loop μ-loop
-loop-again c = let a = c .before .before .before .before .before .before .before .before .before .before .before .args in let d = a .left in let s = a .s .now in let l = c .before .before .before .before .before .before .before .before .before .loop in let g = entriesAt d s (a .c .at) in let x = entry-some (entryOn d s _) (sym (c .before .before .before .before .entry-at .ensures) ∙ c .before .before .t .given .1) in
-    loop-goes entryStruct 16 noEntry d s (entry-reads d s) g (l .inv) (sym (c .before .before .before .before .before .before .before .before .item-at .ensures) ∙ c .before .before .before .before .before .before .item2 .given .1) (x .found) (joined c ∙ ap (λ (y : Entry). keepOf 16 (l .kept) (l .count) y) (x .is))
+loop-again c = let a = c .before .before .before .before .before .before .before .before .before .before .before .before .args in let d = a .left in let s = a .s .now in let l = c .before .before .before .before .before .before .before .before .before .before .loop in let o = a .kept .now in let g = entriesAt d s (a .c .at) in let x = entry-some (entryOn d s _) (sym (c .before .before .before .before .before .entry-at .ensures) ∙ c .before .before .before .t .given .1) in
+    loop-goes keptWords maxWrites o d s (entry-reads d s) g (l .inv) (sym (c .before .before .before .before .before .before .before .before .before .item-at .ensures) ∙ c .before .before .before .before .before .before .before .item2 .given .1) (x .found) entrySize (λ x. refl) (c .keep-entry .ensures ∙ ap (λ (y : Entry). keepMore maxWrites entrySize entryWords (l .kept) (l .count) y) (x .is))
 
 pub entries-from-spec : {M : Type 1} → statement M
 entries-from-spec =
@@ -94,7 +80,6 @@ entries-from-spec =
     loop-holds
     item-at-requires
     enum-told
-    no-list-requires
     returns
     enum-known-item
     returns-2
@@ -102,10 +87,8 @@ entries-from-spec =
     entry-at-requires
     enum-known-t
     enum-told-2
-    no-list-requires-2
     returns-3
-    mul-kept
-    array-set-from-kept
+    keep-entry-requires
     add-count
     loop-less
     loop-again)

@@ -1,21 +1,17 @@
 use mathlib.Core.Path.{sym, ap, _∙_}
-use Rattle.interaction_write.specs.Write.{entryAt, entriesAt, entriesFrom, entriesEnd}
+use Rattle.bounds.specs.Bounds.{maxWrites}
+use Rattle.interaction.specs.Message.{listRead}
+use Rattle.interaction_write.specs.Write.{entrySize, keptWords, entryAt, entriesAt, entriesFrom}
 use Rattle.interaction.proofs.PassLaws.{list-other, list-deeper, list-in}
 use borrow.Author.Needs.{needs}
 use Rattle.interaction_write.proofs.entries_of.Statement.{statement}
 use Rattle.interaction_write.proofs.entries_of.Tie as tie
 
-no-list-requires : tie.Need-no-list-requires
-no-list-requires c κs = search needs
-
 returns : tie.Need-returns
-returns c = let a = c .before .before .before .before .args in c .no-list .ensures ∙ ap entriesEnd (sym (list-other entryAt (a .left) (a .s .now) (a .e) (c .before .if1 .taken)))
-
-no-list-requires-2 : tie.Need-no-list-requires-2
-no-list-requires-2 c κs = search needs
+returns c = let a = c .before .before .before .before .args in sym (ap (listRead maxWrites entrySize keptWords (c .before .before .before .before .args .kept .now)) (list-other entryAt (a .left) (a .s .now) (a .e) (c .before .if1 .taken)))
 
 returns-2 : tie.Need-returns-2
-returns-2 c = let a = c .before .before .before .before .before .args in c .no-list2 .ensures ∙ ap entriesEnd (sym (list-deeper entryAt (a .left) (a .s .now) (a .e) (c .before .if2 .taken)))
+returns-2 c = let a = c .before .before .before .before .before .args in sym (ap (listRead maxWrites entrySize keptWords (c .before .before .before .before .before .args .kept .now)) (list-deeper entryAt (a .left) (a .s .now) (a .e) (c .before .if2 .taken)))
 
 sub-entries-from : tie.Need-sub-entries-from
 sub-entries-from c = search needs
@@ -25,16 +21,8 @@ entries-from-requires c κs = search needs
 
 returns-3 : tie.Need-returns-3
 unfolding entriesAt entriesFrom
-returns-3 c = let a = c .before .before .before .before .before .before .args in c .entries-from .ensures ∙ ap entriesEnd (sym (list-in entryAt (a .left) (a .s .now) (a .e) (c .before .before .before .if1 .left) (c .before .before .if2 .left)))
+returns-3 c = let a = c .before .before .before .before .before .before .before .args in c .entries-from .ensures ∙ ap (listRead maxWrites entrySize keptWords (c .before .before .before .before .before .before .before .args .kept .now)) (sym (list-in entryAt (a .left) (a .s .now) (a .e) (c .before .before .before .before .if1 .left) (c .before .before .before .if2 .left)))
 
 pub entries-of-spec : {M : Type 1} → statement M
 entries-of-spec =
-    tie.close
-    (tie.spec
-    no-list-requires
-    returns
-    no-list-requires-2
-    returns-2
-    sub-entries-from
-    entries-from-requires
-    returns-3)
+    tie.close (tie.spec returns returns-2 sub-entries-from entries-from-requires returns-3)
