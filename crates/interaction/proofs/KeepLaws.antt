@@ -1,12 +1,12 @@
 -- The first of a list, kept in so many places.
 use mathlib.Core.Path.{_≡_, refl, sym, ap, _∙_}
 use mathlib.Core.Bool.{Bool, true, false}
-use mathlib.Core.List.{List, [], _∷_, _++_, append-assoc, append-nil}
+use mathlib.Core.List.{List, [], _∷_, _++_, map, append-assoc, append-nil}
 use Prim.Native.Nat.{ℕ, zero, suc, _+_, _*_, _≤_, _<_}
 use native.Mathlib.Nat.{suc-mul}
 use native.Mathlib.Omega.{arith}
 use borrow.Author.Tests.{lt-ltb, le-ltb, ltb-true, ltb-false}
-use lib.ListN.{length, set, take, replicate, length-append}
+use lib.ListN.{length, getD, set, take, replicate, length-append, length-replicate}
 use lib.Dec.{ltb}
 use Rattle.octets.specs.Store.{store}
 use Rattle.octets.proofs.StoreLaws.{store-store}
@@ -81,3 +81,55 @@ module _ {A : Type 0} (enc : A → List ℕ) where
             rw (e, take-short n l (omega arith), take-short n (snoc l a) (omega (arith, length-snoc l a)), words-more l a, ← (words-length l))
             (ap (λ (p : ℕ). store (store old 0 (wordsOf enc l)) p (enc a)) here ∙ store-store old 0 (wordsOf enc l) (enc a))
         go false e = let h = ltb-false (length l) n e in rw (e, take-over n l a h) refl
+
+-- ---- words that were clear, and what is read back of them
+
+store-behind : (y : ℕ) (l : List ℕ) (at : ℕ) (bs : List ℕ) → store (y ∷ l) (suc at) bs ≡ y ∷ store l at bs
+unfolding store
+store-behind y l at [] = refl
+store-behind y l at (b ∷ bs) = store-behind y (set l at b) (suc at) bs
+
+store-through : (a b c d : List ℕ) → length a ≡ length c → store (a ++ b) 0 (c ++ d) ≡ c ++ store b 0 d
+unfolding store
+store-through [] b [] d e = refl
+store-through [] b (y ∷ c) d e = absurd (omega (arith, e))
+store-through (x ∷ a) b [] d e = absurd (omega (arith, e))
+store-through (x ∷ a) b (y ∷ c) d e = store-behind y (a ++ b) 0 (c ++ d) ∙ ap (λ r. y ∷ r) (store-through a b c d (omega (arith, e)))
+
+abbrev pub zeros : ℕ → List ℕ
+zeros n = replicate n 0
+
+zeros-more : (a b : ℕ) → zeros (a + b) ≡ zeros a ++ zeros b
+zeros-more zero b = let e : zero + b ≡ b = omega arith in ap zeros e
+zeros-more (suc a) b = let e : suc a + b ≡ suc (a + b) = omega arith in ap zeros e ∙ ap (λ (r : List ℕ). 0 ∷ r) (zeros-more a b)
+
+pub words-map : {A B : Type 0} (β : A → B) (enc : B → List ℕ) (n : ℕ) (l : List A) → wordsOf (λ x. enc (β x)) (take n l) ≡ wordsOf enc (take n (map β l))
+unfolding wordsOf
+words-map β enc zero l = refl
+words-map β enc (suc n) [] = refl
+words-map β enc (suc n) (x ∷ l) = ap (λ r. enc (β x) ++ r) (words-map β enc n l)
+
+module _ {A : Type 0} (enc : A → List ℕ) (size : ℕ) (wide : (a : A) → length (enc a) ≡ size) (z : A) (clear : enc z ≡ zeros size) where
+  zeros-size : (n : ℕ) → zeros (suc n * size) ≡ zeros size ++ zeros (n * size)
+  zeros-size n = let e : suc n * size ≡ size + n * size = omega (arith, suc-mul n size) in ap zeros e ∙ zeros-more size (n * size)
+
+  -- the first n of a list, stored over words that were clear, are those that fill n places
+  pub words-first : (n : ℕ) (l : List A) → store (zeros (n * size)) 0 (wordsOf enc (take n l)) ≡ wordsOf enc (firstOf n z l)
+  unfolding wordsOf firstOf store
+  words-first zero l = let e : 0 * size ≡ 0 = omega arith in ap zeros e
+  words-first (suc n) [] = zeros-size n ∙ (λ j. sym clear j ++ (none n ∙ words-first n []) j)
+    where
+      none : (m : ℕ) → zeros (m * size) ≡ store (zeros (m * size)) 0 (wordsOf enc (take m []))
+      none zero = refl
+      none (suc m) = refl
+  words-first (suc n) (x ∷ l) =
+      ap (λ (r : List ℕ). store r 0 (enc x ++ wordsOf enc (take n l))) (zeros-size n)
+      ∙ store-through (zeros size) (zeros (n * size)) (enc x) (wordsOf enc (take n l)) (length-replicate size 0 ∙ sym (wide x))
+      ∙ ap (λ (r : List ℕ). enc x ++ r) (words-first n l)
+
+-- a reader of the words of member k reads member k
+pub words-back : {A : Type 0} (enc : A → List ℕ) (at : List ℕ → ℕ → A) → ((x : A) (r : List ℕ) → at (enc x ++ r) 0 ≡ x) → ((x : A) (r : List ℕ) (k : ℕ) → at (enc x ++ r) (suc k) ≡ at r k) → (l : List A) (k : ℕ) (z : A) → k < length l → at (wordsOf enc l) k ≡ getD l k z
+unfolding wordsOf
+words-back enc at here behind [] k z h = absurd (omega arith)
+words-back enc at here behind (x ∷ l) zero z h = here x (wordsOf enc l)
+words-back enc at here behind (x ∷ l) (suc k) z h = behind x (wordsOf enc l) k ∙ words-back enc at here behind l k z (omega arith)

@@ -1,13 +1,13 @@
 -- One filter more: the word of its cluster joins it, and no other word moves.
 use mathlib.Core.Path.{_≡_, refl, sym, ap, _∙_}
-use mathlib.Core.Bool.{Bool, true, false, _&&_}
+use mathlib.Core.Bool.{true, _&&_}
 use mathlib.Core.List.{List, [], _∷_, _++_}
 use Prim.Native.Nat.{ℕ, zero, suc, _+_, _^_, _≤_, _<_}
 use native.Mathlib.Numerals.{add-one}
 use native.Mathlib.Omega.{arith}
 use borrow.Author.Tests.{eqb-true, eq-eqb, lt-ltb, ltb-true}
 use lib.Dec.{eqb, ltb}
-use lib.ListN.{length, getD, set, take, drop}
+use lib.ListN.{length, getD, set, drop}
 use lib.Seq.{getD-take, getD-drop, set-set, set-comm}
 use Rattle.bounds.specs.Bounds.{clusterLimit}
 use Rattle.octets.specs.Store.{store}
@@ -19,13 +19,14 @@ use Rattle.schema.specs.Find.{findCluster}
 use Rattle.schema.specs.declared.Found.{Found}
 use Rattle.schema.specs.declared.Found.the-variants.{At, Nothing}
 use Rattle.schema.proofs.BoolLaws.{by-test, both, left, right}
-use Rattle.schema.proofs.RowLaws.{rows-length, rows-get, rows-same}
+use Rattle.schema.proofs.RowLaws.{rows-length, rows-get, rows-same, rows-snoc}
 use Rattle.schema.proofs.RulesLaws.{well-formed-rules, cluster-rules}
 use Rattle.schema.proofs.PathLaws.{one-cluster}
 use Rattle.schema.proofs.FindLaws.{cluster-found, cluster-none}
 use Rattle.interaction.specs.declared.Wanted.{Wanted}
+use Rattle.interaction.specs.Read.{unwanted}
 use Rattle.selection.specs.Request.{filtersAt}
-use Rattle.selection.specs.Filters.{on, unfiltered, joined, wordAfter, filterWord, filterWords, rowOf, joinedAt}
+use Rattle.selection.specs.Filters.{on, unfiltered, joined, wordAfter, filterWord, filterWords, rowOf, joinedAt, wantedIn, wantedList}
 
 word-last : (e c word : ℕ) (fs : List Wanted) (f : Wanted) → wordAfter e c word (fs ++ (f ∷ [])) ≡ pick (on e c f) (joined (wordAfter e c word fs) (f .version)) (wordAfter e c word fs)
 unfolding wordAfter
@@ -153,11 +154,8 @@ module _ (w : List ℕ) (rules : wellFormed w ≡ true) (f : Wanted) where
           ∙ set-stored old filtersAt words k _ (omega (arith, size))
           ∙ ap (store old filtersAt) (set-rows (filterWord w fs) (filterWord w (fs ++ (f ∷ []))) clusterLimit 0 k _ (omega arith) (ap (filterWord w (fs ++ (f ∷ []))) (omega arith) ∙ joins fs k l q) (λ i a b n. stays fs i (λ m y. n (one-row (sym y ∙ q) ∙ omega arith))))
 
--- one of a list more
-pub take-more : (fs : List Wanted) (i : ℕ) (d : Wanted) → i < length fs → take (i + 1) fs ≡ take i fs ++ (getD fs i d ∷ [])
-take-more fs i d l = ap (λ (n : ℕ). take n fs) (add-one i) ∙ go fs i l
-  where
-    go : (fs : List Wanted) (i : ℕ) → i < length fs → take (suc i) fs ≡ take i fs ++ (getD fs i d ∷ [])
-    go [] i l = absurd (omega arith)
-    go (f ∷ fs) zero l = refl
-    go (f ∷ fs) (suc i) l = ap (λ (r : List Wanted). f ∷ r) (go fs i (omega arith))
+-- one of the filters more
+pub wanted-more : (l : List ℕ) (i : ℕ) → wantedList l (i + 1) ≡ wantedList l i ++ (wantedIn l i ∷ [])
+wanted-more l i =
+    let y : i + 0 ≡ i = omega arith in
+    ap (wantedList l) (add-one i) ∙ rows-snoc unwanted (wantedIn l) i 0 ∙ ap (λ (k : ℕ). wantedList l i ++ (wantedIn l k ∷ [])) y

@@ -1,45 +1,59 @@
 -- A request's words, stored one after the other, and read back.
 use mathlib.Core.Path.{_≡_, refl, sym, ap, _∙_}
-use mathlib.Core.List.{List, [], _∷_, _++_, map}
+use mathlib.Core.List.{List, [], _∷_, _++_}
 use Prim.Native.Nat.{ℕ, zero, suc, _+_, _*_, _≤_, _<_}
 use native.Mathlib.Numerals.{add-one}
 use native.Mathlib.Omega.{arith}
 use borrow.Author.Tests.{ltb-true, ltb-false}
 use lib.Dec.{ltb}
-use lib.ListN.{length, getD, set, take, drop, length-take, drop-of-length-le}
+use lib.ListN.{length, getD, set, take, drop, drop-of-length-le}
 use lib.Seq.{drop-cons, getD-take, set-getD}
 use Rattle.bounds.specs.Bounds.{clusterLimit, maxPaths}
 use Rattle.octets.specs.Store.{store}
-use Rattle.octets.proofs.StoreLaws.{length-store, part-before, store-back, store-store}
+use Rattle.octets.proofs.StoreLaws.{length-store, part-before, store-back, store-store, add-two}
 use Rattle.schema.specs.Rows.{rowsFrom}
 use Rattle.schema.proofs.BoolLaws.{by-test}
 use Rattle.schema.proofs.RowLaws.{rows-length, rows-get, rows-same, rows-snoc}
 use Rattle.interaction.specs.declared.Target.{Target}
 use Rattle.interaction.specs.declared.Wanted.{Wanted}
+use Rattle.interaction.specs.Message.{wordsOf}
+use Rattle.interaction.specs.Read.{targetWords, unwanted, wantedWords}
+use Rattle.interaction.proofs.KeepLaws.{words-back}
 use Rattle.selection.specs.declared.asked.Asked.{Asked}
 use Rattle.selection.specs.Asked.{askedFor}
-use Rattle.selection.specs.Request.{pathSize, filtersAt, standingAt, pathsIn, filtersIn, targetWords, pathsWords, askedAt, askedPaths}
-use Rattle.selection.specs.Filters.{filterWord, filterWords}
+use Rattle.selection.specs.Request.{pathSize, filtersAt, standingAt, pathsIn, filtersIn, pathsWords, askedAt, askedPaths}
+use Rattle.selection.specs.Filters.{filterWord, filterWords, wantedIn, wantedList}
 
 pub paths-length : (ts : List Target) → length (pathsWords ts) ≡ length ts * pathSize
 unfolding pathsWords
 paths-length [] = refl
 paths-length (t ∷ ts) = omega (arith, paths-length ts)
 
-paths-one : (ts : List Target) (k : ℕ) (d : Target) → k < length ts → pathsWords (take (suc k) ts) ≡ pathsWords (take k ts) ++ targetWords (getD ts k d)
-unfolding pathsWords
-paths-one [] k d l = absurd (omega arith)
-paths-one (t ∷ ts) zero d l = refl
-paths-one (t ∷ ts) (suc k) d l = ap (λ (r : List ℕ). t .endpoint ∷ t .cluster ∷ t .attribute ∷ r) (paths-one ts k d (omega arith))
+-- as their reader keeps them
+pub paths-words : (ts : List Target) → wordsOf targetWords ts ≡ pathsWords ts
+unfolding wordsOf pathsWords
+paths-words [] = refl
+paths-words (t ∷ ts) = ap (λ (r : List ℕ). t .endpoint ∷ t .cluster ∷ t .attribute ∷ r) (paths-words ts)
 
--- one path more
-pub path-stored : (old row : List ℕ) (ts : List Target) (k : ℕ) (d : Target) → k < length ts → row ≡ store old 0 (pathsWords (take k ts)) → store row (k * pathSize) (targetWords (getD ts k d)) ≡ store old 0 (pathsWords (take (k + 1) ts))
-path-stored old row ts k d l e =
-    let n : 0 + length (pathsWords (take k ts)) ≡ k * pathSize = omega (arith, paths-length (take k ts), length-take k ts) in
-    (λ j. store (e j) (sym n j) (targetWords (getD ts k d)))
-    ∙ store-store old 0 (pathsWords (take k ts)) (targetWords (getD ts k d))
-    ∙ ap (store old 0) (sym (paths-one ts k d l))
-    ∙ ap (λ (m : ℕ). store old 0 (pathsWords (take m ts))) (sym (add-one k))
+-- the first n of a list, each read by its number
+pub rows-taken : {A : Type 0} (f : ℕ → A) (l : List A) (n k : ℕ) (z : A) → n ≤ length l → ((i : ℕ) → i < length l → f (i + k) ≡ getD l i z) → rowsFrom f n k ≡ take n l
+unfolding rowsFrom
+rows-taken f l zero k z h e = refl
+rows-taken f [] (suc n) k z h e = absurd (omega arith)
+rows-taken f (x ∷ l) (suc n) k z h e =
+    let first : k ≡ 0 + k = omega arith in
+    λ j. (ap f first ∙ e 0 (omega arith)) j ∷ rows-taken f l n (suc k) z (omega arith) (λ i q. (let next : i + suc k ≡ suc i + k = omega arith in ap f next ∙ e (suc i) (omega arith))) j
+
+-- filters are read back from their words
+pub wanted-back : (fs : List Wanted) (n : ℕ) → n ≤ length fs → wantedList (wordsOf wantedWords fs) n ≡ take n fs
+unfolding wantedIn
+wanted-back fs n h = rows-taken (wantedIn (wordsOf wantedWords fs)) fs n 0 unwanted h (λ i q. ap (wantedIn (wordsOf wantedWords fs)) (omega arith) ∙ words-back wantedWords wantedIn here behind fs i unwanted q)
+  where
+    here : (f : Wanted) (r : List ℕ) → wantedIn (wantedWords f ++ r) 0 ≡ f
+    here f r = refl
+
+    behind : (f : Wanted) (r : List ℕ) (k : ℕ) → wantedIn (wantedWords f ++ r) (suc k) ≡ wantedIn r k
+    behind f r k = let e : suc k * 3 ≡ suc (suc (suc (k * 3))) = omega arith in simp (e, add-one, add-two)
 
 -- one word of a column more
 pub word-stored : (old row : List ℕ) (at : ℕ) (f : ℕ → ℕ) (k x : ℕ) → row ≡ store old at (rowsFrom f k 0) → x ≡ f k → set row (at + k) x ≡ store old at (rowsFrom f (k + 1) 0)
@@ -56,12 +70,15 @@ word-stored old row at f k x e q =
 pub paths-count : (l : List ℕ) (n : ℕ) → length (askedPaths l n) ≡ n
 paths-count l n = rows-length (askedAt l) n 0
 
--- path k stands first among those from k on
-pub paths-here : (l : List ℕ) (n k : ℕ) (p : Asked) → k < n → p ≡ askedAt l k → drop k (askedPaths l n) ≡ p ∷ drop (k + 1) (askedPaths l n)
-paths-here l n k p h e =
+-- row k stands first among those from k on
+pub rows-here : {A : Type 0} (f : ℕ → A) (n k : ℕ) (p : A) → k < n → p ≡ f k → drop k (rowsFrom f n 0) ≡ p ∷ drop (k + 1) (rowsFrom f n 0)
+rows-here f n k p h e =
     let y : k + 0 ≡ k = omega arith in
-    drop-cons (askedPaths l n) k p (omega (arith, paths-count l n))
-    ∙ (λ j. (rows-get (askedAt l) n 0 k p h ∙ ap (askedAt l) y ∙ sym e) j ∷ drop (sym (add-one k) j) (askedPaths l n))
+    drop-cons (rowsFrom f n 0) k p (omega (arith, rows-length f n 0))
+    ∙ (λ j. (rows-get f n 0 k p h ∙ ap f y ∙ sym e) j ∷ drop (sym (add-one k) j) (rowsFrom f n 0))
+
+pub paths-here : (l : List ℕ) (n k : ℕ) (p : Asked) → k < n → p ≡ askedAt l k → drop k (askedPaths l n) ≡ p ∷ drop (k + 1) (askedPaths l n)
+paths-here l n k p h e = rows-here (askedAt l) n k p h e
 
 -- ---- a request that was stored is read back
 

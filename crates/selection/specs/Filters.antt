@@ -1,7 +1,7 @@
 -- Filters (document 01, What the sign answers): "if filters match the cluster and all of them carry its version, the attribute is skipped".
 use mathlib.Core.Bool.{Bool, true, false, not, _&&_, _||_}
 use mathlib.Core.List.{List, [], _∷_}
-use Prim.Native.Nat.{ℕ, _+_, _^_}
+use Prim.Native.Nat.{ℕ, _+_, _*_, _^_}
 use lib.Dec.{eqb, ltb}
 use lib.ListN.{getD, set}
 use Rattle.bounds.specs.Bounds.{clusterLimit, versionLimit}
@@ -11,6 +11,7 @@ use Rattle.schema.specs.declared.Found.the-variants.{At, Nothing}
 use Rattle.schema.specs.Find.{findCluster}
 use Rattle.schema.specs.Rows.{clusterRow, clusterCount, filled, rowsFrom}
 use Rattle.interaction.specs.declared.Wanted.{Wanted}
+use Rattle.interaction.specs.Read.{wantedSize}
 use Rattle.selection.specs.Request.{filtersAt}
 
 -- the filter is for this cluster on this endpoint
@@ -59,6 +60,13 @@ filterWord w fs k = pick (ltb k (clusterCount w)) (wordAfter (clusterRow w k .en
 
 unfoldable pub filterWords : List ℕ → List Wanted → List ℕ
 filterWords w fs = rowsFrom (filterWord w fs) clusterLimit 0
+
+-- the filters of a request as words that are lent: number k, and the first n
+unfoldable pub wantedIn : List ℕ → ℕ → Wanted
+wantedIn l k = record { endpoint = getD l (k * wantedSize) 0; cluster = getD l (k * wantedSize + 1) 0; version = getD l (k * wantedSize + 2) 0 }
+
+abbrev pub wantedList : List ℕ → ℕ → List Wanted
+wantedList l n = rowsFrom (wantedIn l) n 0
 
 -- ONE FILTER MORE, as it is stored in the request's words: at the row of its cluster, if the schema has that
 unfoldable pub rowOf : List ℕ → Wanted → Found

@@ -39,9 +39,6 @@ abbrev pub askedPaths : List ℕ → ℕ → List Asked
 askedPaths l n = rowsFrom (askedAt l) n 0
 
 -- the words of paths
-abbrev pub targetWords : Target → List ℕ
-targetWords t = t .endpoint ∷ t .cluster ∷ t .attribute ∷ []
-
 unfoldable pub pathsWords : List Target → List ℕ
 pathsWords [] = []
 pathsWords (t ∷ ts) = t .endpoint ∷ t .cluster ∷ t .attribute ∷ pathsWords ts

@@ -1,18 +1,18 @@
 // What the filters of a read say of each cluster: judged once, at the request, and compared with the version that a cluster has when a part is made.
 ghost use mathlib.Core.Path.{_≡_};
 ghost use mathlib.Core.Bool.{true};
-ghost use Prim.Native.Nat.{_≤_, _+_};
-ghost use lib.ListN.{length, take, drop};
+ghost use Prim.Native.Nat.{_≤_, _<_, _+_};
+ghost use lib.ListN.{length};
 ghost use Rattle.bounds.specs.Bounds.{clusterLimit, maxFilters};
 ghost use Rattle.octets.specs.Store.{store};
 ghost use Rattle.schema.specs.Rows.{rowsFrom};
 ghost use Rattle.schema.specs.Check.{wellFormed};
 ghost use Rattle.selection.specs.Request.{filtersAt, filtersIn};
-ghost use Rattle.selection.specs.Filters.{unfiltered, joined, filterWords, rowOf, joinedAt, skipsNow};
+ghost use Rattle.selection.specs.Filters.{unfiltered, joined, filterWords, rowOf, wantedIn, wantedList, joinedAt, skipsNow};
 use super::request::FILTERS_AT;
 use super::request::ROW_WORDS;
 use bounds::CLUSTERS;
-use bounds::MAX_FILTERS;
+use interaction::FILTER_WORDS;
 use interaction::Wanted;
 use schema::Found;
 use schema::WORDS;
@@ -72,15 +72,33 @@ fn put_filter(w: &[u64; WORDS], f: Wanted, row: &mut [u64])
     row[FILTERS_AT + k] = join(row[FILTERS_AT + k], f.version);
 }
 
+// Filter number i.
+fn filter_at(filters: &[u64; FILTER_WORDS], i: usize) -> Wanted
+    requires { ⌜ i < maxFilters ⌝ }
+    ensures { λ r. ⌜ r ≡ wantedIn (now (filters .entry)) i ⌝ }
+{
+    let at = i * 3;
+    Wanted {
+        endpoint: filters[at],
+        cluster: filters[at + 1],
+        version: filters[at + 2],
+    }
+}
+
 // The word of each cluster, stored in the request.
-pub fn put_filters(w: &[u64; WORDS], filters: [Wanted; MAX_FILTERS], n: usize, row: &mut [u64])
+pub fn put_filters<'a>(
+    w: &'a [u64; WORDS],
+    filters: &'a [u64; FILTER_WORDS],
+    n: usize,
+    row: &mut [u64],
+)
     requires { ⌜ (wellFormed (now w) ≡ true) × ((n ≤ maxFilters) × (filtersAt + clusterLimit ≤ length (now row))) ⌝ }
-    ensures { λ _. ⌜ now (row .exit) ≡ store (now (row .entry)) filtersAt (filterWords (now (w .entry)) (take n filters)) ⌝ }
+    ensures { λ _. ⌜ now (row .exit) ≡ store (now (row .entry)) filtersAt (filterWords (now (w .entry)) (wantedList (now (filters .entry)) n)) ⌝ }
 {
     clear_filters(row);
     let mut i = 0;
     while i < n {
-        put_filter(w, filters[i], row);
+        put_filter(w, filter_at(filters, i), row);
         i += 1;
     }
 }

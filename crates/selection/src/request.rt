@@ -1,11 +1,11 @@
 // The row of an exchange, as words that are lent: the paths of the request that is being answered, then a word for each cluster, to which its filters were
 // judged, then how the exchange stands.
 ghost use mathlib.Core.Path.{_≡_};
-ghost use Prim.Native.Nat.{_≤_, _<_, _+_, _*_};
+ghost use Prim.Native.Nat.{_≤_, _<_};
 ghost use lib.ListN.{length};
 ghost use Rattle.bounds.specs.Bounds.{maxPaths};
 ghost use Rattle.octets.specs.Store.{store};
-ghost use Rattle.selection.specs.Request.{pathSize, filtersAt, askedAt, targetWords, pathsWords};
+ghost use Rattle.selection.specs.Request.{askedAt};
 use super::asked::Asked;
 use super::asked::asked_for;
 use bounds::CLUSTERS;
@@ -34,24 +34,14 @@ pub fn asked_at(row: &[u64; ROW_WORDS], k: usize) -> Asked
     })
 }
 
-fn put_path(row: &mut [u64], k: usize, t: Target)
-    requires { ⌜ k * pathSize + pathSize ≤ length (now row) ⌝ }
-    ensures { λ _. ⌜ now (row .exit) ≡ store (now (row .entry)) (k * pathSize) (targetWords t) ⌝ }
-{
-    let at = k * PATH_SIZE;
-    row[at] = t.endpoint;
-    row[at + 1] = t.cluster;
-    row[at + 2] = t.attribute;
-}
-
-// The paths of a request.
-pub fn put_paths(row: &mut [u64], paths: [Target; MAX_PATHS])
-    requires { ⌜ filtersAt ≤ length (now row) ⌝ }
-    ensures { λ _. ⌜ now (row .exit) ≡ store (now (row .entry)) 0 (pathsWords paths) ⌝ }
+// The words of a request's paths.
+pub fn put_paths(row: &mut [u64], paths: &[u64])
+    requires { ⌜ length (now paths) ≤ length (now row) ⌝ }
+    ensures { λ _. ⌜ now (row .exit) ≡ store (now (row .entry)) 0 (now (paths .entry)) ⌝ }
 {
     let mut k = 0;
-    while k < MAX_PATHS {
-        put_path(row, k, paths[k]);
+    while k < paths.len() {
+        row[k] = paths[k];
         k += 1;
     }
 }

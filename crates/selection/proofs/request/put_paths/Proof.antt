@@ -1,57 +1,53 @@
-use mathlib.Core.Path.{_≡_, refl, sym, ap, _∙_}
-use Prim.Native.Nat.{_≤_, _-_}
+use mathlib.Core.Path.{_≡_, refl, sym, _∙_}
+use mathlib.Core.List.{[]}
+use Prim.Native.Nat.{_+_, _-_, _≤_}
 use native.Mathlib.Omega.{arith}
-use lib.ListN.{length, take}
-use lib.Seq.{take-length}
-use Rattle.bounds.specs.Bounds.{maxPaths}
-use Rattle.octets.specs.Store.{store}
-use Rattle.octets.proofs.StoreLaws.{length-store}
-use Rattle.selection.specs.Request.{pathsWords}
-use Rattle.selection.proofs.RequestLaws.{path-stored}
 use borrow.Author.Needs.{needs}
+use lib.ListN.{length, drop, length-set, drop-of-length-le}
+use Rattle.octets.specs.Store.{store}
+use Rattle.octets.proofs.StoreLaws.{slice-turn}
 use Rattle.selection.proofs.request.put_paths.Statement.{statement}
 use Rattle.selection.proofs.request.put_paths.Tie as tie
-use Rattle.selection.proofs.request.put_paths.Reads as reads
-use Rattle.selection.proofs.request.put_paths.Lts as lts
-use Rattle.selection.proofs.request.put_path.Reads as put-path-reads
 
 abbrev Inv-loop : tie.InvT-loop
-Inv-loop row₀ paths k₀ row k = (k ≤ maxPaths) × ((length row ≡ length row₀) × (row ≡ store row₀ 0 (pathsWords (take k paths))))
+Inv-loop row₀ paths k₀ row k = (k ≤ length paths) × ((length row ≡ length row₀) × (store row₀ 0 paths ≡ store row k (drop k paths)))
 
 abbrev μ-loop : tie.MeasureT-loop
-μ-loop row₀ paths k₀ row k = maxPaths - k
-
--- what owning the array tells: it has all its elements
-owns : (c : tie.Start Inv-loop μ-loop) → length (c .args .t2) ≡ maxPaths
-owns c = search needs
+μ-loop row₀ paths k₀ row k = length paths - k
 
 loop-holds : tie.Need-loop-holds Inv-loop μ-loop
-unfolding store pathsWords
-loop-holds c = (search needs, (refl, refl))
+loop-holds c = (omega arith, (refl, refl))
 
-mul-put-path : tie.Need-mul-put-path Inv-loop μ-loop
-mul-put-path c = search needs
+mul-row : tie.Need-mul-row Inv-loop μ-loop
+mul-row c = search needs
 
-array-copy-out-put-path : tie.Need-array-copy-out-put-path Inv-loop μ-loop
-array-copy-out-put-path c = search needs
+shared-slice-read-row : tie.Need-shared-slice-read-row Inv-loop μ-loop
+shared-slice-read-row c = omega arith
 
-put-path-requires : tie.Need-put-path-requires Inv-loop μ-loop
-put-path-requires c κs = omega (arith, c .before .before .before .loop .inv .1 .0, c .before .before .before .before .before .pre, c .before .before .loop-test .taken)
+mul-row-2 : tie.Need-mul-row-2 Inv-loop μ-loop
+mul-row-2 c = search needs
+
+slice-write-row : tie.Need-slice-write-row Inv-loop μ-loop
+slice-write-row c = omega arith
 
 add-k : tie.Need-add-k Inv-loop μ-loop
-add-k c = search needs
+add-k c = omega arith
 
 loop-less : tie.Need-loop-less Inv-loop μ-loop
-loop-less c = search needs
+loop-less c = omega arith
 
 loop-again : tie.Need-loop-again Inv-loop μ-loop
-loop-again c = let l = c .before .before .before .before .before .before .loop in let e = c .before .before .put-path .ensures in (search needs, (ap length e ∙ length-store _ _ _ ∙ l .inv .1 .0, e ∙ path-stored _ (l .row) (c .before .before .before .before .before .before .before .before .args .t2) (l .k) _ (omega (arith, owns (c .before .before .before .before .before .before .before .before), c .before .before .before .before .before .loop-test .taken)) (l .inv .1 .1)))
+loop-again c = let a = c .before .before .before .args in let l = c .before .before .loop in let y : 0 + l .k ≡ l .k = omega arith in let z : 0 + (l .k + 1) ≡ l .k + 1 = omega arith in
+    (omega arith, (simp length-set (l .inv .1 .0), l .inv .1 .1 ∙ (rw (y, z) at (slice-turn (l .row) (a .paths .now) 0 (l .k) (omega arith)))))
 
 same-length : tie.Need-same-length Inv-loop μ-loop
 same-length c = c .before .loop .inv .1 .0
 
 returns : tie.Need-returns Inv-loop μ-loop
-returns c = let l = c .before .loop in let a = c .before .before .before .args in let k : l .k ≡ length (a .t2) = omega (arith, owns (c .before .before .before), l .inv .0, c .loop-test .left) in l .inv .1 .1 ∙ ap (λ n. store (a .row .now) 0 (pathsWords (take n (a .t2)))) k ∙ ap (λ p. store (a .row .now) 0 (pathsWords p)) (take-length (a .t2))
+unfolding store
+returns c = let a = c .before .before .args in let l = c .before .loop in
+    let e : drop (l .k) (a .paths .now) ≡ [] = drop-of-length-le (a .paths .now) {i = l .k} (omega arith) in
+    sym (l .inv .1 .1 ∙ rw e refl)
 
 pub put-paths-spec : {M : Type 1} → statement M
 put-paths-spec =
@@ -60,9 +56,10 @@ put-paths-spec =
     Inv-loop
     μ-loop
     loop-holds
-    mul-put-path
-    array-copy-out-put-path
-    put-path-requires
+    mul-row
+    shared-slice-read-row
+    mul-row-2
+    slice-write-row
     add-k
     loop-less
     loop-again
