@@ -1,26 +1,34 @@
 -- The entries of a write one by one, as the code's loop has them.
 use mathlib.Core.Path.{_≡_, refl, sym, ap, _∙_}
 use mathlib.Core.List.{List, [], _∷_, _++_, append-assoc, append-nil}
-use Prim.Native.Nat.{ℕ, suc, _+_, _≤_, _<_}
-use native.Mathlib.Numerals.{add-one}
+use Prim.Native.Nat.{ℕ, suc, _+_, _*_, _≤_, _<_}
+use native.Mathlib.Numerals.{towards-suc}
 use native.Mathlib.Omega.{arith}
 use borrow.Author.Tests.{lt-ltb}
-use lib.ListN.{length, getD, set, take, drop, replicate, length-take, drop-of-length-le}
-use lib.Seq.{drop-cons, getD-take}
+use lib.ListN.{length, getD, set, take, drop, replicate, drop-of-length-le}
 use Rattle.bounds.specs.Bounds.{maxWrites}
-use Rattle.interaction.specs.Message.{snoc, firstOf}
-use Rattle.interaction.proofs.KeepLaws.{length-snoc, first-none, keep-one}
+use Rattle.interaction.specs.Message.{snoc, firstOf, wordsOf}
+use Rattle.interaction.proofs.KeepLaws.{length-snoc, first-none, keep-one, words-back}
 use Rattle.interaction_write.specs.declared.Entry.{Entry}
+use Rattle.interaction_write.specs.Write.{noEntry, entryWords, entryIn}
+use Rattle.selection.proofs.RequestLaws.{rows-taken}
 use Rattle.acl.specs.declared.Grants.{Grants}
 use Rattle.writes.specs.Offer.{Held, Outcome}
-use Rattle.writes.specs.Entry.{entryWritten, heldAfter, codesOf, codesIn}
+use Rattle.writes.specs.Entry.{entryWritten, entriesIn, heldAfter, codesOf, codesIn}
 
--- one of the first n of a list, and those after it
-pub taken-at : {A : Type 0} (l : List A) (n i : ℕ) (d : A) → n ≤ length l → i < n → drop i (take n l) ≡ getD l i d ∷ drop (i + 1) (take n l)
-taken-at l n i d whole below =
-    drop-cons (take n l) i d (omega (arith, length-take n l))
-    ∙ ap (λ (x : _). x ∷ drop (suc i) (take n l)) (getD-take n l i d below)
-    ∙ ap (λ (k : ℕ). getD l i d ∷ drop k (take n l)) (sym (add-one i))
+-- entries are read back from their words
+pub entry-back : (xs : List Entry) (k : ℕ) → k < length xs → entryIn (wordsOf entryWords xs) k ≡ getD xs k noEntry
+unfolding entryIn
+entry-back xs k h = words-back entryWords entryIn here behind xs k noEntry h
+  where
+    here : (x : Entry) (r : List ℕ) → entryIn (entryWords x ++ r) 0 ≡ x
+    here x r = refl
+
+    behind : (x : Entry) (r : List ℕ) (k : ℕ) → entryIn (entryWords x ++ r) (suc k) ≡ entryIn r k
+    behind x r k = let e : suc k * 5 ≡ suc (suc (suc (suc (suc (k * 5))))) = omega arith in simp (e, towards-suc)
+
+pub entries-back : (xs : List Entry) (n : ℕ) → n ≤ length xs → entriesIn (wordsOf entryWords xs) n ≡ take n xs
+entries-back xs n h = rows-taken (entryIn (wordsOf entryWords xs)) xs n 0 noEntry h (λ i q. ap (entryIn (wordsOf entryWords xs)) (omega arith) ∙ entry-back xs i q)
 
 -- one more kept
 store-one : (n z : ℕ) (l : List ℕ) (a : ℕ) → length l < n → set (firstOf n z l) (length l) a ≡ firstOf n z (snoc l a)

@@ -1,5 +1,5 @@
 -- The statuses of a response one by one, and how long it is.
-use mathlib.Core.Path.{_≡_, refl, ap}
+use mathlib.Core.Path.{_≡_, refl, sym, ap, subst, _∙_}
 use mathlib.Core.List.{List, [], _∷_, _++_}
 use Prim.Native.Nat.{ℕ, zero, suc, _+_, _*_, _^_, _≤_, _<_}
 use native.Mathlib.Numerals.{add-one}
@@ -11,12 +11,14 @@ use Rattle.octets.specs.Store.{Stored}
 use Rattle.octets.proofs.StoreLaws.{then}
 use Rattle.tlv.specs.Tree.{Tree}
 use Rattle.interaction_write.specs.declared.Entry.{Entry}
-use Rattle.interaction_write.specs.Write.{noEntry}
+use Rattle.interaction_write.specs.Write.{noEntry, entryIn}
+use Rattle.schema.specs.Rows.{rowsFrom}
+use Rattle.schema.proofs.RowLaws.{rows-length, rows-get}
 use Rattle.interaction_writer.specs.Spelling.{spelling, joined}
 use Rattle.interaction_writer.specs.Block.{answerTree}
 use Rattle.interaction_writer.proofs.LengthLaws.{write-status-bound}
 use Rattle.interaction_writer.proofs.MessageLaws.{joined-more, length-response}
-use Rattle.writes.specs.Entry.{InWidth}
+use Rattle.writes.specs.Entry.{InWidth, entriesIn}
 use Rattle.writes.specs.Response.{answerTrees, responsePayload}
 
 -- the status of an entry
@@ -37,6 +39,13 @@ module _ (xs : List Entry) (codes : List ℕ) {o : List ℕ} {start : ℕ} {o₁
   status-more i d l m u v =
       rw (add-one i, answers-more xs codes i d l m, joined-more (answerTrees (take i xs) (take i codes)) (answerFor (getD xs i d) (getD codes i 0)))
       (then u v)
+
+-- of entries that are lent in words
+pub status-next : (l codes : List ℕ) (n i : ℕ) (x : Entry) {o : List ℕ} {start : ℕ} {o₁ : List ℕ} {p : ℕ} {o₂ : List ℕ} {q : ℕ} → i < n → x ≡ entryIn l i → i < length codes → Stored o start (joined (answerTrees (take i (entriesIn l n)) (take i codes))) o₁ p → Stored o₁ p (spelling (answerFor x (getD codes i 0))) o₂ q → Stored o start (joined (answerTrees (take (i + 1) (entriesIn l n)) (take (i + 1) codes))) o₂ q
+status-next l codes n i x {o₁ = o₁} {p} {o₂} {q} h e m u v =
+    let k : i + 0 ≡ i = omega arith in
+    status-more (entriesIn l n) codes i noEntry (omega (arith, h, rows-length (entryIn l) n 0)) m u
+    (subst (λ (y : Entry). Stored o₁ p (spelling (answerFor y (getD codes i 0))) o₂ q) (e ∙ sym (rows-get (entryIn l) n 0 i noEntry h ∙ ap (entryIn l) k)) v)
 
 -- how long the status of an entry is
 pub answer-bound : (x : Entry) (code : ℕ) → InWidth x → code < 2 ^ 8 → length (spelling (answerFor x code)) ≤ 27
@@ -63,3 +72,7 @@ response-length xs codes l f g = omega (arith, l, length-response (answerTrees x
 -- what holds of the first n by index, holds of them as a list
 pub of-taken : {A : Type 0} (P : A → Type 0) (l : List A) (n : ℕ) (d : A) → ((i : ℕ) → i < n → P (getD l i d)) → (i : ℕ) → i < length (take n l) → P (getD (take n l) i d)
 of-taken P l n d f i h = let below : i < n = omega (arith, length-take n l) in rw (getD-take n l i d below) (f i below)
+
+-- and of n by number
+pub of-rows : {A : Type 0} (P : A → Type 0) (f : ℕ → A) (n : ℕ) (d : A) → ((i : ℕ) → i < n → P (f i)) → (i : ℕ) → i < length (rowsFrom f n 0) → P (getD (rowsFrom f n 0) i d)
+of-rows P f n d g i h = let below : i < n = omega (arith, rows-length f n 0) in let k : i + 0 ≡ i = omega arith in subst P (sym (rows-get f n 0 i d below ∙ ap f k)) (g i below)

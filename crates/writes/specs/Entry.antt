@@ -11,7 +11,8 @@ use Rattle.tlv.specs.Value.{valueIn}
 use Rattle.members.specs.Scalar.{ABSENT}
 use Rattle.interaction.specs.Message.{firstOf}
 use Rattle.interaction_write.specs.declared.Entry.{Entry}
-use Rattle.schema.specs.Rows.{attributeRow}
+use Rattle.interaction_write.specs.Write.{entryIn}
+use Rattle.schema.specs.Rows.{rowsFrom, attributeRow}
 use Rattle.acl.specs.declared.Grants.{Grants}
 use Rattle.selection.specs.declared.locate.Located.{Located}
 use Rattle.selection.specs.declared.locate.Located.the-variants.{Here, Refused}
@@ -47,6 +48,10 @@ codesOf w g defaults s h (x ∷ xs) = entryWritten w g defaults s h x .code ∷ 
 -- the statuses as the code keeps them, in an array of 16
 abbrev pub codesIn : List ℕ → List ℕ
 codesIn l = firstOf maxWrites 0 l
+
+-- the first n entries, as they are lent in words
+abbrev pub entriesIn : List ℕ → ℕ → List Entry
+entriesIn l n = rowsFrom (entryIn l) n 0
 
 -- a path whose parts have their widths
 pub record InWidth (x : Entry) : Type 0 where

@@ -2,20 +2,22 @@
 ghost use mathlib.Core.Path.{_≡_};
 ghost use mathlib.Core.Bool.{true};
 ghost use Prim.Native.Nat.{ℕ, _<_, _≤_, _*_};
-ghost use lib.ListN.{length, take, getD};
+ghost use lib.ListN.{length};
 ghost use Rattle.bounds.specs.Bounds.{maxWrites};
 ghost use Rattle.schema.specs.Layout.{textSize};
 ghost use Rattle.schema.specs.Check.{wellFormed, textCount};
-ghost use Rattle.interaction_write.specs.Write.{noEntry};
+ghost use Rattle.interaction_write.specs.Write.{entryIn};
 ghost use Rattle.selection.specs.Reach.{Within};
 ghost use Rattle.writes.specs.Offer.{heldOf};
-ghost use Rattle.writes.specs.Entry.{atVersion, mayWrite, entryWritten, InWidth, heldAfter, codesOf, codesIn};
+ghost use Rattle.writes.specs.Entry.{atVersion, mayWrite, entryWritten, InWidth, entriesIn, heldAfter, codesOf, codesIn};
 use super::offer;
 use acl::Grants;
 use bounds::ATTRIBUTES;
 use bounds::CLUSTERS;
 use bounds::MAX_WRITES;
+use interaction_write::ENTRY_WORDS;
 use interaction_write::Entry;
+use interaction_write::entry_in;
 use members::ABSENT;
 use schema::TEXTS;
 use schema::WORDS;
@@ -113,17 +115,17 @@ pub fn write_all<'a>(
     nulls: &mut [bool; ATTRIBUTES],
     texts: &mut [u16; TEXTS],
     versions: &mut [u32; CLUSTERS],
-    entries: [Entry; MAX_WRITES],
+    entries: &'a [u64; ENTRY_WORDS],
     n: usize,
     s: &'a [u8],
 ) -> [u8; MAX_WRITES]
-    requires { ⌜ (wellFormed (now w) ≡ true) × ((n ≤ maxWrites) × (((i : ℕ) → i < n → InWidth (getD entries i noEntry)) × (length (now edits) ≡ textSize * textCount (now w)))) ⌝ }
-    ensures { λ r. ⌜ (heldOf (now (words .exit)) (now (nulls .exit)) (now (texts .exit)) (now (versions .exit)) (now (edits .exit)) ≡ heldAfter (now (w .entry)) g (now (defaults .entry)) (now (s .entry)) (heldOf (now (words .entry)) (now (nulls .entry)) (now (texts .entry)) (now (versions .entry)) (now (edits .entry))) (take n entries)) × (r ≡ codesIn (codesOf (now (w .entry)) g (now (defaults .entry)) (now (s .entry)) (heldOf (now (words .entry)) (now (nulls .entry)) (now (texts .entry)) (now (versions .entry)) (now (edits .entry))) (take n entries))) ⌝ }
+    requires { ⌜ (wellFormed (now w) ≡ true) × ((n ≤ maxWrites) × (((i : ℕ) → i < n → InWidth (entryIn (now entries) i)) × (length (now edits) ≡ textSize * textCount (now w)))) ⌝ }
+    ensures { λ r. ⌜ (heldOf (now (words .exit)) (now (nulls .exit)) (now (texts .exit)) (now (versions .exit)) (now (edits .exit)) ≡ heldAfter (now (w .entry)) g (now (defaults .entry)) (now (s .entry)) (heldOf (now (words .entry)) (now (nulls .entry)) (now (texts .entry)) (now (versions .entry)) (now (edits .entry))) (entriesIn (now (entries .entry)) n)) × (r ≡ codesIn (codesOf (now (w .entry)) g (now (defaults .entry)) (now (s .entry)) (heldOf (now (words .entry)) (now (nulls .entry)) (now (texts .entry)) (now (versions .entry)) (now (edits .entry))) (entriesIn (now (entries .entry)) n))) ⌝ }
 {
     let mut codes = [0u8; MAX_WRITES];
     let mut i = 0;
     while i < n {
-        let x = entries[i];
+        let x = entry_in(entries, i);
         codes[i] = write_entry(w, g, defaults, edits, words, nulls, texts, versions, x, s);
         i += 1;
     }

@@ -1,34 +1,35 @@
 // A Write Response: one status for each entry of the write.
 ghost use mathlib.Core.Path.{_≡_};
 ghost use Prim.Native.Nat.{ℕ, _<_, _≤_, _+_, _*_};
-ghost use lib.ListN.{length, take, getD};
+ghost use lib.ListN.{length, take};
 ghost use Rattle.bounds.specs.Bounds.{maxPayload, maxWrites};
 ghost use Rattle.octets.specs.Store.{Stored};
-ghost use Rattle.interaction_write.specs.Write.{noEntry};
+ghost use Rattle.interaction_write.specs.Write.{entryIn};
 ghost use Rattle.interaction_writer.specs.Spelling.{joined};
-ghost use Rattle.writes.specs.Entry.{InWidth};
+ghost use Rattle.writes.specs.Entry.{InWidth, entriesIn};
 ghost use Rattle.writes.specs.Response.{answerTrees, responsePayload};
 use bounds::MAX_WRITES;
-use interaction_write::Entry;
+use interaction_write::ENTRY_WORDS;
+use interaction_write::entry_in;
 use interaction_writer::response::put_write_response_close;
 use interaction_writer::response::put_write_response_open;
 use interaction_writer::response::put_write_status;
 
 // The statuses, one after the other.
 fn put_statuses(
-    entries: [Entry; MAX_WRITES],
+    entries: &[u64; ENTRY_WORDS],
     codes: [u8; MAX_WRITES],
     n: usize,
     out: &mut [u8],
     start: usize,
 ) -> usize
-    requires { ⌜ (n ≤ maxWrites) × (((i : ℕ) → i < n → InWidth (getD entries i noEntry)) × (start + n * 27 ≤ length (now out))) ⌝ }
-    ensures { λ r. ⌜ Stored (now (out .entry)) start (joined (answerTrees (take n entries) (take n codes))) (now (out .exit)) r ⌝ }
+    requires { ⌜ (n ≤ maxWrites) × (((i : ℕ) → i < n → InWidth (entryIn (now entries) i)) × (start + n * 27 ≤ length (now out))) ⌝ }
+    ensures { λ r. ⌜ Stored (now (out .entry)) start (joined (answerTrees (entriesIn (now (entries .entry)) n) (take n codes))) (now (out .exit)) r ⌝ }
 {
     let mut at = start;
     let mut i = 0;
     while i < n {
-        let x = entries[i];
+        let x = entry_in(entries, i);
         at = put_write_status(
             out,
             at,
@@ -44,14 +45,14 @@ fn put_statuses(
 
 // The whole payload.
 pub fn put_response(
-    entries: [Entry; MAX_WRITES],
+    entries: &[u64; ENTRY_WORDS],
     codes: [u8; MAX_WRITES],
     n: usize,
     out: &mut [u8],
     start: usize,
 ) -> usize
-    requires { ⌜ (n ≤ maxWrites) × (((i : ℕ) → i < n → InWidth (getD entries i noEntry)) × (start + maxPayload ≤ length (now out))) ⌝ }
-    ensures { λ r. ⌜ Stored (now (out .entry)) start (responsePayload (take n entries) (take n codes)) (now (out .exit)) r ⌝ }
+    requires { ⌜ (n ≤ maxWrites) × (((i : ℕ) → i < n → InWidth (entryIn (now entries) i)) × (start + maxPayload ≤ length (now out))) ⌝ }
+    ensures { λ r. ⌜ Stored (now (out .entry)) start (responsePayload (entriesIn (now (entries .entry)) n) (take n codes)) (now (out .exit)) r ⌝ }
 {
     let p = put_write_response_open(out, start);
     let q = put_statuses(entries, codes, n, out, p);

@@ -1,42 +1,36 @@
-use borrow.Author.Needs.{needs}
-use mathlib.Core.Path.{_≡_, sym, ap, _∙_}
+use mathlib.Core.Path.{_≡_, sym, ap, subst, _∙_}
 use Prim.Native.Nat.{_≤_, _*_, _-_}
 use native.Mathlib.Omega.{arith}
-use lib.ListN.{length, take, length-take}
-use Rattle.bounds.specs.Bounds.{maxWrites}
-use Rattle.interaction_write.specs.Write.{noEntry}
+use borrow.Author.Needs.{needs}
+use lib.ListN.{length}
 use Rattle.schema.specs.Layout.{textSize}
 use Rattle.schema.specs.Check.{textCount}
-use Rattle.writes.specs.Offer.{Outcome}
+use Rattle.schema.proofs.RowLaws.{rows-length}
+use Rattle.interaction_write.specs.Write.{entryIn}
+use Rattle.selection.proofs.RequestLaws.{rows-here}
+use Rattle.writes.specs.Offer.{Outcome, heldOf}
+use Rattle.writes.specs.Entry.{InWidth, entriesIn}
 use Rattle.writes.proofs.HeldLaws.{entry-length}
-use Rattle.writes.proofs.LoopLaws.{Writing, taken-at, writing-begins, writing-goes, writing-ends}
-use Rattle.writes.specs.Offer.{heldOf}
+use Rattle.writes.proofs.LoopLaws.{Writing, writing-begins, writing-goes, writing-ends}
 use Rattle.writes.proofs.entry.write_all.Statement.{statement}
 use Rattle.writes.proofs.entry.write_all.Tie as tie
 
 abbrev Inv-loop : tie.InvT-loop
-Inv-loop w g defaults edits₀ words₀ nulls₀ texts₀ versions₀ n s entries codes₀ i₀ edits words nulls texts versions codes i =
-    (i ≤ n) × (length edits ≡ textSize * textCount w) × Writing w g defaults s (heldOf words₀ nulls₀ texts₀ versions₀ edits₀) (take n entries) (heldOf words nulls texts versions edits) codes i
+Inv-loop w g defaults edits₀ words₀ nulls₀ texts₀ versions₀ entries n s codes₀ i₀ edits words nulls texts versions codes i =
+    (i ≤ n) × (length edits ≡ textSize * textCount w) × Writing w g defaults s (heldOf words₀ nulls₀ texts₀ versions₀ edits₀) (entriesIn entries n) (heldOf words nulls texts versions edits) codes i
 
 abbrev μ-loop : tie.MeasureT-loop
-μ-loop w g defaults edits₀ words₀ nulls₀ texts₀ versions₀ n s entries codes₀ i₀ edits words nulls texts versions codes i =
+μ-loop w g defaults edits₀ words₀ nulls₀ texts₀ versions₀ entries n s codes₀ i₀ edits words nulls texts versions codes i =
     n - i
-
--- what owning the array tells: it has all its entries
-enough : (c : tie.Start Inv-loop μ-loop) → c .args .n ≤ length (c .args .t9)
-enough c = let h : length (c .args .t9) ≡ maxWrites = search needs in omega (arith, c .pre .1 .0, h)
 
 loop-holds : tie.Need-loop-holds Inv-loop μ-loop
 loop-holds c = (search needs, c .before .before .before .pre .1 .1 .1, writing-begins _ _ _ _ _ _)
 
-mul-x : tie.Need-mul-x Inv-loop μ-loop
-mul-x c = omega (arith, c .before .before .before .before .before .pre .1 .0, c .loop-test .taken)
-
-array-copy-out-x : tie.Need-array-copy-out-x Inv-loop μ-loop
-array-copy-out-x c = omega (arith, c .before .before .before .before .before .pre .1 .0, c .loop-test .taken)
+entry-in-requires : tie.Need-entry-in-requires Inv-loop μ-loop
+entry-in-requires c κs = omega (arith, c .before .before .before .before .before .pre .1 .0, c .loop-test .taken)
 
 write-entry-requires : tie.Need-write-entry-requires Inv-loop μ-loop
-write-entry-requires c κs = (c .before .before .before .before .before .before .before .before .before .before .before .pre .0, (c .before .before .before .before .before .before .before .before .before .before .before .pre .1 .1 .0 _ (c .before .before .before .before .before .before .loop-test .taken), c .before .before .before .before .before .before .before .loop .inv .1))
+write-entry-requires c κs = (c .before .before .before .before .before .before .before .before .before .before .before .pre .0, ((subst InWidth (sym (c .before .before .before .before .before .entry-in .ensures)) (c .before .before .before .before .before .before .before .before .before .before .before .pre .1 .1 .0 _ (c .before .before .before .before .before .before .loop-test .taken))), c .before .before .before .before .before .before .before .loop .inv .1))
 
 array-write-codes : tie.Need-array-write-codes Inv-loop μ-loop
 array-write-codes c = omega (arith, c .before .before .before .before .before .before .before .before .before .before .before .before .before .before .pre .1 .0, c .before .before .before .before .before .before .before .before .before .loop-test .taken)
@@ -48,10 +42,10 @@ loop-less : tie.Need-loop-less Inv-loop μ-loop
 loop-less c = omega (arith, c .before .before .before .before .before .before .before .before .before .loop-test .taken)
 
 loop-again : tie.Need-loop-again Inv-loop μ-loop
-loop-again c = let a = c .before .before .before .before .before .before .before .before .before .before .before .before .before .before .args in let l = c .before .before .before .before .before .before .before .before .before .before .loop in let e = c .before .before .write-entry .ensures in let h = heldOf (l .words) (l .nulls) (l .texts) (l .versions) (l .edits) in (
+loop-again c = let a = c .before .before .before .before .before .before .before .before .before .before .before .before .before .before .args in let l = c .before .before .before .before .before .before .before .before .before .before .loop in let e = c .before .before .write-entry .ensures in let x = c .before .before .before .before .before .before .before .before .entry-in in let h = heldOf (l .words) (l .nulls) (l .texts) (l .versions) (l .edits) in (
   omega (arith, c .before .before .before .before .before .before .before .before .before .loop-test .taken),
   ap (λ (o : Outcome). length (o .held .edits)) e ∙ entry-length (a .w .now) (a .defaults .now) h (a .g) (a .s .now) _ ∙ l .inv .1,
-  writing-goes (a .w .now) (a .g) (a .defaults .now) (a .s .now) (l .inv .2) _ _ (omega (arith, c .before .before .before .before .before .before .before .before .before .before .before .before .before .before .pre .1 .0, c .before .before .before .before .before .before .before .before .before .loop-test .taken)) (taken-at (a .t9) (a .n) (l .i) noEntry (enough (c .before .before .before .before .before .before .before .before .before .before .before .before .before .before)) (c .before .before .before .before .before .before .before .before .before .loop-test .taken)) e,
+  writing-goes (a .w .now) (a .g) (a .defaults .now) (a .s .now) (l .inv .2) (x .result) _ (omega (arith, c .before .before .before .before .before .before .before .before .before .before .before .before .before .before .pre .1 .0, c .before .before .before .before .before .before .before .before .before .loop-test .taken)) (rows-here (entryIn (a .entries .now)) (a .n) (l .i) (x .result) (c .before .before .before .before .before .before .before .before .before .loop-test .taken) (x .ensures)) e,
 )
 
 same-length : tie.Need-same-length Inv-loop μ-loop
@@ -59,7 +53,7 @@ same-length c = c .before .loop .inv .1 ∙ sym (c .before .before .before .befo
 
 returns : tie.Need-returns Inv-loop μ-loop
 returns c = let a = c .before .before .before .before .before .args in let l = c .before .loop in
-    let e = writing-ends (a .w .now) (a .g) (a .defaults .now) (a .s .now) (l .inv .2) (omega (arith, length-take (a .n) (a .t9), c .loop-test .left)) in
+    let e = writing-ends (a .w .now) (a .g) (a .defaults .now) (a .s .now) (l .inv .2) (omega (arith, rows-length (entryIn (a .entries .now)) (a .n) 0, c .loop-test .left)) in
     (sym (e .0), e .1)
 
 pub write-all-spec : {M : Type 1} → statement M
@@ -69,8 +63,7 @@ write-all-spec =
     Inv-loop
     μ-loop
     loop-holds
-    mul-x
-    array-copy-out-x
+    entry-in-requires
     write-entry-requires
     array-write-codes
     add-i
