@@ -80,23 +80,19 @@ pub number-step : (s : List ℕ) (a k : ℕ) → a < length s → numberAt (suc 
 unfolding numberOf
 number-step s a k h = rw (drop-cons s a 0 h) refl
 
--- two bytes, and four as two pairs
+pub number-one : (s : List ℕ) (a : ℕ) → a + 1 ≤ length s → numberAt 1 s a ≡ getD s a 0
+unfolding numberOf
+number-one s a h = rw (number-step s a 0 (omega arith)) (omega arith)
+
 pub number-pair : (s : List ℕ) (a : ℕ) → a + 2 ≤ length s → numberAt 2 s a ≡ getD s a 0 + 256 * getD s (a + 1) 0
 unfolding numberOf
 number-pair s a h = rw (number-step s a 1 (omega arith), number-step s (suc a) 0 (omega arith), add-one a) (omega arith)
 
-pub number-pairs : (s : List ℕ) (a : ℕ) → a + 4 ≤ length s → numberAt 4 s a ≡ numberAt 2 s a + 65536 * numberAt 2 s (a + 2)
-number-pairs s a h =
+-- two bytes and those after them
+pub number-two : (s : List ℕ) (a j : ℕ) → a + 2 ≤ length s → numberAt (suc (suc j)) s a ≡ numberAt 2 s a + 65536 * numberAt j s (a + 2)
+number-two s a j h =
     let e : a + 2 ≡ suc (suc a) = omega arith in
-    rw (number-step s a 3 (omega arith), number-step s (suc a) 2 (omega arith), number-pair s a (omega arith), add-one a, e) (omega arith)
+    rw (number-step s a (suc j) (omega arith), number-step s (suc a) j (omega arith), number-pair s a h, add-one a, e) (omega arith)
 
 pub below-word : (k j : ℕ) → k ≤ j → 256 ^ k ≤ 256 ^ j
 below-word k j h = pow-le-pow-right {n = 256} (omega arith) {i = k} {j = j} (omega arith)
-
--- a turn of the loop that reads a number from its last byte down
-pub number-turn : (s : List ℕ) (at w i j v b : ℕ) → i ≡ suc j → i ≤ w → at + w ≤ length s → v ≡ numberAt (w - i) s (at + i) → v < 256 ^ (w - i) → b < 256 → b ≡ getD s (at + j) 0 → (v * 256 + b ≡ numberAt (w - j) s (at + j)) × (v * 256 + b < 256 ^ (w - j))
-number-turn s at w i j v b e iw fits hv lv lb hb =
-    let e1 : w - j ≡ suc (w - i) = omega arith in
-    let e2 : at + i ≡ suc (at + j) = omega arith in
-    let hv′ : v ≡ numberAt (w - i) s (suc (at + j)) = rw e2 at hv in
-    rw e1 (rw (number-step s (at + j) (w - i) (omega arith)) (omega arith), rw pow-suc (omega arith))

@@ -22,38 +22,45 @@ fn pair(s: &[u8], at: usize) -> u64
     wide(s[at]) + 256 * wide(s[at + 1])
 }
 
-// The number in the w bytes from at on, byte by byte from the last.
-fn long_number(s: &[u8], at: usize, w: usize) -> u64
-    requires { ⌜ (w ≤ 8) × (at + w ≤ length (now s)) ⌝ }
-    ensures { λ r. ⌜ r ≡ numberAt w (now (s .entry)) at ⌝ }
+// In four.
+fn quad(s: &[u8], at: usize) -> u64
+    requires { ⌜ at + 4 ≤ length (now s) ⌝ }
+    ensures { λ r. ⌜ r ≡ numberAt 4 (now (s .entry)) at ⌝ }
+    ensures small { λ r. ⌜ r < 4294967296 ⌝ }
 {
-    let mut v: u64 = 0;
-    let mut i = w;
-    while 0 < i {
-        i -= 1;
-        v = v * 256 + wide(s[at + i]);
-    }
-    v
+    pair(s, at) + 65536 * pair(s, at + 2)
 }
 
-// The same. Most have one, two or four bytes: without a loop they are one load.
-pub fn number(s: &[u8], at: usize, w: usize) -> u64
-    requires { ⌜ (w ≤ 8) × (at + w ≤ length (now s)) ⌝ }
+// In at most four. By one load where there are one, two or four, as nearly always.
+fn short(s: &[u8], at: usize, w: usize) -> u64
+    requires { ⌜ (w ≤ 4) × (at + w ≤ length (now s)) ⌝ }
     ensures { λ r. ⌜ r ≡ numberAt w (now (s .entry)) at ⌝ }
+    ensures small { λ r. ⌜ r < 4294967296 ⌝ }
 {
-    if w == 0 {
-        return 0;
-    }
     if w == 1 {
         return wide(s[at]);
+    }
+    if w == 0 {
+        return 0;
     }
     if w == 2 {
         return pair(s, at);
     }
-    if w == 4 {
-        return pair(s, at) + 65536 * pair(s, at + 2);
+    if w == 3 {
+        return pair(s, at) + 65536 * wide(s[at + 2]);
     }
-    long_number(s, at, w)
+    quad(s, at)
+}
+
+// The number in the w bytes from at on.
+pub fn number(s: &[u8], at: usize, w: usize) -> u64
+    requires { ⌜ (w ≤ 8) × (at + w ≤ length (now s)) ⌝ }
+    ensures { λ r. ⌜ r ≡ numberAt w (now (s .entry)) at ⌝ }
+{
+    if w <= 4 {
+        return short(s, at, w);
+    }
+    quad(s, at) + 4294967296 * short(s, at + 4, w - 4)
 }
 
 // The two low bytes of v.
