@@ -9,10 +9,10 @@ use Rattle.bounds.specs.Bounds.{maxPaths, maxWrites}
 use Rattle.octets.specs.Store.{store, Stored}
 use Rattle.tlv.specs.Decode.{Opt}
 use Rattle.tlv.specs.Decode.Opt.{just, nothing}
-use Rattle.interaction.specs.declared.ReadRequest.{ReadRequest}
+use Rattle.interaction.specs.Read.{ReadRequest}
 use Rattle.interaction.specs.Read.{nowhere, Read, readIn, readRead}
 use Rattle.interaction.proofs.KeepLaws.{length-first, first-none}
-use Rattle.interaction_write.specs.declared.WriteRequest.{WriteRequest}
+use Rattle.interaction_write.specs.Write.{WriteRequest}
 use Rattle.interaction_write.specs.Write.{noEntry, entryStruct, WriteOf, writeIn, writeRead}
 use Rattle.interaction_write.proofs.WidthLaws.{kept-wide}
 use Rattle.acl.specs.declared.Grants.{Grants}

@@ -6,10 +6,10 @@ use lib.ListN.{length, take}
 use mathlib.Core.Path.{_≡_}
 use Rattle.octets.specs.Store.{store}
 use Rattle.tlv.specs.Octet.{pick}
-use Rattle.interaction.specs.declared.ReadRequest.{ReadRequest}
+use Rattle.interaction.specs.Read.{ReadRequest}
 use Rattle.interaction.specs.Read.{readIn, readRead}
 use Rattle.interaction_write.specs.declared.Entry.{Entry}
-use Rattle.interaction_write.specs.declared.WriteRequest.{WriteRequest}
+use Rattle.interaction_write.specs.Write.{WriteRequest}
 use Rattle.interaction_write.specs.Write.{writeIn, writeRead}
 use Rattle.interaction_writer.specs.Envelope.{panelEdition}
 use Rattle.acl.specs.declared.Grants.{Grants}

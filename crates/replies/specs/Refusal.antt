@@ -5,8 +5,8 @@ use Prim.Native.Nat.{ℕ}
 use lib.Dec.{ltb, eqb}
 use Rattle.bounds.specs.Bounds.{maxPaths, maxFilters, maxWrites}
 use Rattle.tlv.specs.Octet.{pick}
-use Rattle.interaction.specs.declared.ReadRequest.{ReadRequest}
-use Rattle.interaction_write.specs.declared.WriteRequest.{WriteRequest}
+use Rattle.interaction.specs.Read.{ReadRequest}
+use Rattle.interaction_write.specs.Write.{WriteRequest}
 use Rattle.replies.specs.declared.refusal.Asks.{Asks}
 
 -- the status, or 0 if none applies

@@ -28,7 +28,10 @@ use bounds::CLUSTERS;
 use exchange::FIRST_REPLY;
 use exchange::NOTHING;
 use exchange::Progress;
+use interaction::FILTER_WORDS;
+use interaction::PATH_WORDS;
 use interaction::read_request;
+use interaction_write::ENTRY_WORDS;
 use interaction_write::write_request;
 use interaction_writer::envelope::PANEL_EDITION;
 use report::ATTRIBUTE_PHASE;
@@ -96,24 +99,22 @@ pub fn begin_read<'a>(
     requires { ⌜ (wellFormed (now w) ≡ true) × ((exchange < exchangeLimit) × (maxMessage ≤ length (now out))) ⌝ }
     ensures { λ r. ⌜ Begins (readBegun (signWith (now (w .entry)) (now (defaults .entry)) (heldOf (now (words .entry)) (now (nulls .entry)) (now (texts .entry)) (now (versions .entry)) (now (edits .entry))) (rowIn (now (row .entry)) t (now (kept .entry)))) g exchange (now (payload .entry))) r (now (row .entry)) (now (row .exit)) (now (kept .exit)) (now (out .entry)) (now (out .exit)) ⌝ }
 {
-    let r = read_request(payload);
-    let paths = r.paths;
-    let filters = r.filters;
+    let mut paths = [0u64; PATH_WORDS];
+    let mut filters = [0u64; FILTER_WORDS];
+    let r = read_request(payload, &mut paths, &mut filters);
     let refusal = refusal_code(Asks {
         good: r.good,
         timed: 0,
-        paths: paths.count,
-        filters: filters.count,
+        paths: r.paths,
+        filters: r.filters,
         writes: 0,
     });
     if refusal != 0 {
         return refuse(kept, t, exchange, refusal, out);
     }
-    let targets = paths.kept;
-    let wanted = filters.kept;
-    let asked = paths.count;
-    put_paths(row, targets);
-    put_filters(w, wanted, filters.count, row);
+    let asked = r.paths;
+    put_paths(row, &paths);
+    put_filters(w, &filters, r.filters, row);
     let f = put_part(
         w,
         words,
@@ -171,20 +172,19 @@ pub fn begin_write<'a>(
     requires { ⌜ (wellFormed (now w) ≡ true) × ((length (now edits) ≡ textSize * textCount (now w)) × ((exchange < exchangeLimit) × (maxMessage ≤ length (now out)))) ⌝ }
     ensures { λ r. ⌜ ((row : List ℕ) → Wrote (writeBegun (signWith (now (w .entry)) (now (defaults .entry)) (heldOf (now (words .entry)) (now (nulls .entry)) (now (texts .entry)) (now (versions .entry)) (now (edits .entry))) (rowIn row t (now (kept .entry)))) g exchange (now (payload .entry))) r (heldOf (now (words .exit)) (now (nulls .exit)) (now (texts .exit)) (now (versions .exit)) (now (edits .exit))) row row (now (kept .exit)) (now (out .entry)) (now (out .exit))) ⌝ }
 {
-    let r = write_request(payload);
-    let entries = r.entries;
+    let mut entries = [0u64; ENTRY_WORDS];
+    let r = write_request(payload, &mut entries);
     let refusal = refusal_code(Asks {
         good: r.good,
         timed: r.timed,
         paths: 0,
         filters: 0,
-        writes: entries.count,
+        writes: r.entries,
     });
     if refusal != 0 {
         return refuse(kept, t, exchange, refusal, out);
     }
-    let all = entries.kept;
-    let n = entries.count;
+    let n = r.entries;
     let codes = write_all(
         w,
         g,
@@ -194,7 +194,7 @@ pub fn begin_write<'a>(
         nulls,
         texts,
         versions,
-        all,
+        &entries,
         n,
         payload,
     );
@@ -202,7 +202,7 @@ pub fn begin_write<'a>(
         return once_kept(kept, t, exchange, &out[0..0]);
     }
     let end = put_statuses(
-        all,
+        &entries,
         codes,
         n,
         out,

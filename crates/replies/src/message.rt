@@ -2,13 +2,13 @@
 ghost use mathlib.Core.Path.{_≡_};
 ghost use mathlib.Core.Bool.{true};
 ghost use Prim.Native.Nat.{ℕ, _<_, _≤_};
-ghost use lib.ListN.{length, take, getD};
+ghost use lib.ListN.{length, take};
 ghost use Rattle.bounds.specs.Bounds.{maxPaths, maxWrites};
 ghost use Rattle.octets.specs.Store.{Stored};
 ghost use Rattle.schema.specs.Check.{wellFormed};
-ghost use Rattle.interaction_write.specs.Write.{noEntry};
+ghost use Rattle.interaction_write.specs.Write.{entryIn};
 ghost use Rattle.interaction_writer.specs.Envelope.{exchangeLimit};
-ghost use Rattle.writes.specs.Entry.{InWidth};
+ghost use Rattle.writes.specs.Entry.{InWidth, entriesIn};
 ghost use Rattle.replies.specs.Messages.{maxMessage, statusMessage, responseMessage};
 ghost use Rattle.values.specs.Values.{valuesOf};
 ghost use Rattle.selection.specs.Request.{filtersIn};
@@ -23,7 +23,7 @@ use bounds::MAX_WRITES;
 use exchange::REPORT;
 use exchange::STATUS;
 use exchange::WRITE_RESPONSE;
-use interaction_write::Entry;
+use interaction_write::ENTRY_WORDS;
 use interaction_writer::envelope::put_envelope;
 use interaction_writer::response::put_status_response;
 use report::Filled;
@@ -45,7 +45,7 @@ pub fn put_status(out: &mut [u8], edition: u8, exchange: u64, turn: u16, code: u
 
 // The statuses of a write.
 pub fn put_statuses(
-    entries: [Entry; MAX_WRITES],
+    entries: &[u64; ENTRY_WORDS],
     codes: [u8; MAX_WRITES],
     n: usize,
     out: &mut [u8],
@@ -53,8 +53,8 @@ pub fn put_statuses(
     exchange: u64,
     turn: u16,
 ) -> usize
-    requires { ⌜ (n ≤ maxWrites) × (((i : ℕ) → i < n → InWidth (getD entries i noEntry)) × ((edition < 16) × ((exchange < exchangeLimit) × (maxMessage ≤ length (now out))))) ⌝ }
-    ensures { λ r. ⌜ Stored (now (out .entry)) 0 (responseMessage edition exchange turn (take n entries) (take n codes)) (now (out .exit)) r ⌝ }
+    requires { ⌜ (n ≤ maxWrites) × (((i : ℕ) → i < n → InWidth (entryIn (now entries) i)) × ((edition < 16) × ((exchange < exchangeLimit) × (maxMessage ≤ length (now out))))) ⌝ }
+    ensures { λ r. ⌜ Stored (now (out .entry)) 0 (responseMessage edition exchange turn (entriesIn (now (entries .entry)) n) (take n codes)) (now (out .exit)) r ⌝ }
 {
     let p = put_envelope(out, 0, edition, WRITE_RESPONSE as u8, exchange, turn);
     put_response(entries, codes, n, out, p)

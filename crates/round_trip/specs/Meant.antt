@@ -13,9 +13,9 @@ use Rattle.members.specs.Scalar.{ABSENT}
 use Rattle.blocks.specs.declared.Answer.{Answer}
 use Rattle.interaction.specs.declared.Target.{Target}
 use Rattle.interaction.specs.declared.Wanted.{Wanted}
-use Rattle.interaction.specs.declared.ReadRequest.{ReadRequest}
+use Rattle.interaction.specs.Read.{ReadRequest}
 use Rattle.interaction.specs.Read.{Read, pathsStruct, wantsStruct}
-use Rattle.interaction_write.specs.declared.WriteRequest.{WriteRequest}
+use Rattle.interaction_write.specs.Write.{WriteRequest}
 use Rattle.interaction_write.specs.Write.{WriteOf, entriesStruct}
 use Rattle.interaction_report.specs.declared.Part.{Part}
 use Rattle.interaction_report.specs.Report.{PartOf}

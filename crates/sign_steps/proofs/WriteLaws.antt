@@ -12,7 +12,7 @@ use Rattle.tlv.specs.Value.{Datum, valueIn}
 use Rattle.members.specs.Scalar.{ABSENT}
 use Rattle.interaction.specs.Message.{firstOf}
 use Rattle.interaction_write.specs.declared.Entry.{Entry}
-use Rattle.interaction_write.specs.declared.WriteRequest.{WriteRequest}
+use Rattle.interaction_write.specs.Write.{WriteRequest}
 use Rattle.interaction_write.specs.Write.{writeIn, writeRead}
 use Rattle.kinds.proofs.SizedLaws.{value-in-sized}
 use Rattle.acl.specs.declared.Grants.{Grants}
