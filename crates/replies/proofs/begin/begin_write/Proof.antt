@@ -10,7 +10,7 @@ use Rattle.interaction_write.specs.declared.Entry.{Entry}
 use Rattle.interaction_write.specs.Write.{entryIn, writeIn, WriteRequest, writeRead}
 use Rattle.interaction_writer.specs.Envelope.{panelEdition}
 use Rattle.exchange.specs.Rules.{firstReply}
-use Rattle.writes.specs.Offer.{heldOf}
+use Rattle.writes.specs.Offer.{Held, heldOf}
 use Rattle.writes.specs.Entry.{InWidth, entriesIn, heldAfter, codesOf, codesIn}
 use Rattle.replies.specs.declared.refusal.Asks.{Asks}
 use Rattle.replies.specs.Sign.{Sign, signWith}
@@ -63,7 +63,7 @@ sent c =
     let w = c .before .before .before .before .before .before .before .write-all in
     let n = write-count (a .payload .now) (c .before .before .before .before .before .before .before .before .before .before .before .before .before .before .before .before .write-request .ensures) in
     let q = entries (c .before .before .before .before .before .before .before .before .before .before .before .before .before .before) in
-    response-sent (a .payload .now) refl (a .w .now) (a .g) (a .defaults .now) h (rowIn [] (a .t) (a .kept .now)) (a .exchange) (accepted (c .before .before .before .before .before .before .before .before .before .before .before .before .before .before)) (w .ensures .1 ∙ ap (λ (xs : List Entry). codesIn (codesOf (a .w .now) (a .g) (a .defaults .now) (a .payload .now) h xs)) q) (response-as panelEdition (a .exchange) firstReply (w .result) q n (c .put-statuses .ensures))
+    response-sent (a .payload .now) refl (signWith (a .w .now) (a .defaults .now) h (rowIn [] (a .t) (a .kept .now))) (a .g) (a .exchange) (accepted (c .before .before .before .before .before .before .before .before .before .before .before .before .before .before)) (w .ensures .1 ∙ ap (λ (xs : List Entry). codesIn (codesOf (a .w .now) (a .g) (a .defaults .now) (a .payload .now) h xs)) q) (response-as panelEdition (a .exchange) firstReply (w .result) q n (c .put-statuses .ensures))
 
 short : (c : tie.After-put-statuses) →
     let a = c .before .before .before .before .before .before .before .before .before .before .before .before .before .before .before .before .before .before .before .before .before .before .args in
@@ -71,7 +71,7 @@ short : (c : tie.After-put-statuses) →
     length (responseMessage panelEdition (a .exchange) firstReply (entriesOf r) (codesOf (a .w .now) (a .g) (a .defaults .now) (a .payload .now) (held (c .before .before .before .before .before .before .before .before .before .before .before .before .before .before .before .before)) (entriesOf r))) ≤ maxMessage
 short c =
     let a = c .before .before .before .before .before .before .before .before .before .before .before .before .before .before .before .before .before .before .before .before .before .before .args in
-    response-short (a .payload .now) refl (a .w .now) (a .g) (a .defaults .now) (held (c .before .before .before .before .before .before .before .before .before .before .before .before .before .before .before .before)) (rowIn [] (a .t) (a .kept .now)) (a .exchange) (accepted (c .before .before .before .before .before .before .before .before .before .before .before .before .before .before))
+    response-short (a .payload .now) refl (signWith (a .w .now) (a .defaults .now) (held (c .before .before .before .before .before .before .before .before .before .before .before .before .before .before .before .before)) (rowIn [] (a .t) (a .kept .now))) (a .g) (a .exchange) (accepted (c .before .before .before .before .before .before .before .before .before .before .before .before .before .before))
 
 write-request-requires : tie.Need-write-request-requires
 write-request-requires c κs = search needs
@@ -86,7 +86,7 @@ same-length : tie.Need-same-length
 same-length c = search needs
 
 returns : tie.Need-returns
-returns c = let a = c .before .before .before .before .before .before .before .before .before .before .before .before .before .args in let n = refusal (c .before .before .before .before .before .before) in λ row. wrote-refused (a .payload .now) refl (a .w .now) (a .g) (a .defaults .now) (held (c .before .before .before .before .before .before .before)) (rowIn row (a .t) (a .kept .now)) (a .exchange) (λ z. c .before .before .before .before .before .if1 .taken (n ∙ z)) (let f = c .before .before .refuse .ensures row in (f .0 ∙ ap (λ n. once (rowIn row (a .t) (a .kept .now)) (a .exchange) (refusalOf (a .exchange) n)) n, f .1))
+returns c = let a = c .before .before .before .before .before .before .before .before .before .before .before .before .before .args in let n = refusal (c .before .before .before .before .before .before) in λ row. wrote-refused (a .payload .now) refl (signWith (a .w .now) (a .defaults .now) (held (c .before .before .before .before .before .before .before)) (rowIn row (a .t) (a .kept .now))) (a .g) (a .exchange) (λ z. c .before .before .before .before .before .if1 .taken (n ∙ z)) (let f = c .before .before .refuse .ensures row in (f .0 ∙ ap (λ n. once (rowIn row (a .t) (a .kept .now)) (a .exchange) (refusalOf (a .exchange) n)) n, f .1))
 
 write-all-requires : tie.Need-write-all-requires
 write-all-requires c κs = let p = c .before .before .before .before .before .before .before .before .before .before .before .before .before .before .pre in (p .0, (few (c .before .before .before .before .before .before), (widths (c .before .before .before .before .before .before), p .1 .0)))
