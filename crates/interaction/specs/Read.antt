@@ -3,7 +3,7 @@ use Prim.Native.Nat.{ℕ, _-_, _*_}
 use mathlib.Core.List.{List, [], _∷_}
 use mathlib.Core.Bool.{Bool, true, false}
 use lib.ListN.{length, getD}
-use lib.Dec.{eqb}
+use lib.Dec.{ltb, eqb}
 use Rattle.bounds.specs.Bounds.{maxDepth, maxPaths, maxFilters}
 use Rattle.tlv.specs.Octet.{pick, structure, array}
 use Rattle.tlv.specs.Tree.{Tree, Trees}
