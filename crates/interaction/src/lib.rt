@@ -120,11 +120,15 @@ fn target_of(p: Path) -> Target
     }
 }
 
-// The words that the first paths of a read are kept in: endpoint, cluster, attribute of one path after the other.
-pub const PATH_WORDS: usize = MAX_PATHS * 3;
+// A path that is kept is three words: endpoint, cluster, attribute; a filter too: endpoint, cluster, version.
+pub const PATH_SIZE: usize = 3;
 
-// And its filters: endpoint, cluster, version.
-pub const FILTER_WORDS: usize = MAX_FILTERS * 3;
+pub const FILTER_SIZE: usize = 3;
+
+// The words that the first paths and filters of a read are kept in.
+pub const PATH_WORDS: usize = MAX_PATHS * PATH_SIZE;
+
+pub const FILTER_WORDS: usize = MAX_FILTERS * FILTER_SIZE;
 
 // A list that was read from an array: whether it is well-formed, how many members it has, and where it ends. The first of them are in words that are lent.
 pub struct Listed {

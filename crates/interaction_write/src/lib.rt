@@ -26,15 +26,18 @@ pub struct Entry {
     pub place: usize,
 }
 
-// The words that the first entries of a write are kept in: the fields of one entry after the other.
-pub const ENTRY_WORDS: usize = MAX_WRITES * 5;
+// An entry that is kept is five words, its fields in order.
+const ENTRY_SIZE: usize = 5;
+
+// The words that the first entries of a write are kept in.
+pub const ENTRY_WORDS: usize = MAX_WRITES * ENTRY_SIZE;
 
 // Entry number i.
 pub fn entry_in(entries: &[u64; ENTRY_WORDS], i: usize) -> Entry
     requires { ⌜ i < maxWrites ⌝ }
     ensures { λ r. ⌜ r ≡ entryIn (now (entries .entry)) i ⌝ }
 {
-    let at = i * 5;
+    let at = i * ENTRY_SIZE;
     Entry {
         version: entries[at],
         endpoint: entries[at + 1],
@@ -51,7 +54,7 @@ fn keep_entry(kept: &mut [u64; ENTRY_WORDS], count: usize, x: Entry)
     if MAX_WRITES <= count {
         return;
     }
-    let at = count * 5;
+    let at = count * ENTRY_SIZE;
     kept[at] = x.version;
     kept[at + 1] = x.endpoint;
     kept[at + 2] = x.cluster;

@@ -5,12 +5,13 @@ use lib.ListN.{getD, take, drop}
 use Rattle.bounds.specs.Bounds.{clusterLimit, maxPaths}
 use Rattle.schema.specs.Rows.{rowsFrom}
 use Rattle.interaction.specs.declared.Target.{Target}
+use Rattle.interaction.specs.Read.{targetSize}
 use Rattle.selection.specs.declared.asked.Asked.{Asked}
 use Rattle.selection.specs.Asked.{askedFor}
 
 -- a path is three words: endpoint, cluster, attribute
 abbrev pub pathSize : ℕ
-pathSize = 3
+pathSize = targetSize
 
 -- where the filters start: behind the paths
 abbrev pub filtersAt : ℕ

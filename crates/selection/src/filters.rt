@@ -12,6 +12,7 @@ ghost use Rattle.selection.specs.Filters.{unfiltered, joined, filterWord
 use super::request::FILTERS_AT;
 use super::request::ROW_WORDS;
 use bounds::CLUSTERS;
+use interaction::FILTER_SIZE;
 use interaction::FILTER_WORDS;
 use interaction::Wanted;
 use schema::Found;
@@ -77,7 +78,7 @@ fn filter_at(filters: &[u64; FILTER_WORDS], i: usize) -> Wanted
     requires { ⌜ i < maxFilters ⌝ }
     ensures { λ r. ⌜ r ≡ wantedIn (now (filters .entry)) i ⌝ }
 {
-    let at = i * 3;
+    let at = i * FILTER_SIZE;
     Wanted {
         endpoint: filters[at],
         cluster: filters[at + 1],

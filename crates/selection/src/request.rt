@@ -9,12 +9,12 @@ ghost use Rattle.selection.specs.Request.{askedAt};
 use super::asked::Asked;
 use super::asked::asked_for;
 use bounds::CLUSTERS;
-use bounds::MAX_PATHS;
+use interaction::PATH_SIZE;
+use interaction::PATH_WORDS;
 use interaction::Target;
 
-pub const PATH_SIZE: usize = 3;
-
-pub const FILTERS_AT: usize = MAX_PATHS * PATH_SIZE;
+// The filters' words are behind those of the paths.
+pub const FILTERS_AT: usize = PATH_WORDS;
 
 // How the exchange stands is behind the request.
 pub const STANDING_AT: usize = FILTERS_AT + CLUSTERS;
