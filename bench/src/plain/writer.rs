@@ -35,8 +35,10 @@ impl<'a> Writer<'a> {
         self.at += N;
     }
 
-    /// Always inlined: the width is known at most calls, and by itself the compiler leaves a call, which makes a read half as long again.
-    #[inline(always)]
+    /// Always inlined: the width is known at most calls, and by itself the compiler leaves a call, which makes a read half as long again. The feature
+    /// `untuned` leaves it to the compiler.
+    #[cfg_attr(feature = "untuned", inline)]
+    #[cfg_attr(not(feature = "untuned"), inline(always))]
     fn numbered(&mut self, kind: u8, tag: u8, number: u64, width: u8) {
         let control = 0x20 + kind + width;
         let [a, b, c, d, e, f, g, h] = number.to_le_bytes();
