@@ -7,6 +7,7 @@ mod clock;
 mod library;
 mod messages;
 mod ordinary;
+mod ordinary_panel;
 mod panel;
 mod panel_times;
 mod plain;
@@ -28,6 +29,7 @@ fn main() {
     match words[..] {
         [] => {
             against::hold(SEEDS, 1);
+            against::panel::hold(SEEDS, 1);
             refusal::print();
             sign_times::reads();
             sign_times::singles();
@@ -36,7 +38,10 @@ fn main() {
             stack::print();
         }
         ["stack"] => stack::print(),
-        ["against", seeds, first] => against::hold(number(seeds), number(first)),
+        ["against", seeds, first] => {
+            against::hold(number(seeds), number(first));
+            against::panel::hold(number(seeds), number(first));
+        }
         [name, attributes, times] => {
             repeat::repeat(name, number(attributes) as usize, number(times) as usize)
         }

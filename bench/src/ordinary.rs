@@ -74,7 +74,7 @@ fn values(setup: &Setup) -> Values {
     values
 }
 
-fn value_of(value: &Value) -> plain::Value<'_> {
+pub fn value_of(value: &Value) -> plain::Value<'_> {
     match value {
         Value::Null => plain::Value::Null,
         Value::Bool(flag) => plain::Value::Bool(*flag),
@@ -85,7 +85,7 @@ fn value_of(value: &Value) -> plain::Value<'_> {
     }
 }
 
-fn last(answer: Answer) -> Last {
+pub fn last(answer: Answer) -> Last {
     match answer {
         Answer::Sent(len) => Last { number: 0, len },
         Answer::Nothing => Last { number: 1, len: 0 },

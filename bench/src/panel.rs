@@ -2,7 +2,7 @@
 
 use std::collections::BTreeMap;
 
-use reference::paths::Path;
+use reference::paths::{ClusterPath, Path};
 use reference::value::Value;
 
 use crate::messages::Messages;
@@ -22,6 +22,15 @@ pub struct Held {
     pub versions: [u32; ATTRIBUTES],
     pub kinds: [u8; ATTRIBUTES],
     pub words: [u64; ATTRIBUTES],
+}
+
+impl Held {
+    /// The cluster of an entry, if it is there.
+    pub fn place(&self, i: usize) -> Option<ClusterPath> {
+        let k = (self.keys[i] >> 32) as usize;
+        let place = *self.clusters.get(k).filter(|_| k < self.cluster_count)?;
+        Some(((place >> 32).try_into().ok()?, place as u32))
+    }
 }
 
 // A slice is its address and its length.

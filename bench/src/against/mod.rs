@@ -2,6 +2,7 @@
 //! signs that break the rules of refusal 2.
 
 mod broken;
+pub mod panel;
 mod play;
 mod reached;
 mod steps;

@@ -10,11 +10,35 @@ use reference::tlv::{read_payload, Body, Element, Tag};
 use super::steps::Step;
 
 /// A kind of answer, how often each of its numbers came, and those that must come.
-struct Group {
+pub struct Group {
     name: &'static str,
     hex: bool,
     wanted: &'static [u8],
     counts: BTreeMap<u8, u64>,
+}
+
+impl Group {
+    pub fn new(name: &'static str, hex: bool, wanted: &'static [u8]) -> Group {
+        Group { name, hex, wanted, counts: BTreeMap::new() }
+    }
+
+    pub fn count(&mut self, number: u8) {
+        *self.counts.entry(number).or_default() += 1;
+    }
+
+    /// Prints the counts, with what never came.
+    pub fn print(&self) {
+        let Group { name, hex, wanted, counts } = self;
+        let spell = |number: u8| if *hex { format!("{number:02X}") } else { number.to_string() };
+        let mut line = format!("  {name}:");
+        for (number, count) in counts {
+            line.push_str(&format!(" {} x {count},", spell(*number)));
+        }
+        for number in wanted.iter().filter(|number| !counts.contains_key(number)) {
+            line.push_str(&format!(" {} never,", spell(*number)));
+        }
+        println!("{}", line.trim_end_matches(','));
+    }
 }
 
 pub struct Reached([Group; 6]);
@@ -28,19 +52,18 @@ const BLOCK: usize = 5;
 
 impl Reached {
     pub fn new() -> Reached {
-        let group = |name, hex, wanted| Group { name, hex, wanted, counts: BTreeMap::new() };
         Reached([
-            group("starts", false, &[0, 11]),
-            group("messages", false, &[0, 1, 2, 3, 4]),
-            group("local changes", true, &[0, 0x7F, 0x86, 0x87, 0x8D, 0xC3]),
-            group("status responses", true, &[0x80, 0x89, 0xC8, 0xC9]),
-            group("written", true, &[0, 0x7E, 0x7F, 0x86, 0x87, 0x88, 0x8D, 0x92, 0xC3]),
-            group("reported statuses", true, &[0x7E, 0x7F, 0x86, 0x8F, 0xC3]),
+            Group::new("starts", false, &[0, 11]),
+            Group::new("messages", false, &[0, 1, 2, 3, 4]),
+            Group::new("local changes", true, &[0, 0x7F, 0x86, 0x87, 0x8D, 0xC3]),
+            Group::new("status responses", true, &[0x80, 0x89, 0xC8, 0xC9]),
+            Group::new("written", true, &[0, 0x7E, 0x7F, 0x86, 0x87, 0x88, 0x8D, 0x92, 0xC3]),
+            Group::new("reported statuses", true, &[0x7E, 0x7F, 0x86, 0x8F, 0xC3]),
         ])
     }
 
     fn count(&mut self, group: usize, number: u8) {
-        *self.0[group].counts.entry(number).or_default() += 1;
+        self.0[group].count(number);
     }
 
     /// Counts the answers to these steps.
@@ -84,20 +107,8 @@ impl Reached {
         }
     }
 
-    /// Prints the counts, with what never came.
     pub fn print(&self) {
-        for Group { name, hex, wanted, counts } in &self.0 {
-            let spell =
-                |number: u8| if *hex { format!("{number:02X}") } else { number.to_string() };
-            let mut line = format!("  {name}:");
-            for (number, count) in counts {
-                line.push_str(&format!(" {} x {count},", spell(*number)));
-            }
-            for number in wanted.iter().filter(|number| !counts.contains_key(number)) {
-                line.push_str(&format!(" {} never,", spell(*number)));
-            }
-            println!("{}", line.trim_end_matches(','));
-        }
+        self.0.iter().for_each(Group::print);
     }
 }
 

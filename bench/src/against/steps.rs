@@ -36,8 +36,16 @@ impl Step {
         Step { text, line: Line::Change(path, value) }
     }
 
+    pub fn panel(message: Vec<u8>) -> Step {
+        Step { text: format!("panel{}", hex(&message)), line: Line::Panel(message) }
+    }
+
     pub fn is_answered(&self) -> bool {
-        matches!(self.line, Line::Start | Line::Sign(..) | Line::Change(..))
+        let setup = matches!(
+            self.line,
+            Line::Subject(_) | Line::Cluster(_) | Line::Attribute(_) | Line::Access(_)
+        );
+        !setup && !matches!(self.line, Line::Buffer(_) | Line::Used(_))
     }
 }
 
@@ -137,7 +145,7 @@ fn change(schema: &Schema, rng: &mut Rng) -> Step {
 }
 
 /// A message cut, or a byte of it changed, put in or left out; seldom in the envelope, where it costs the rest of the exchange.
-fn hurt(mut message: Vec<u8>, rng: &mut Rng) -> Vec<u8> {
+pub fn hurt(mut message: Vec<u8>, rng: &mut Rng) -> Vec<u8> {
     for _ in 0..rng.between(1, 2) {
         let from = if rng.chance(4) { 0 } else { 8 };
         if message.len() <= from {

@@ -1,10 +1,14 @@
-//! A sign in ordinary Rust, as a careful firmware author writes it: what it holds behind `&mut`, the schema in slices that may lie in read-only memory,
-//! no heap, messages read in one pass, one walk of the schema a part, each reply made once, where it is kept. Each call of a
-//! `Sign<true>` tests what refusal 2 asks, and none of a `Sign<false>`, which must be lent what keeps the rules; refusals 3 and 4 are made by both.
+//! A sign and a panel in ordinary Rust, as a careful firmware author writes them: what they hold behind `&mut`, the schema in slices that may lie in read-only
+//! memory, no heap, messages read in one pass, one walk of the schema a part, entries found by halves, each message made once, where it is kept. Each call of a
+//! `Sign<true>` or `Panel<true>` tests what refusal 2 asks, and none of the others, which must be lent what keeps the rules; all other refusals are made by both.
 
 mod access;
 mod blocks;
+mod envelope;
+mod held;
+mod panel;
 mod reader;
+mod replies;
 mod report;
 mod requests;
 mod schema;
@@ -15,9 +19,12 @@ mod values;
 mod writer;
 
 pub use access::Entry;
+pub use envelope::Answer;
+pub use held::{Held, Stored};
+pub use panel::{Broken, Panel, Stage};
 pub use reader::Value;
 pub use schema::{Attribute, Cluster, Kind, Schema};
-pub use sign::{Answer, Sign};
+pub use sign::Sign;
 pub use values::Values;
 
 // The limits of document 01.

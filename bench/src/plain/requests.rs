@@ -7,8 +7,8 @@ use super::status::*;
 use super::{FILTERS, PATHS, WRITES};
 
 /// The revision's tag, which each message carries, and the field that it counts as.
-const REVISION: u16 = 255;
-const REVISION_FIELD: u16 = 9;
+pub const REVISION: u16 = 255;
+pub const REVISION_FIELD: u16 = 9;
 
 /// A read that is answered.
 #[derive(Clone)]

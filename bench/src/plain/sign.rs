@@ -1,6 +1,7 @@
 //! The sign: its calls, and the exchange that it serves.
 
 use super::access::{self, level, Entry};
+use super::envelope::*;
 use super::reader::{Malformed, Value, END};
 use super::report::{put_report, Place, Source};
 use super::requests::{status_response, Request, Write};
@@ -10,38 +11,8 @@ use super::values::Values;
 use super::writer::{Writer, ROOM};
 use super::{Lent, ATTRIBUTES, EXCHANGES, FILTERS, MESSAGE, PATHS};
 
-// Opcodes.
-const STATUS_RESPONSE: u8 = 1;
-const READ_REQUEST: u8 = 2;
-const REPORT: u8 = 5;
-const WRITE_REQUEST: u8 = 6;
-const WRITE_RESPONSE: u8 = 7;
-
-struct Envelope {
-    opcode: u8,
-    exchange: u64,
-    turn: u16,
-}
-
-/// The envelope of a message that a sign takes, and the payload; none where refusal 4 is due.
-fn open(message: &[u8]) -> Option<(Envelope, &[u8])> {
-    let (head, payload) = message.split_first_chunk()?;
-    let word = u64::from_be_bytes(*head);
-    let (edition, opcode) = (word >> 60, (word >> 56) as u8 & 15);
-    let known = matches!(opcode, STATUS_RESPONSE | READ_REQUEST | WRITE_REQUEST);
-    let (exchange, turn) = (word >> 16 & (EXCHANGES - 1), word as u16);
-    (message.len() <= MESSAGE && edition == 0 && known)
-        .then_some((Envelope { opcode, exchange, turn }, payload))
-}
-
-#[derive(Clone, Copy, PartialEq, Debug)]
-pub enum Answer {
-    /// A reply of this length.
-    Sent(usize),
-    Nothing,
-    /// Document 01's number, 2 to 4.
-    Refused(u8),
-}
+/// The opcodes that a sign takes.
+const TAKEN: [u8; 3] = [STATUS_RESPONSE, READ_REQUEST, WRITE_REQUEST];
 
 /// The exchange that is served.
 #[derive(Clone)]
@@ -122,7 +93,7 @@ impl<const CHECKED: bool> Sign<CHECKED> {
         if out.len() < MESSAGE {
             return Answer::Refused(3);
         }
-        let Some((envelope, payload)) = open(message) else {
+        let Some((envelope, payload)) = open(message, TAKEN) else {
             return Answer::Refused(4);
         };
         if subject != schema.subject {

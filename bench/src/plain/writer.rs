@@ -118,6 +118,27 @@ impl<'a> Writer<'a> {
         self.put([END, END]);
     }
 
+    /// The one entry of a panel's write.
+    pub fn write_entry(&mut self, version: Option<u32>, path: (u16, u32, u32), value: &Value) {
+        self.put([0x15]);
+        if let Some(version) = version {
+            self.unsigned(0, version.into());
+        }
+        self.path(1, path);
+        self.value(2, value);
+        self.put([END]);
+    }
+
+    /// A read's filter: a cluster, and the version at which it is not wanted.
+    pub fn filter(&mut self, (endpoint, cluster): (u16, u32), version: u32) {
+        self.put([0x15, 0x37, 0]);
+        self.unsigned(1, endpoint.into());
+        self.unsigned(2, cluster.into());
+        self.put([END]);
+        self.unsigned(1, version.into());
+        self.put([END]);
+    }
+
     /// A report's block with a status.
     pub fn status_block(&mut self, path: (u16, u32, u32), status: u8) {
         self.put([0x15, 0x35, 0]);
