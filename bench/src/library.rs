@@ -358,7 +358,7 @@ impl Sign {
         for k in 1..=messages.ends.len() {
             let mut out = [0; MESSAGE];
             let last = self.run(&messages.first(k), &mut out);
-            all.push(1, &out[..last.len]);
+            all.push(&out[..last.len]);
         }
         all
     }

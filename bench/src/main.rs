@@ -1,7 +1,8 @@
-//! Holds the proved sign to one in ordinary Rust, and times the proved libraries, called from Rust: the test of refusal 2 beside what it guards, the sign's
-//! calls beside ordinary Rust, the panel's beside the second program. What is answered is asserted, how long it takes is not.
+//! Holds the proved sign and the proved panel to ones in ordinary Rust, and times the proved libraries, called from Rust: the test of refusal 2 beside what it
+//! guards, and the calls of both beside ordinary Rust. What is answered is asserted, how long it takes is not.
 
 mod against;
+mod beside;
 mod called;
 mod clock;
 mod library;
@@ -9,11 +10,11 @@ mod messages;
 mod ordinary;
 mod ordinary_panel;
 mod panel;
+mod panel_stack;
 mod panel_times;
 mod plain;
 mod refusal;
 mod repeat;
-mod second;
 mod setup;
 mod sign_times;
 mod signs;
@@ -35,9 +36,18 @@ fn main() {
             sign_times::singles();
             sign_times::growth();
             panel_times::reports();
+            panel_times::growth();
             stack::print();
+            panel_stack::print();
         }
-        ["stack"] => stack::print(),
+        ["stack"] => {
+            stack::print();
+            panel_stack::print();
+        }
+        ["panel"] => {
+            panel_times::reports();
+            panel_times::growth();
+        }
         ["against", seeds, first] => {
             against::hold(number(seeds), number(first));
             against::panel::hold(number(seeds), number(first));

@@ -13,23 +13,20 @@ use crate::signs::{path, ATTRIBUTES_EACH, FIRST_VERSION};
 #[derive(Clone, Default)]
 pub struct Messages {
     pub bytes: Vec<u8>,
-    /// Where each message ends, and the exchange that it was made for.
+    /// Where each message ends.
     pub ends: Vec<usize>,
-    exchanges: Vec<u64>,
 }
 
 impl Messages {
-    pub fn push(&mut self, exchange: u64, message: &[u8]) {
+    pub fn push(&mut self, message: &[u8]) {
         self.bytes.extend_from_slice(message);
         self.ends.push(self.bytes.len());
-        self.exchanges.push(exchange);
     }
 
-    /// These messages of exchange 1.
     pub fn of(messages: &[Vec<u8>]) -> Messages {
         let mut all = Messages::default();
         for message in messages {
-            all.push(1, message);
+            all.push(message);
         }
         all
     }
@@ -37,22 +34,12 @@ impl Messages {
     pub fn first(&self, count: usize) -> Messages {
         let ends = self.ends[..count].to_vec();
         let bytes = self.bytes[..ends.last().copied().unwrap_or(0)].to_vec();
-        Messages { bytes, ends, exchanges: self.exchanges[..count].to_vec() }
+        Messages { bytes, ends }
     }
 
     pub fn iter(&self) -> impl Iterator<Item = &[u8]> {
         let starts = std::iter::once(0).chain(self.ends.iter().copied());
         starts.zip(&self.ends).map(|(start, end)| &self.bytes[start..*end])
-    }
-
-    /// Each exchange this much higher than it was made for: a sign serves no number twice.
-    pub fn renumber(&mut self, above: u64) {
-        let mut start = 0;
-        for (end, exchange) in self.ends.iter().zip(&self.exchanges) {
-            let number = (exchange + above).to_be_bytes();
-            self.bytes[start + 1..start + 6].copy_from_slice(&number[3..]);
-            start = *end;
-        }
     }
 }
 
@@ -74,7 +61,7 @@ pub fn filtered_reads(count: u64, attributes: usize) -> Messages {
         let filters = (0..attributes / ATTRIBUTES_EACH)
             .map(|k| spelling::filter(path(k * ATTRIBUTES_EACH).place(), FIRST_VERSION + k as u32));
         let payload = spelling::read_request(paths, filters.collect());
-        messages.push(exchange, &request(READ_REQUEST, exchange, &payload));
+        messages.push(&request(READ_REQUEST, exchange, &payload));
     }
     messages
 }
@@ -88,9 +75,9 @@ pub fn status(turn: u16, status: u8) -> Vec<u8> {
 /// A whole read of so many parts.
 pub fn whole_read(parts: usize) -> Messages {
     let mut messages = Messages::default();
-    messages.push(1, &read_all());
+    messages.push(&read_all());
     for turn in 1..parts {
-        messages.push(1, &status(turn as u16, SUCCESS));
+        messages.push(&status(turn as u16, SUCCESS));
     }
     messages
 }
@@ -101,23 +88,27 @@ pub fn single_reads(count: u64, path: &Path) -> Messages {
     let open = |id| spelling::open_path(Some(path.endpoint), Some(path.cluster), Some(id));
     for exchange in 1..=count {
         let payload = spelling::read_request(vec![open(path.attribute)], Vec::new());
-        messages.push(exchange, &request(READ_REQUEST, exchange, &payload));
+        messages.push(&request(READ_REQUEST, exchange, &payload));
     }
     messages
 }
 
-/// A read of everything with an ignored member in which containers stand as deep as they may.
-pub fn deep_read() -> Vec<u8> {
+/// A message with an ignored member in which containers stand as deep as they may.
+pub fn with_deep_member(mut payload: Element) -> Element {
     let mut deep = Body::Null;
     for _ in 1..DEPTH {
         deep = Body::Structure(vec![Element::context(9, deep)]);
     }
-    let paths = vec![spelling::open_path(None, None, None)];
-    let mut payload = spelling::read_request(paths, Vec::new());
     if let Body::Structure(fields) = &mut payload.body {
         fields.push(Element::context(0xC8, deep));
     }
-    request(READ_REQUEST, 1, &payload)
+    payload
+}
+
+/// A read of everything with such a member.
+pub fn deep_read() -> Vec<u8> {
+    let paths = vec![spelling::open_path(None, None, None)];
+    request(READ_REQUEST, 1, &with_deep_member(spelling::read_request(paths, Vec::new())))
 }
 
 /// One write of these values.
@@ -132,7 +123,7 @@ pub fn single_writes(count: u64, path: &Path, values: &[Value; 2]) -> Messages {
     for exchange in 1..=count {
         let entry = spelling::write_entry(None, path, &values[exchange as usize % 2]);
         let payload = spelling::write_request(false, vec![entry]);
-        messages.push(exchange, &request(WRITE_REQUEST, exchange, &payload));
+        messages.push(&request(WRITE_REQUEST, exchange, &payload));
     }
     messages
 }

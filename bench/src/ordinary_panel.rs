@@ -123,6 +123,11 @@ impl<const CHECKED: bool> Ordinary<CHECKED> {
         Ok(entry.map(|(version, value)| (version, shown(value))))
     }
 
+    /// The same, and nothing is made of it.
+    pub fn holds(&self, path: &Path) -> bool {
+        self.panel.entry(&self.page, path_of(path)).is_ok_and(|entry| entry.is_some())
+    }
+
     pub fn whole(&self, place: ClusterPath) -> Result<Option<u32>, Broken> {
         self.panel.whole(&self.page, place)
     }
@@ -150,8 +155,8 @@ impl<const CHECKED: bool> Ordinary<CHECKED> {
         held.order[..held.count].iter().map(entry).collect()
     }
 
-    /// As it stands it begins a read and takes the messages, each by a whole call: the last answer. Only the page is written. One function of its own in
-    /// the program, so that a profiler can tell it.
+    /// As it stands it begins a read and takes the messages, each by a whole call: the last answer. Only the page is written. One function
+    /// of its own in the program, so that a profiler can tell it.
     #[inline(never)]
     pub fn run(&mut self, messages: &Messages, out: &mut [u8; MESSAGE]) -> Last {
         let Ordinary { page, panel } = self;
@@ -161,5 +166,16 @@ impl<const CHECKED: bool> Ordinary<CHECKED> {
             answer = panel.receive(page, message, out);
         }
         last(answer)
+    }
+
+    /// What it holds after such a run.
+    pub fn entries_after(&self, messages: &Messages) -> BTreeMap<Path, (u32, Value)> {
+        let mut other = Ordinary { page: self.page.clone(), panel: self.panel.clone() };
+        let mut out = [0; MESSAGE];
+        other.begin_read(&mut out);
+        for message in messages.iter() {
+            other.receive(message, &mut out);
+        }
+        other.entries()
     }
 }

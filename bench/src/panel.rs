@@ -6,7 +6,7 @@ use reference::paths::{ClusterPath, Path};
 use reference::value::Value;
 
 use crate::messages::Messages;
-use crate::setup::{ATTRIBUTES, CLUSTERS, MESSAGE, TEXT_SIZE};
+use crate::setup::{ATTRIBUTES, CLUSTERS, TEXT_SIZE};
 
 /// What `panel_run` answers: number and length of the last message, and what the panel holds.
 #[repr(C)]
@@ -89,7 +89,7 @@ pub fn fresh() -> Held {
 }
 
 /// A panel that holds this begins a read and takes the messages.
-pub fn taken(page: &mut [u8], held: &Held, messages: &Messages, out: &mut [u8; MESSAGE]) -> Held {
+pub fn taken(page: &mut [u8], held: &Held, messages: &Messages, out: &mut [u8]) -> Held {
     // SAFETY: the arrays have the lengths that the library declares, each slice its own, and only `page` and `out` may be written.
     unsafe {
         panel_run(

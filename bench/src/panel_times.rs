@@ -1,143 +1,141 @@
-//! The panel beside the second program's on the same reports: the answers and what is held are held to be the same, then both are timed.
+//! The panel beside ordinary Rust on the same reports: the answers and what is held are held to be the same, then all are timed.
 
 use std::hint::black_box;
 
-use reference::answer::Answer;
-use reference::cache::Cache;
-
-use crate::called::Called;
-use crate::clock::{medians, Run};
+use crate::beside::{self, Line};
+use crate::called::{Called, Last};
 use crate::library::{Sign, PAYLOAD};
 use crate::messages::{filtered_reads, whole_read, Messages};
+use crate::ordinary_panel::{Checked, Unchecked};
 use crate::panel::{self, Held};
-use crate::second::{take, taken};
-use crate::setup::{ATTRIBUTES, MESSAGE};
-use crate::signs::mixed;
+use crate::setup::{Setup, ATTRIBUTES, MESSAGE};
+use crate::signs::{accented, mixed, numbers, scripts, texts};
 
 const SAMPLES: usize = 401;
+const FEWER_SAMPLES: usize = 101;
 
-const SIZES: [usize; 4] = [32, 64, 128, ATTRIBUTES];
-
-/// What our calls take, what the test of refusal 2 takes by itself as often as they make it, and what the second program takes, as it is
-/// and with such a test.
-struct Times {
-    ours: f64,
-    test: f64,
-    second: f64,
-    tested: f64,
-}
-
-/// The times of runs that come in fours, all sampled in turn.
-fn times(runs: Vec<Run>) -> Vec<Times> {
-    let all = medians(SAMPLES, runs);
-    let four = |t: &[f64]| Times { ours: t[0], test: t[1], second: t[2], tested: t[3] };
-    all.chunks(4).map(four).collect()
-}
-
-fn heading(name: &str) {
-    println!(
-        "\n{name:38} {:>9} {:>9} {:>9} {:>9} {:>7} {:>7} {:>7}",
-        "ours ns", "test ns", "Rust ns", "+test ns", "ratio", "+test", "-test"
-    );
-}
-
-fn print(name: &str, times: &Times) {
-    let Times { ours, test, second, tested } = times;
-    println!(
-        "{name:38} {ours:9.0} {test:9.0} {second:9.0} {tested:9.0} {:7.2} {:7.2} {:7.2}",
-        ours / second,
-        ours / tested,
-        (ours - test) / second
-    );
-}
-
-/// The parts of a report, and what a panel holds at each call that takes them: the same in both programs.
-struct Report {
+/// A read begun and the messages that are taken then, by panels that hold the same.
+struct Case {
     name: String,
-    parts: Messages,
-    texts: Vec<u8>,
+    messages: Messages,
+    page: Vec<u8>,
+    /// What ours holds at each of its calls, and at the end.
     states: Vec<Held>,
-    /// The second program's panel, where it does not begin as a fresh one.
-    filled: Option<Cache>,
+    unchecked: Unchecked,
+    checked: Checked,
 }
 
-impl Report {
-    /// The report that fills a fresh panel, and what is held then.
-    fn fill(attributes: usize) -> (Report, Held, Cache) {
-        let sign = Sign::new(&mixed(attributes));
-        let read = whole_read(sign.parts(&mut [0; PAYLOAD]));
-        let name = format!("{attributes} mixed kinds, {} parts", read.ends.len());
-        let parts = sign.replies(&read);
-        let (mut texts, mut out) = (panel::page(), [0; MESSAGE]);
-        let (mut last, mut states) = (Cache::default(), vec![panel::fresh()]);
-        for k in 0..=parts.ends.len() {
-            let some = parts.first(k);
-            let held = panel::taken(&mut texts, &states[0], &some, &mut out);
-            let (cache, answer) = taken(&some, true);
-            assert_eq!(held.number, answer.number(), "{name}: the number after {k} parts");
-            assert_eq!(out[..held.len], *answer.bytes(), "{name}: the message after {k} parts");
-            let entries = panel::entries(&texts, &held);
-            assert_eq!(entries, *cache.entries(), "{name}: the entries after {k} parts");
-            assert!(panel::valid(&texts, &held));
-            states.push(held);
-            last = cache;
+impl Case {
+    fn new(name: String, page: &[u8], held: &Held, messages: Messages) -> Case {
+        let (mut page, mut states) = (page.to_vec(), vec![*held]);
+        let (mut unchecked, mut checked) =
+            (Unchecked::holding(&page, held), Checked::holding(&page, held));
+        for k in 0..=messages.ends.len() {
+            let some = messages.first(k);
+            let (mut a, mut b, mut c) = ([7; MESSAGE], [7; MESSAGE], [7; MESSAGE]);
+            let ours = panel::taken(&mut page, held, &some, &mut a);
+            let last = Last { number: ours.number, len: ours.len };
+            assert_eq!(last, unchecked.run(&some, &mut b), "{name}: message {k}");
+            assert_eq!(a, b, "{name}: the answer to message {k}");
+            assert_eq!(last, checked.run(&some, &mut c), "{name}: message {k}, checked");
+            assert_eq!(a, c, "{name}: the answer to message {k}, checked");
+            assert!(last.number <= 1 && panel::valid(&page, &ours), "{name}: message {k} is taken");
+            states.push(ours);
         }
-        let held = states.pop().filter(|held| held.primed).expect("the last part fills it");
-        (Report { name, parts, texts, states, filled: None }, held, last)
+        let end = states.last().expect("a read was begun");
+        let entries = panel::entries(&page, end);
+        let ends = [unchecked.entries_after(&messages), checked.entries_after(&messages)];
+        assert!(ends.iter().all(|other| *other == entries), "{name}: the entries afterwards");
+        Case { name, messages, page, states, unchecked, checked }
+    }
+
+    /// The report of a sign fills a fresh panel.
+    fn fill(what: &str, setup: &Setup) -> Case {
+        let sign = Sign::new(setup);
+        let read = whole_read(sign.parts(&mut [0; PAYLOAD]));
+        let name = format!("{} {what}, {} parts", setup.schema.attributes.len(), read.ends.len());
+        let case = Case::new(name, &panel::page(), &panel::fresh(), sign.replies(&read));
+        assert!(case.end().primed, "the last part fills it");
+        case
     }
 
     /// A panel that was filled reads again, and nothing has changed.
-    fn again(texts: &[u8], held: Held, cache: Cache) -> Report {
+    fn again(filled: &Case) -> Case {
         let request = filtered_reads(1, ATTRIBUTES);
-        let name = "256 again, nothing has changed".to_string();
-        let parts = Sign::new(&mixed(ATTRIBUTES)).replies(&request);
-        let (mut page, mut out) = (texts.to_vec(), [0; MESSAGE]);
-        let begun = panel::taken(&mut page, &held, &parts.first(0), &mut out);
+        let replies = Sign::new(&mixed(ATTRIBUTES)).replies(&request);
+        let mut out = [0; MESSAGE];
+        let begun =
+            panel::taken(&mut filled.page.clone(), filled.end(), &Messages::default(), &mut out);
         assert_eq!(out[..begun.len], request.bytes, "a filter for each cluster");
-        let ended = panel::taken(&mut page, &held, &parts, &mut out);
-        assert_eq!((ended.number, ended.len), (1, 0), "the read ends");
-        assert_eq!(panel::entries(&page, &ended), *cache.entries(), "and nothing has changed");
-        Report { name, parts, texts: page, states: vec![held, begun], filled: Some(cache) }
+        Case::new("again, 32 filters, no change".into(), &filled.page, filled.end(), replies)
     }
 
-    fn second(&self, tested: bool) -> Run<'_> {
-        let Some(filled) = &self.filled else {
-            return Box::new(move || {
-                black_box(taken(black_box(&self.parts), tested));
-            });
-        };
-        let (mut cache, mut parts) = (filled.clone(), self.parts.clone());
-        Box::new(move || {
-            parts.renumber(cache.used());
-            assert_eq!(black_box(take(&mut cache, &parts, tested)), Answer::Nothing);
-        })
+    /// What ours holds at the end.
+    fn end(&self) -> &Held {
+        self.states.last().expect("a read was begun")
     }
 
-    fn runs(&self) -> Vec<Run<'_>> {
-        let (mut page, mut out) = (self.texts.clone(), [0; MESSAGE]);
-        vec![
-            Box::new(move || {
-                black_box(panel::taken(&mut page, &self.states[0], &self.parts, &mut out));
-            }),
-            Box::new(|| {
-                for state in &self.states {
-                    black_box(panel::valid(&self.texts, black_box(state)));
-                }
-            }),
-            self.second(false),
-            self.second(true),
-        ]
+    fn line(&mut self) -> Line<'_> {
+        let Case { name, messages, page, states, unchecked, checked } = self;
+        let (messages, page, states) = (&*messages, &*page, &states[..]);
+        let (mut a, mut b, mut c) = ([0; MESSAGE], [0; MESSAGE], [0; MESSAGE]);
+        let mut lent = page.clone();
+        Line {
+            name,
+            calls: 1.0,
+            runs: [
+                Box::new(move || {
+                    black_box(panel::taken(&mut lent, &states[0], black_box(messages), &mut a));
+                }),
+                Box::new(move || {
+                    black_box(black_box(&mut *unchecked).run(black_box(messages), &mut b));
+                }),
+                Box::new(move || {
+                    black_box(black_box(&mut *checked).run(black_box(messages), &mut c));
+                }),
+                Box::new(move || {
+                    for state in &states[..states.len() - 1] {
+                        black_box(panel::valid(page, black_box(state)));
+                    }
+                }),
+            ],
+        }
     }
 }
 
-/// The panel begins a read and takes the whole report.
+fn print(heading: &str, samples: usize, mut cases: Vec<Case>) {
+    beside::print(heading, samples, cases.iter_mut().map(Case::line).collect());
+}
+
+/// Whole reports, by what the sign holds; and one in which nothing is new.
 pub fn reports() {
-    heading("The panel: a read begun and taken");
-    let mut reports: Vec<Report> = SIZES.map(|size| Report::fill(size).0).into();
-    let (largest, held, cache) = Report::fill(ATTRIBUTES);
-    reports.push(Report::again(&largest.texts, held, cache));
-    let all = times(reports.iter().flat_map(Report::runs).collect());
-    for (report, times) in reports.iter().zip(&all) {
-        print(&report.name, times);
-    }
+    let filled = Case::fill("mixed kinds", &mixed(ATTRIBUTES));
+    let again = Case::again(&filled);
+    // What a run adds to the parts that it takes.
+    let begun = Case::new(
+        "a read begun by a fresh panel".into(),
+        &panel::page(),
+        &panel::fresh(),
+        Messages::default(),
+    );
+    let cases = vec![
+        filled,
+        Case::fill("booleans, unsigned", &numbers(ATTRIBUTES)),
+        Case::fill("mixed, accented", &accented(ATTRIBUTES)),
+        again,
+        begun,
+    ];
+    print("The panel: a read begun and taken", SAMPLES, cases);
+    let cases = vec![
+        Case::fill("texts, ASCII", &texts("BORROW")),
+        Case::fill("texts, one é each", &texts("PRÉT")),
+        Case::fill("texts, to 3 bytes", &scripts(["a", "é", "借", "り"])),
+    ];
+    print("The same, texts of 200 bytes", FEWER_SAMPLES, cases);
+}
+
+/// Whole reports, by how many blocks they have.
+pub fn growth() {
+    let cases = [32, 64, 128, ATTRIBUTES].map(|size| Case::fill("mixed kinds", &mixed(size)));
+    print("How a report grows", SAMPLES, cases.into());
 }

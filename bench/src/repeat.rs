@@ -8,8 +8,8 @@ use crate::called::Called;
 use crate::library::{Sign, PAYLOAD};
 use crate::messages::{filtered_reads, single_reads, single_writes, whole_read};
 use crate::ordinary::{Checked, Unchecked};
+use crate::ordinary_panel;
 use crate::panel;
-use crate::second::taken;
 use crate::setup::MESSAGE;
 use crate::signs::{mixed, number_of, path};
 
@@ -35,6 +35,8 @@ pub fn repeat(name: &str, attributes: usize, times: usize) {
     };
     let (mut page, mut out) = (panel::page(), [0; MESSAGE]);
     let fresh = panel::fresh();
+    let mut unchecked_panel = ordinary_panel::Unchecked::fresh();
+    let mut checked_panel = ordinary_panel::Checked::fresh();
     let (mut unchecked, mut checked) = (Unchecked::new(&setup), Checked::new(&setup));
     for _ in 0..times {
         let messages = black_box(&messages);
@@ -42,8 +44,11 @@ pub fn repeat(name: &str, attributes: usize, times: usize) {
             ("report", "ours") => {
                 black_box(panel::taken(&mut page, &fresh, messages, &mut out));
             }
+            ("report", "rust") => {
+                black_box(unchecked_panel.run(messages, &mut out));
+            }
             ("report", _) => {
-                black_box(taken(messages, whose == "checked"));
+                black_box(checked_panel.run(messages, &mut out));
             }
             (_, "ours") => {
                 black_box(sign.run(messages, &mut out));

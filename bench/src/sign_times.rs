@@ -4,8 +4,8 @@ use std::hint::black_box;
 
 use reference::value::Value;
 
+use crate::beside::{self, Line};
 use crate::called::Called;
-use crate::clock::{medians, Run};
 use crate::library::{Sign, PAYLOAD};
 use crate::messages::{filtered_reads, single_reads, single_writes, whole_read, Messages};
 use crate::ordinary::{Checked, Unchecked};
@@ -55,51 +55,36 @@ impl Case {
         Case::new(name.to_string(), &mixed(ATTRIBUTES), messages, SINGLE)
     }
 
-    /// Our run, the two in ordinary Rust, and both tests of refusal 2 alone, as often as a run makes them.
-    fn runs(&mut self) -> Vec<Run<'_>> {
-        let Case { messages, ours, unchecked, checked, .. } = self;
+    fn line(&mut self) -> Line<'_> {
+        let Case { name, messages, calls, ours, unchecked, checked } = self;
         let (messages, ours) = (&*messages, &*ours);
         let tests = messages.ends.len();
         let (mut a, mut b, mut c) = ([0; MESSAGE], [0; MESSAGE], [0; MESSAGE]);
-        vec![
-            Box::new(move || {
-                black_box(black_box(ours).run(black_box(messages), &mut a));
-            }),
-            Box::new(move || {
-                black_box(black_box(&mut *unchecked).run(black_box(messages), &mut b));
-            }),
-            Box::new(move || {
-                black_box(black_box(&mut *checked).run(black_box(messages), &mut c));
-            }),
-            Box::new(move || {
-                for _ in 0..tests {
-                    black_box(black_box(ours).valid());
-                }
-            }),
-        ]
+        Line {
+            name,
+            calls: *calls,
+            runs: [
+                Box::new(move || {
+                    black_box(black_box(ours).run(black_box(messages), &mut a));
+                }),
+                Box::new(move || {
+                    black_box(black_box(&mut *unchecked).run(black_box(messages), &mut b));
+                }),
+                Box::new(move || {
+                    black_box(black_box(&mut *checked).run(black_box(messages), &mut c));
+                }),
+                Box::new(move || {
+                    for _ in 0..tests {
+                        black_box(black_box(ours).valid());
+                    }
+                }),
+            ],
+        }
     }
 }
 
-/// A line for each case, all sampled in turn.
 fn print(heading: &str, samples: usize, mut cases: Vec<Case>) {
-    println!(
-        "\n{heading:38} {:>9} {:>9} {:>9} {:>9} {:>7} {:>9}",
-        "ours ns", "plain ns", "checked", "our test", "/plain", "/checked"
-    );
-    let all = medians(samples, cases.iter_mut().flat_map(Case::runs).collect());
-    for (case, times) in cases.iter().zip(all.chunks(4)) {
-        let [ours, plain, checked, test] = times else { unreachable!("four runs a case") };
-        println!(
-            "{:38} {:9.0} {:9.0} {:9.0} {:9.0} {:7.2} {:9.2}",
-            case.name,
-            ours / case.calls,
-            plain / case.calls,
-            checked / case.calls,
-            test / case.calls,
-            ours / plain,
-            ours / checked
-        );
-    }
+    beside::print(heading, samples, cases.iter_mut().map(Case::line).collect());
 }
 
 /// Whole reads, by what the sign holds.

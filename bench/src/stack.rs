@@ -43,7 +43,7 @@ fn touched(mut call: &mut dyn FnMut()) -> usize {
 }
 
 /// The bytes of stack that a call takes, without what calling nothing takes.
-fn bytes(call: &mut dyn FnMut()) -> usize {
+pub fn bytes(call: &mut dyn FnMut()) -> usize {
     touched(call) - touched(&mut || {})
 }
 
@@ -112,26 +112,26 @@ fn of_others<S: Called>() -> [usize; 3] {
     ]
 }
 
-fn line(name: &str, ours: usize, plain: Option<usize>, checked: usize) {
-    let plain = plain.map_or("-".to_string(), |bytes| bytes.to_string());
-    println!("{name:38} {ours:9} {plain:>9} {checked:9}");
+pub fn line(name: &str, ours: Option<usize>, plain: Option<usize>, checked: usize) {
+    let [ours, plain] = [ours, plain].map(|bytes| bytes.map_or("-".into(), |n| n.to_string()));
+    println!("{name:38} {ours:>9} {plain:>9} {checked:9}");
 }
 
 pub fn print() {
     println!("\n{:38} {:>9} {:>9} {:>9}", "Stack, bytes", "ours", "plain", "checked");
     for call in calls() {
         let plain = (call.number != 2).then(|| of_call::<Unchecked>(&call));
-        line(call.name, of_call::<Sign>(&call), plain, of_call::<Checked>(&call));
+        line(call.name, Some(of_call::<Sign>(&call)), plain, of_call::<Checked>(&call));
     }
     let names = ["a start", "a local change of a number", "a local change of a text"];
     let ours = of_others::<Sign>();
     let (plain, checked) = (of_others::<Unchecked>(), of_others::<Checked>());
     for (k, name) in names.iter().enumerate() {
-        line(name, ours[k], Some(plain[k]), checked[k]);
+        line(name, Some(ours[k]), Some(plain[k]), checked[k]);
     }
     let setup = accented(ATTRIBUTES);
     let (ours, checked) = (Sign::new(&setup), Checked::new(&setup));
     let ours = bytes(&mut || assert!(ours.valid()));
     let checked = bytes(&mut || assert!(checked.valid()));
-    line("the test of refusal 2 alone", ours, None, checked);
+    line("the test of refusal 2 alone", Some(ours), None, checked);
 }

@@ -23,7 +23,7 @@ pub fn hold(name: &str, state: &State, rng: &mut Rng) -> bool {
     let mut messages = Messages::default();
     for nothing in [false, true] {
         if nothing {
-            messages.push(1, &[]);
+            messages.push(&[]);
         }
         let mut after = page.clone();
         let ours = panel::taken(&mut after, held, &messages, &mut a);

@@ -64,7 +64,7 @@ fn runs(steps: &[Step], answers: &[Printed]) -> Vec<Run> {
             }
             (Line::Panel(message), 0..=2 | 4..) => {
                 if let (Some(exchange), Some(run)) = (exchange, runs.last_mut()) {
-                    run.messages.push(1, &renumbered(message, exchange));
+                    run.messages.push(&renumbered(message, exchange));
                 }
             }
             _ => {}
