@@ -101,7 +101,7 @@ impl<'a> Part<'a> {
     }
 }
 
-/// A write response: its one path and status. Of several none is awaited.
+/// A write response: its one path and status.
 pub fn write_response(payload: &[u8]) -> Read<((u16, u32, u32), u8)> {
     let mut reader = Reader::message(payload)?;
     let (mut seen, mut answer) = (Seen::default(), None);
@@ -110,10 +110,7 @@ pub fn write_response(payload: &[u8]) -> Read<((u16, u32, u32), u8)> {
             0 => {
                 seen.once(0)?;
                 hold(head.kind == ARRAY)?;
-                while let Some(head) = reader.member(ARRAY)? {
-                    hold(head.kind == STRUCTURE && answer.is_none())?;
-                    answer = Some(attribute_status(&mut reader)?);
-                }
+                answer = one_status(&mut reader)?;
             }
             REVISION => {
                 seen.once(REVISION_FIELD)?;
@@ -125,6 +122,16 @@ pub fn write_response(payload: &[u8]) -> Read<((u16, u32, u32), u8)> {
     seen.all(&[REVISION_FIELD])?;
     reader.ended()?;
     answer.ok_or(Malformed)
+}
+
+/// A list of at most one: of several none would be for the one entry that was written.
+fn one_status(reader: &mut Reader) -> Read<Option<((u16, u32, u32), u8)>> {
+    let mut answer = None;
+    while let Some(head) = reader.member(ARRAY)? {
+        hold(head.kind == STRUCTURE && answer.is_none())?;
+        answer = Some(attribute_status(reader)?);
+    }
+    Ok(answer)
 }
 
 fn attribute_status(reader: &mut Reader) -> Read<((u16, u32, u32), u8)> {

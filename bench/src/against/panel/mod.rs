@@ -60,9 +60,7 @@ pub fn hold(seeds: u64, first: u64) {
         for (name, steps) in [("as made", made), ("damaged", damaged)] {
             let name = format!("seed {seed}, {name}");
             let steps = steps::ending(steps);
-            let answers = proved(&steps);
-            same(&format!("{name}, checked Rust"), &steps, &answers, &play::<true>(&steps));
-            same(&format!("{name}, plain Rust"), &steps, &answers, &play::<false>(&steps));
+            let answers = hold_rust(&name, &steps);
             player.add(&steps, &answers);
             let name = format!("{name}, the library");
             let state = runs::hold(&name, &steps, &answers, &mut linked);
@@ -72,10 +70,19 @@ pub fn hold(seeds: u64, first: u64) {
             }
         }
     }
+    hold_rust("to the last turn", &steps::to_last_turn());
     println!("The proved player and the Rust panels answer alike, {seeds} seeds from {first}:");
     [player.begun, player.messages, player.asked].iter().for_each(Group::print);
     println!("The linked library and the Rust panels answer alike:");
     linked.print();
     let [broken, kept] = judged;
     println!("Refusal 2: {kept} states keep the rules, {broken} break one; the library and the checked Rust agree");
+}
+
+/// Both Rust panels answer what the proved player does, which is given back.
+fn hold_rust(name: &str, steps: &[Step]) -> Vec<Printed> {
+    let answers = proved(steps);
+    same(&format!("{name}, checked Rust"), steps, &answers, &play::<true>(steps));
+    same(&format!("{name}, plain Rust"), steps, &answers, &play::<false>(steps));
+    answers
 }
