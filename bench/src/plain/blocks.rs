@@ -91,7 +91,7 @@ impl Filter {
     }
 }
 
-/// One entry of a write: an exact path, the version that is asked for, and the value.
+/// One entry of a write, or a block of a report: an exact path, the version that is asked for or reported, and the value.
 #[derive(Clone, Copy)]
 pub struct Data<'a> {
     pub version: Option<u32>,
@@ -103,28 +103,34 @@ impl<'a> Data<'a> {
     pub const NONE: Data<'static> = Data { version: None, path: (0, 0, 0), value: Value::Other };
 
     pub fn read(reader: &mut Reader<'a>, depth: usize) -> Read<Data<'a>> {
-        let (mut data, mut seen) = (Data::NONE, Seen::default());
+        let mut data = Data::NONE;
+        data.fill(reader, depth)?;
+        Ok(data)
+    }
+
+    /// Read where it is kept, and where nothing was before.
+    pub fn fill(&mut self, reader: &mut Reader<'a>, depth: usize) -> Read<()> {
+        let mut seen = Seen::default();
         while let Some(head) = reader.member(STRUCTURE)? {
             match head.tag {
                 0 => {
                     seen.once(0)?;
-                    data.version = Some(head.id()?);
+                    self.version = Some(head.id()?);
                 }
                 1 => {
                     seen.once(1)?;
                     hold(head.kind == LIST)?;
                     let path = Path::read(reader, depth + 1)?;
-                    data.path = path.exact().ok_or(Malformed)?;
+                    self.path = path.exact().ok_or(Malformed)?;
                 }
                 2 => {
                     seen.once(2)?;
                     reader.skip(&head, depth)?;
-                    data.value = head.value(reader.bytes);
+                    self.value = head.value(reader.bytes);
                 }
                 _ => reader.skip(&head, depth)?,
             }
         }
-        seen.all(&[1, 2])?;
-        Ok(data)
+        seen.all(&[1, 2])
     }
 }

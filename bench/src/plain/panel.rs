@@ -185,8 +185,8 @@ impl<const CHECKED: bool> Panel<CHECKED> {
         if part.more && self.newest.turn == u16::MAX {
             return Err(6);
         }
-        self.held.make_room(part.blocks()).ok_or(7)?;
-        self.held.set(page, part.blocks());
+        self.held.make_room(&mut part).ok_or(7)?;
+        self.held.set(page, &mut part);
         if part.more {
             self.newest.ask_on();
         } else {

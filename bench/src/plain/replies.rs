@@ -7,58 +7,19 @@ use super::requests::{REVISION, REVISION_FIELD};
 /// What a payload has room for at most: no block that is taken has fewer than 22 bytes, and what stands around them takes eight.
 const BLOCKS: usize = (1024 - 8) / 22;
 
-/// A value that is reported.
-#[derive(Clone, Copy)]
-pub struct Block<'a> {
-    pub path: (u16, u32, u32),
-    pub version: u32,
-    pub value: Value<'a>,
-    /// The entry that it sets, once it has a place.
-    pub entry: u8,
-}
-
-impl<'a> Block<'a> {
-    const NONE: Block<'static> =
-        Block { path: (0, 0, 0), version: 0, value: Value::Null, entry: 0 };
-
-    /// A block with a status is refused.
-    fn read(reader: &mut Reader<'a>) -> Read<Block<'a>> {
-        let mut block = None;
-        while let Some(head) = reader.member(STRUCTURE)? {
-            match head.tag {
-                0 => return Err(Malformed),
-                1 => {
-                    hold(block.is_none() && head.kind == STRUCTURE)?;
-                    block = Some(Block::of(Data::read(reader, 3)?)?);
-                }
-                _ => reader.skip(&head, 2)?,
-            }
-        }
-        block.ok_or(Malformed)
-    }
-
-    /// A version is required, and a value that an attribute can have.
-    fn of(data: Data<'a>) -> Read<Block<'a>> {
-        let version = data.version.ok_or(Malformed)?;
-        match data.value {
-            Value::Other => return Err(Malformed),
-            Value::Text(text) => hold(std::str::from_utf8(text).is_ok())?,
-            _ => {}
-        }
-        Ok(Block { path: data.path, version, value: data.value, entry: 0 })
-    }
-}
-
 /// A part of a report, read whole before anything is set.
 pub struct Part<'a> {
-    blocks: [Block<'a>; BLOCKS],
+    blocks: [Data<'a>; BLOCKS],
+    /// The entry that each sets, once it has one.
+    entries: [u8; BLOCKS],
     count: usize,
     /// Whether more is promised.
     pub more: bool,
 }
 
 impl<'a> Part<'a> {
-    pub const NONE: Part<'static> = Part { blocks: [Block::NONE; BLOCKS], count: 0, more: false };
+    pub const NONE: Part<'static> =
+        Part { blocks: [Data::NONE; BLOCKS], entries: [0; BLOCKS], count: 0, more: false };
 
     /// A part taken in place.
     pub fn read(&mut self, payload: &'a [u8]) -> Read<()> {
@@ -90,15 +51,39 @@ impl<'a> Part<'a> {
     fn read_blocks(&mut self, reader: &mut Reader<'a>) -> Read<()> {
         while let Some(head) = reader.member(ARRAY)? {
             hold(head.kind == STRUCTURE)?;
-            self.blocks[self.count] = Block::read(reader)?;
+            read_block(reader, &mut self.blocks[self.count])?;
             self.count += 1;
         }
         Ok(())
     }
 
-    pub fn blocks(&mut self) -> &mut [Block<'a>] {
-        &mut self.blocks[..self.count]
+    /// The blocks, each with the entry that it sets.
+    pub fn blocks(&mut self) -> impl Iterator<Item = (&Data<'a>, &mut u8)> {
+        self.blocks[..self.count].iter().zip(&mut self.entries)
     }
+}
+
+/// A block with a status is refused.
+fn read_block<'a>(reader: &mut Reader<'a>, block: &mut Data<'a>) -> Read<()> {
+    let mut seen = Seen::default();
+    while let Some(head) = reader.member(STRUCTURE)? {
+        match head.tag {
+            0 => return Err(Malformed),
+            1 => {
+                seen.once(1)?;
+                hold(head.kind == STRUCTURE)?;
+                block.fill(reader, 3)?;
+            }
+            _ => reader.skip(&head, 2)?,
+        }
+    }
+    seen.all(&[1])?;
+    hold(block.version.is_some())?;
+    hold(match block.value {
+        Value::Other => false,
+        Value::Text(text) => std::str::from_utf8(text).is_ok(),
+        _ => true,
+    })
 }
 
 /// A write response: its one path and status.
