@@ -83,7 +83,8 @@ impl<'a> Writer<'a> {
         self.at += text.len();
     }
 
-    #[inline]
+    /// Always inlined too: a panel's write would make it a call in each block of a sign's report.
+    #[inline(always)]
     fn value(&mut self, tag: u8, value: &Value) {
         match *value {
             Value::Null => self.put([0x34, tag]),
