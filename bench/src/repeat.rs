@@ -6,7 +6,7 @@ use reference::value::Value;
 
 use crate::called::Called;
 use crate::library::{Sign, PAYLOAD};
-use crate::messages::{filtered_reads, single_reads, single_writes, whole_read};
+use crate::messages::{filtered_reads, single_reads, single_writes, whole_read, Messages};
 use crate::ordinary::{Checked, Unchecked};
 use crate::ordinary_panel;
 use crate::panel;
@@ -30,35 +30,33 @@ pub fn repeat(name: &str, attributes: usize, times: usize) {
         "single-write" => {
             single_writes(16, &number, &[Value::Unsigned(70_000), Value::Unsigned(5)])
         }
-        "report" => sign.replies(&whole),
+        "report" => return repeat_report(whose, &sign.replies(&whole), times),
         _ => panic!("bench/README.md has the names of the runs"),
     };
-    let (mut page, mut out) = (panel::page(), [0; MESSAGE]);
-    let fresh = panel::fresh();
-    let mut unchecked_panel = ordinary_panel::Unchecked::fresh();
-    let mut checked_panel = ordinary_panel::Checked::fresh();
+    let mut out = [0; MESSAGE];
     let (mut unchecked, mut checked) = (Unchecked::new(&setup), Checked::new(&setup));
     for _ in 0..times {
         let messages = black_box(&messages);
-        match (run, whose) {
-            ("report", "ours") => {
-                black_box(panel::taken(&mut page, &fresh, messages, &mut out));
-            }
-            ("report", "rust") => {
-                black_box(unchecked_panel.run(messages, &mut out));
-            }
-            ("report", _) => {
-                black_box(checked_panel.run(messages, &mut out));
-            }
-            (_, "ours") => {
-                black_box(sign.run(messages, &mut out));
-            }
-            (_, "rust") => {
-                black_box(unchecked.run(messages, &mut out));
-            }
-            _ => {
-                black_box(checked.run(messages, &mut out));
-            }
+        match whose {
+            "ours" => black_box(sign.run(messages, &mut out)),
+            "rust" => black_box(unchecked.run(messages, &mut out)),
+            _ => black_box(checked.run(messages, &mut out)),
+        };
+    }
+}
+
+/// A fresh panel begins a read and takes a report.
+fn repeat_report(whose: &str, parts: &Messages, times: usize) {
+    let (mut page, mut out) = (panel::page(), [0; MESSAGE]);
+    let fresh = panel::fresh();
+    let mut unchecked = ordinary_panel::Unchecked::fresh();
+    let mut checked = ordinary_panel::Checked::fresh();
+    for _ in 0..times {
+        let parts = black_box(parts);
+        match whose {
+            "ours" => _ = black_box(panel::taken(&mut page, &fresh, parts, &mut out)),
+            "rust" => _ = black_box(unchecked.run(parts, &mut out)),
+            _ => _ = black_box(checked.run(parts, &mut out)),
         }
     }
 }

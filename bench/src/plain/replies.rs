@@ -86,8 +86,11 @@ fn read_block<'a>(reader: &mut Reader<'a>, block: &mut Data<'a>) -> Read<()> {
     })
 }
 
+/// A path, and the status for it.
+type Status = ((u16, u32, u32), u8);
+
 /// A write response: its one path and status.
-pub fn write_response(payload: &[u8]) -> Read<((u16, u32, u32), u8)> {
+pub fn write_response(payload: &[u8]) -> Read<Status> {
     let mut reader = Reader::message(payload)?;
     let (mut seen, mut answer) = (Seen::default(), None);
     while let Some(head) = reader.member(STRUCTURE)? {
@@ -110,7 +113,7 @@ pub fn write_response(payload: &[u8]) -> Read<((u16, u32, u32), u8)> {
 }
 
 /// A list of at most one: of several none would be for the one entry that was written.
-fn one_status(reader: &mut Reader) -> Read<Option<((u16, u32, u32), u8)>> {
+fn one_status(reader: &mut Reader) -> Read<Option<Status>> {
     let mut answer = None;
     while let Some(head) = reader.member(ARRAY)? {
         hold(head.kind == STRUCTURE && answer.is_none())?;
@@ -119,7 +122,7 @@ fn one_status(reader: &mut Reader) -> Read<Option<((u16, u32, u32), u8)>> {
     Ok(answer)
 }
 
-fn attribute_status(reader: &mut Reader) -> Read<((u16, u32, u32), u8)> {
+fn attribute_status(reader: &mut Reader) -> Read<Status> {
     let (mut path, mut status) = (None, None);
     while let Some(head) = reader.member(STRUCTURE)? {
         match head.tag {
