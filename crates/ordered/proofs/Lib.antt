@@ -1,0 +1,5 @@
+pub mod Pigeonhole
+pub mod CutLaws
+pub mod InsertLaws
+pub mod OrderLaws
+pub mod Examples
