@@ -247,7 +247,13 @@ impl Newest {
             && self.exchange <= self.used
             && self.unknown.is_none_or(|exchange| exchange <= self.used)
             && self.len <= MESSAGE
-            && (!self.is_open() || self.turn > 0 && self.len > 0)
+            && (!self.is_open() || self.awaits())
+    }
+
+    /// While it is open: a reply of an exchange, of a write its only one, to a message that was sent.
+    fn awaits(&self) -> bool {
+        let writes = matches!(self.stage, Stage::Writing(_));
+        self.exchange > 0 && self.turn > 0 && (!writes || self.turn == 1) && self.len > 0
     }
 
     fn is_open(&self) -> bool {

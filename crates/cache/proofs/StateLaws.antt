@@ -18,7 +18,7 @@ use Rattle.envelope.specs.Envelope.{maxMessage}
 use Rattle.interaction_writer.specs.Envelope.{exchangeLimit}
 use Rattle.cache.specs.declared.Request.{Request}
 use Rattle.cache.specs.declared.State.{State}
-use Rattle.cache.specs.State.{isOpen, withStatus, askedRight, panelRight}
+use Rattle.cache.specs.State.{isOpen, withStatus, openRight, askedRight, panelRight}
 
 -- of the request
 pub record RightAsked (x : Request) : Type 0 where
@@ -27,7 +27,7 @@ pub record RightAsked (x : Request) : Type 0 where
   pub unknown : x .unknown ≤ x .used
   pub stage : x .stage ≤ withStatus
   pub len : x .len ≤ maxMessage
-  pub sent : pick (isOpen (x .stage)) (not (eqb (x .turn) 0) && ltb 0 (x .len)) true ≡ true
+  pub sent : pick (isOpen (x .stage)) (openRight x) true ≡ true
 
 pub asked-right : (x : Request) → askedRight x ≡ true → RightAsked x
 unfolding askedRight

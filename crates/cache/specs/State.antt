@@ -7,6 +7,7 @@ use Rattle.tlv.specs.Octet.{pick}
 use Rattle.cached.specs.Valid.{heldRight}
 use Rattle.interaction_writer.specs.Envelope.{exchangeLimit}
 use Rattle.envelope.specs.Envelope.{maxMessage}
+use Rattle.exchange.specs.Rules.{firstReply}
 use Rattle.cache.specs.declared.Request.{Request}
 use Rattle.cache.specs.declared.State.{State}
 
@@ -29,13 +30,18 @@ withStatus = 4
 unfoldable pub isOpen : ℕ → Bool
 isOpen stage = eqb stage reading || eqb stage writing
 
--- numbers of 40 bits that were used; an open request has sent a message and awaits a turn from 1 on
+-- an open request has sent a message, in an exchange from 1 on, and awaits a turn from 1 on; a write has one reply
+unfoldable pub openRight : Request → Bool
+openRight x =
+    not (eqb (x .exchange) 0) && (not (eqb (x .turn) 0) && (pick (eqb (x .stage) writing) (eqb (x .turn) firstReply) true && ltb 0 (x .len)))
+
+-- numbers of 40 bits that were used
 unfoldable pub askedRight : Request → Bool
 askedRight x =
     ltb (x .used) exchangeLimit
     && (leb (x .exchange) (x .used)
     && (leb (x .unknown) (x .used)
-    && (leb (x .stage) withStatus && (leb (x .len) maxMessage && pick (isOpen (x .stage)) (not (eqb (x .turn) 0) && ltb 0 (x .len)) true))))
+    && (leb (x .stage) withStatus && (leb (x .len) maxMessage && pick (isOpen (x .stage)) (openRight x) true))))
 
 unfoldable pub panelRight : List ℕ → State → Bool
 panelRight page s = heldRight page (s .held) && askedRight (s .asked)

@@ -2,11 +2,12 @@
 ghost use mathlib.Core.Path.{_≡_};
 ghost use lib.ListN.{take};
 ghost use Rattle.envelope.specs.Envelope.{maxMessage};
-ghost use Rattle.cache.specs.State.{isOpen, askedRight, panelRight};
+ghost use Rattle.cache.specs.State.{isOpen, openRight, askedRight, panelRight};
 ghost use Rattle.cache.specs.Begin.{keeping};
 use cached::Cached;
 use cached::valid::held_ok;
 use envelope::MAX_MESSAGE;
+use exchange::FIRST_REPLY;
 use interaction_writer::envelope::EXCHANGE_LIMIT;
 use octets::put_bytes;
 
@@ -87,7 +88,25 @@ pub fn is_open(stage: u8) -> bool
     stage == WRITING
 }
 
-// Numbers of 40 bits that were used, a stage that there is, and while a request is open a message that was sent and a turn to await.
+// While a request is open: an exchange, a turn to await, of a write the first, and a message that was sent.
+fn open_ok(x: Request) -> bool
+    ensures { λ r. ⌜ r ≡ openRight x ⌝ }
+{
+    if x.exchange == 0 {
+        return false;
+    }
+    if x.turn == 0 {
+        return false;
+    }
+    if x.stage == WRITING {
+        if x.turn != FIRST_REPLY as u16 {
+            return false;
+        }
+    }
+    0 < x.len
+}
+
+// Numbers of 40 bits that were used, a stage that there is, and what an open request needs.
 fn asked_ok(x: Request) -> bool
     ensures { λ r. ⌜ r ≡ askedRight x ⌝ }
 {
@@ -109,10 +128,7 @@ fn asked_ok(x: Request) -> bool
     if !is_open(x.stage) {
         return true;
     }
-    if x.turn == 0 {
-        return false;
-    }
-    0 < x.len
+    open_ok(x)
 }
 
 // Whether state and page keep the rules of document 01.

@@ -4,7 +4,7 @@ use mathlib.Core.Bool.{Bool, true, false, _&&_, not}
 use mathlib.Core.List.{List, []}
 use Prim.Native.Nat.{ℕ, zero, suc, _+_, _-_, _^_, _≤_, _<_}
 use native.Mathlib.Omega.{arith}
-use borrow.Author.Tests.{eq-eqb, ne-eqb, lt-ltb, le-leb, ltb-true}
+use borrow.Author.Tests.{eq-eqb, ne-eqb, eqb-true, lt-ltb, le-leb, ltb-true}
 use lib.Dec.{eqb, leb, ltb}
 use lib.ListN.{length, getD, replicate, length-replicate}
 use Rattle.octets.proofs.StoreLaws.{length-store}
@@ -23,9 +23,10 @@ use Rattle.cache_request.specs.Filters.{filtersOf}
 use Rattle.cache_request.specs.Messages.{readMessage, writeMessage}
 use Rattle.cache_laws.proofs.BoundLaws.{Sized, filters-narrow, filters-few, read-sized, write-sized}
 use Rattle.envelope.specs.Envelope.{maxMessage}
+use Rattle.exchange.specs.Rules.{firstReply}
 use Rattle.cache.specs.declared.Request.{Request}
 use Rattle.cache.specs.declared.State.{State}
-use Rattle.cache.specs.State.{reading, writing, withStatus, isOpen, askedRight, panelRight}
+use Rattle.cache.specs.State.{reading, writing, withStatus, isOpen, openRight, askedRight, panelRight}
 use Rattle.cache.specs.Reaction.{Reaction, refusal}
 use Rattle.cache.specs.Begin.{fresh, unknownAfter, keeping, nextRequest, askedAs, sent, beginning, beginsRead, sendable, beginsWrite, resends, keptMessage}
 use Rattle.cache.proofs.StateLaws.{RightAsked}
@@ -69,17 +70,20 @@ fresh-valid page size = record {
   kept = zeros maxMessage;
 }
 
--- a message kept by an open request
-pub keeping-right : (x : Request) → x .used < exchangeLimit → x .exchange ≤ x .used → x .unknown ≤ x .used → x .stage ≤ withStatus → (x .turn ≡ 0 → ⊥) → {m : List ℕ} → Sized m → RightAsked (keeping x m)
-unfolding keeping
-keeping-right x u e k s t {m} z = record {
+-- a message kept by an open request, whose exchange and turn are none of them 0; a write awaits turn 1
+pub keeping-right : (x : Request) → x .used < exchangeLimit → x .exchange ≤ x .used → x .unknown ≤ x .used → x .stage ≤ withStatus → (x .exchange ≡ 0 → ⊥) → (x .turn ≡ 0 → ⊥) → (x .stage ≡ writing → x .turn ≡ firstReply) → {m : List ℕ} → Sized m → RightAsked (keeping x m)
+unfolding keeping openRight
+keeping-right x u e k s n t w {m} z = record {
   used = u;
   exchange = e;
   unknown = k;
   stage = s;
   len = z .fits;
-  sent = by-test (isOpen (x .stage)) (λ o. rw o (both _ _ (ap not (ne-eqb (x .turn) 0 t)) (lt-ltb 0 (length m) (z .some)))) (λ o. rw o refl);
+  sent = by-test (isOpen (x .stage)) (λ o. rw o (both _ _ (ap not (ne-eqb (x .exchange) 0 n)) (both _ _ (ap not (ne-eqb (x .turn) 0 t)) (both _ _ once (lt-ltb 0 (length m) (z .some)))))) (λ o. rw o refl);
 }
+  where
+    once : pick (eqb (x .stage) writing) (eqb (x .turn) firstReply) true ≡ true
+    once = by-test (eqb (x .stage) writing) (λ q. rw q (eq-eqb (x .turn) firstReply (w (eqb-true (x .stage) writing q)))) (λ q. rw q refl)
 
 -- what a call leaves keeps the rules
 abbrev pub Holds : Reaction → Type 0
@@ -95,7 +99,7 @@ module _ (page : List ℕ) (s : State) (v : ValidPanel page s) where
   unfolding askedAs keeping
   sent-valid stage e c a l u {m} z = record {
     held = v .held;
-    asked = keeping-right (nextRequest (s .asked) stage e c a) u (omega arith) (omega (arith, unknown-kept)) l (λ q. omega (arith, q)) z;
+    asked = keeping-right (nextRequest (s .asked) stage e c a) u (omega arith) (omega (arith, unknown-kept)) l (λ q. omega (arith, q)) (λ q. omega (arith, q)) (λ q. refl) z;
     kept = length-store (s .asked .kept) 0 m ∙ v .kept;
   }
 

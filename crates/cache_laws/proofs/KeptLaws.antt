@@ -1,9 +1,10 @@
 -- A VALID PANEL STAYS VALID, whatever it is handed; so it never answers 2 on its own account.
 use mathlib.Core.Path.{_≡_, refl, sym, ap, _∙_}
-use mathlib.Core.Bool.{Bool, true, false, _&&_}
+use mathlib.Core.Bool.{Bool, true, false, _&&_, not, false≢true}
 use mathlib.Core.List.{List, []}
 use Prim.Native.Nat.{ℕ, _+_, _^_, _≤_, _<_}
 use native.Mathlib.Omega.{arith}
+use borrow.Author.Tests.{eq-eqb, eqb-true}
 use lib.Dec.{eqb, leb, ltb}
 use lib.ListN.{length, drop}
 use Rattle.octets.proofs.StoreLaws.{length-store}
@@ -11,6 +12,7 @@ use Rattle.tlv.specs.Octet.{pick}
 use Rattle.tlv.specs.Decode.{Opt}
 use Rattle.tlv.specs.Decode.Opt.{just, nothing}
 use Rattle.tlv.proofs.Picks.{pick-elim}
+use Rattle.schema.proofs.BoolLaws.{left, right}
 use Rattle.blocks.specs.declared.Answer.{Answer}
 use Rattle.interaction.specs.Status.{responseIn}
 use Rattle.interaction_report.specs.Report.{PartAt, partIn}
@@ -30,12 +32,12 @@ use Rattle.cache_laws.proofs.BoundLaws.{success-sized}
 use Rattle.cache.specs.declared.Request.{Request}
 use Rattle.cache.specs.declared.State.{State}
 use Rattle.cache.specs.declared.Outcome.{Outcome}
-use Rattle.cache.specs.State.{lastPart, withStatus, isOpen, panelRight}
+use Rattle.cache.specs.State.{reading, writing, lastPart, withStatus, isOpen, openRight, panelRight}
 use Rattle.cache.specs.Reaction.{Reaction, refusal, quiet, unsent}
 use Rattle.cache.specs.Begin.{keeping}
 use Rattle.cache.proofs.StateLaws.{RightAsked}
 use Rattle.cache_laws.proofs.BegunLaws.{ValidPanel, Holds, valid-right, keeping-right}
-use Rattle.cache_receive.specs.Receive.{forCache, awaited, endedAs, primedAs, endedWith, statusTaken, byStatus, ofWrite, answerTaken, byAnswer, nextAwaited, goesOn, ends, pastTurns, partTaken, takesPart, takes, inEnvelope, received}
+use Rattle.cache_receive.specs.Receive.{forCache, opcodeAwaited, awaited, endedAs, primedAs, endedWith, statusTaken, byStatus, ofWrite, answerTaken, byAnswer, nextAwaited, goesOn, ends, pastTurns, partTaken, takesPart, takes, inEnvelope, received}
 
 -- a request ended: it is open no more
 ended-right : (x : Request) (stage status : ℕ) → stage ≤ withStatus → isOpen stage ≡ false → RightAsked x → RightAsked (endedAs x stage status)
@@ -68,6 +70,28 @@ unfolding endedAs
 ended-length x stage status = refl
 
 module _ (page : List ℕ) (s : State) (v : ValidPanel page s) where
+  -- a read that is open has an exchange
+  reads-open : s .asked .stage ≡ reading → isOpen (s .asked .stage) ≡ true
+  unfolding isOpen
+  reads-open q = rw q refl
+
+  open-right : isOpen (s .asked .stage) ≡ true → openRight (s .asked) ≡ true
+  open-right o = rw o at (v .asked .sent)
+
+  open-exchange : s .asked .stage ≡ reading → s .asked .exchange ≡ 0 → ⊥
+  unfolding openRight
+  open-exchange q z =
+      false≢true (sym (ap not (eq-eqb (s .asked .exchange) 0 z)) ∙ left (not (eqb (s .asked .exchange) 0)) _ (open-right (reads-open q)))
+
+  -- a report that is awaited is that of a read
+  report-awaited : (e : Fields) → awaited (s .asked) e ≡ true → eqb (e .opcode) statusOpcode ≡ false → eqb (e .opcode) reportOpcode ≡ true → s .asked .stage ≡ reading
+  unfolding awaited opcodeAwaited
+  report-awaited e a n y =
+      let b = right (isOpen (s .asked .stage)) _ a in
+      let c = right (eqb (e .exchange) (s .asked .exchange)) _ b in
+      let d = right (eqb (e .turn) (s .asked .turn)) _ c in
+      eqb-true (s .asked .stage) reading (rw (n, y) at d)
+
   ended-valid : (code : ℕ) → ValidPanel page (endedWith s code .state)
   unfolding endedWith
   ended-valid code = pick-elim (λ (o : Outcome). ValidPanel page (o .state)) (ltb code 256) _ _ (λ _. done) (λ _. v)
@@ -91,10 +115,10 @@ module _ (page : List ℕ) (s : State) (v : ValidPanel page s) where
       go nothing = v
       go (just a) = pick-elim (λ (o : Outcome). ValidPanel page (o .state)) (ofWrite (s .asked) (a .path)) _ _ (λ _. ended-valid (a .status .code)) (λ _. v)
 
-  -- a part
-  part-valid : (payload : List ℕ) → Holds (takesPart page s payload)
+  -- a part, of a read
+  part-valid : s .asked .stage ≡ reading → (payload : List ℕ) → Holds (takesPart page s payload)
   unfolding takesPart goesOn
-  part-valid payload = go (partIn payload)
+  part-valid q payload = go (partIn payload)
     where
       good : Good (pageAll payload (s .held) page (blocksIn payload)) (heldAll payload (s .held) (blocksIn payload))
       good = part-right payload page (s .held) (v .held) (blocksIn payload)
@@ -102,7 +126,7 @@ module _ (page : List ℕ) (s : State) (v : ValidPanel page s) where
       more : Holds (goesOn (heldAll payload (s .held) (blocksIn payload)) (s .asked) (pageAll payload (s .held) page (blocksIn payload)))
       more = record {
         held = good;
-        asked = keeping-right (nextAwaited (s .asked)) (v .asked .used) (v .asked .exchange) (v .asked .unknown) (v .asked .stage) (λ z. omega (arith, z)) (success-sized panelEdition (s .asked .exchange) (s .asked .turn));
+        asked = keeping-right (nextAwaited (s .asked)) (v .asked .used) (v .asked .exchange) (v .asked .unknown) (v .asked .stage) (open-exchange q) (λ z. omega (arith, z)) (λ z. absurd (omega (arith, q, z))) (success-sized panelEdition (s .asked .exchange) (s .asked .turn));
         kept = kept-length (nextAwaited (s .asked)) (successMessage panelEdition (s .asked .exchange) (s .asked .turn)) ∙ v .kept;
       }
 
@@ -120,11 +144,11 @@ module _ (page : List ℕ) (s : State) (v : ValidPanel page s) where
           (λ _. pick-elim Holds (eqb (judgedAll payload (record { number = 0; held = s .held }) (blocksIn payload) .number) 0) _ _
           (λ _. pick-elim Holds (eqb (p .part .more) 1) _ _ (λ _. more) (λ _. last)) (λ _. v))
 
-  takes-valid : (opcode : ℕ) (payload : List ℕ) → Holds (takes page s opcode payload)
+  takes-valid : (e : Fields) → awaited (s .asked) e ≡ true → (payload : List ℕ) → Holds (takes page s (e .opcode) payload)
   unfolding takes
-  takes-valid opcode payload =
-      pick-elim Holds (eqb opcode statusOpcode) _ _ (λ _. status-valid payload)
-      (λ _. pick-elim Holds (eqb opcode reportOpcode) _ _ (λ _. part-valid payload) (λ _. answer-valid payload))
+  takes-valid e a payload =
+      pick-elim Holds (eqb (e .opcode) statusOpcode) _ _ (λ _. status-valid payload)
+      (λ n. pick-elim Holds (eqb (e .opcode) reportOpcode) _ _ (λ y. part-valid (report-awaited e a n y) payload) (λ _. answer-valid payload))
 
   -- A MESSAGE, any bytes, with any buffer
   pub received-kept : (m : List ℕ) (room : ℕ) → Holds (received page s m room)
@@ -137,4 +161,4 @@ module _ (page : List ℕ) (s : State) (v : ValidPanel page s) where
       go Short = v
       go (Whole e) =
           pick-elim Holds (leb (length m) maxMessage && forCache (e .edition) (e .opcode)) _ _
-          (λ _. pick-elim Holds (awaited (s .asked) e) _ _ (λ _. takes-valid (e .opcode) (drop envelopeLength m)) (λ _. v)) (λ _. v)
+          (λ _. pick-elim Holds (awaited (s .asked) e) _ _ (λ a. takes-valid e a (drop envelopeLength m)) (λ _. v)) (λ _. v)

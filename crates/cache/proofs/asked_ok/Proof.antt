@@ -1,6 +1,6 @@
 use Rattle.interaction_writer.specs.Envelope.{exchangeLimit}
 use Rattle.cache.specs.State.{askedRight}
-use borrow.Author.Tests.{eq-eqb, ne-eqb, lt-ltb, le-ltb, lt-leb, le-leb, not-true, not-false}
+use borrow.Author.Tests.{lt-ltb, le-ltb, lt-leb, le-leb, not-true, not-false}
 use mathlib.Core.Path.{sym, _∙_}
 use borrow.Author.Needs.{needs}
 use Rattle.cache.proofs.asked_ok.Statement.{statement}
@@ -8,6 +8,7 @@ use Rattle.cache.proofs.asked_ok.Tie as tie
 use Rattle.cache.proofs.asked_ok.Reads as reads
 use Rattle.cache.proofs.asked_ok.Lts as lts
 use Rattle.cache.proofs.is_open.Reads as is-open-reads
+use Rattle.cache.proofs.open_ok.Reads as open-ok-reads
 
 returns : tie.Need-returns
 unfolding askedRight
@@ -36,13 +37,12 @@ returns-6 : tie.Need-returns-6
 unfolding askedRight
 returns-6 c = let x = c .before .before .before .before .before .before .before .before .before .before .before .before .args .x in rw (lt-ltb (x .used) exchangeLimit (c .before .before .before .before .before .before .before .before .before .before .if1 .left), le-leb (x .exchange) (x .used) (c .before .before .before .before .before .before .before .before .if2 .left), le-leb (x .unknown) (x .used) (c .before .before .before .before .before .before .if3 .left), le-leb (x .stage) 4 (c .before .before .before .before .if4 .left), le-leb (x .len) 1032 (c .before .before .if5 .left), sym (c .before .is-open .ensures) ∙ not-true _ (c .if6 .taken))
 
+open-ok-requires : tie.Need-open-ok-requires
+open-ok-requires c κs = search needs
+
 returns-7 : tie.Need-returns-7
 unfolding askedRight
-returns-7 c = let x = c .before .before .before .before .before .before .before .before .before .before .before .before .before .before .args .x in rw (lt-ltb (x .used) exchangeLimit (c .before .before .before .before .before .before .before .before .before .before .before .before .if1 .left), le-leb (x .exchange) (x .used) (c .before .before .before .before .before .before .before .before .before .before .if2 .left), le-leb (x .unknown) (x .used) (c .before .before .before .before .before .before .before .before .if3 .left), le-leb (x .stage) 4 (c .before .before .before .before .before .before .if4 .left), le-leb (x .len) 1032 (c .before .before .before .before .if5 .left), sym (c .before .before .before .is-open .ensures) ∙ not-false _ (c .before .before .if6 .left), eq-eqb (x .turn) 0 (c .if7 .taken))
-
-returns-8 : tie.Need-returns-8
-unfolding askedRight
-returns-8 c = let x = c .before .before .before .before .before .before .before .before .before .before .before .before .before .before .before .args .x in rw (lt-ltb (x .used) exchangeLimit (c .before .before .before .before .before .before .before .before .before .before .before .before .before .if1 .left), le-leb (x .exchange) (x .used) (c .before .before .before .before .before .before .before .before .before .before .before .if2 .left), le-leb (x .unknown) (x .used) (c .before .before .before .before .before .before .before .before .before .if3 .left), le-leb (x .stage) 4 (c .before .before .before .before .before .before .before .if4 .left), le-leb (x .len) 1032 (c .before .before .before .before .before .if5 .left), sym (c .before .before .before .before .is-open .ensures) ∙ not-false _ (c .before .before .before .if6 .left), ne-eqb (x .turn) 0 (c .before .if7 .left))
+returns-7 c = let x = c .before .before .before .before .before .before .before .before .before .before .before .before .before .args .x in rw (lt-ltb (x .used) exchangeLimit (c .before .before .before .before .before .before .before .before .before .before .before .if1 .left), le-leb (x .exchange) (x .used) (c .before .before .before .before .before .before .before .before .before .if2 .left), le-leb (x .unknown) (x .used) (c .before .before .before .before .before .before .before .if3 .left), le-leb (x .stage) 4 (c .before .before .before .before .before .if4 .left), le-leb (x .len) 1032 (c .before .before .before .if5 .left), sym (c .before .before .is-open .ensures) ∙ not-false _ (c .before .if6 .left)) (c .open-ok .ensures)
 
 pub asked-ok-spec : {M : Type 1} → statement M
 asked-ok-spec =
@@ -55,5 +55,5 @@ asked-ok-spec =
     returns-5
     is-open-requires
     returns-6
-    returns-7
-    returns-8)
+    open-ok-requires
+    returns-7)
