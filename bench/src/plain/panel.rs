@@ -247,11 +247,11 @@ impl Newest {
             && self.exchange <= self.used
             && self.unknown.is_none_or(|exchange| exchange <= self.used)
             && self.len <= MESSAGE
-            && (!self.is_open() || self.awaits())
+            && (!self.is_open() || self.is_sent())
     }
 
     /// While it is open: a reply of an exchange, of a write its only one, to a message that was sent.
-    fn awaits(&self) -> bool {
+    fn is_sent(&self) -> bool {
         let writes = matches!(self.stage, Stage::Writing(_));
         self.exchange > 0 && self.turn > 0 && (!writes || self.turn == 1) && self.len > 0
     }
