@@ -1,40 +1,58 @@
--- Words that rise, judged all at once by the ORs of the words and of the gaps between them.
+-- Words that rise, judged all at once by the OR of the words and the AND of the differences between them.
 use mathlib.Core.Path.{_≡_, refl, sym, ap, ap₂, _∙_}
 use mathlib.Core.Bool.{Bool, true, false, _&&_}
 use mathlib.Core.List.{List}
-use Prim.Native.Nat.{ℕ, zero, suc, _+_, _-_, _%_, _^_, _≤_, _<_}
+use Prim.Native.Nat.{ℕ, zero, suc, _+_, _*_, _-_, _%_, _^_, _≤_, _<_}
 use native.Mathlib.Omega.{arith}
 use borrow.Author.Count.{below-more}
-use borrow.Author.Tests.{ltb-true, ltb-false, lt-ltb, le-ltb}
-use lib.Bits.{bitOr, or-lt, or-comm, or-add-and, and-le-r}
-use lib.Dec.{ltb}
+use borrow.Author.Tests.{ltb-true, ltb-false, lt-ltb, leb-true, le-leb, lt-leb}
+use lib.Bits.{bitAnd, bitOr, or-lt, or-comm, or-add-and, and-le-l, and-le-r, and-block}
+use lib.Dec.{leb, ltb}
 use Rattle.schema.specs.Rows.{word}
 use Rattle.schema.specs.Check.{every, rises}
 use Rattle.schema.proofs.BoolLaws.{both, left, right, same, by-test}
 use Rattle.schema.proofs.CheckLaws.{every-next, every-at, every-all, rises-below, rises-order, rises-all}
 
 -- an OR is below a power of two exactly if both are
-or-left : (a b : ℕ) → a ≤ bitOr a b
+pub or-left : (a b : ℕ) → a ≤ bitOr a b
 or-left a b = omega (arith, or-add-and a b, and-le-r a b)
 
-or-under : (k a b : ℕ) → ltb (bitOr a b) (2 ^ k) ≡ (ltb a (2 ^ k) && ltb b (2 ^ k))
+pub or-under : (k a b : ℕ) → ltb (bitOr a b) (2 ^ k) ≡ (ltb a (2 ^ k) && ltb b (2 ^ k))
 or-under k a b =
     same _ _
     (λ h. let l = ltb-true (bitOr a b) (2 ^ k) h in both _ _ (lt-ltb a (2 ^ k) (omega (arith, or-left a b))) (lt-ltb b (2 ^ k) (omega (arith, or-left b a, or-comm a b))))
     (λ h. lt-ltb _ _ (or-lt k a b (ltb-true _ _ (left _ _ h)) (ltb-true b (2 ^ k) (right (ltb a (2 ^ k)) _ h))))
 
--- the gap between two words
-abbrev pub gap : ℕ → ℕ → ℕ
-gap x y = x % 2 ^ 62 + (2 ^ 63 - y % 2 ^ 62)
+-- of two numbers of 64 bits an AND has the top bit exactly if both have it
+top-bit : (a : ℕ) → a < 2 ^ 64 → 2 ^ 63 ≤ a → a ≡ 1 * 2 ^ 63 + (a - 2 ^ 63)
+top-bit a l m = omega arith
 
-gap-below : (x y : ℕ) → x < 2 ^ 62 → y < 2 ^ 62 → ltb (gap x y) (2 ^ 63) ≡ ltb x y
+and-top : (a b : ℕ) → a < 2 ^ 64 → b < 2 ^ 64 → 2 ^ 63 ≤ a → 2 ^ 63 ≤ b → 2 ^ 63 ≤ bitAnd a b
+and-top a b l m u v =
+    let e : bitAnd a b ≡ 1 * 2 ^ 63 + bitAnd (a - 2 ^ 63) (b - 2 ^ 63) = ap₂ bitAnd (top-bit a l u) (top-bit b m v) ∙ and-block 63 1 1 (a - 2 ^ 63) (b - 2 ^ 63) (omega arith) (omega arith) in
+    omega (arith, e)
+
+and-over : (a b : ℕ) → a < 2 ^ 64 → b < 2 ^ 64 → leb (2 ^ 63) (bitAnd a b) ≡ (leb (2 ^ 63) a && leb (2 ^ 63) b)
+and-over a b l m =
+    same _ _
+    (λ h. let u = leb-true (2 ^ 63) (bitAnd a b) h in both _ _ (le-leb (2 ^ 63) a (omega (arith, and-le-l a b))) (le-leb (2 ^ 63) b (omega (arith, and-le-r a b))))
+    (λ h. le-leb _ _ (and-top a b l m (leb-true _ _ (left _ _ h)) (leb-true (2 ^ 63) b (right (leb (2 ^ 63) a) _ h))))
+
+-- the difference of two words, as it wraps at 64 bits
+abbrev pub gap : ℕ → ℕ → ℕ
+gap x y = (x + (2 ^ 64 - y % 2 ^ 64)) % 2 ^ 64
+
+pub gap-is : (r x y : ℕ) → r < 2 ^ 64 → (r + y) % 2 ^ 64 ≡ x → r ≡ gap x y
+gap-is r x y l e = omega arith
+
+gap-below : (x y : ℕ) → x < 2 ^ 62 → y < 2 ^ 62 → leb (2 ^ 63) (gap x y) ≡ ltb x y
 gap-below x y l m =
-    by-test (ltb x y) (λ t. lt-ltb (gap x y) (2 ^ 63) (omega (arith, ltb-true x y t)) ∙ sym t) (λ t. le-ltb (gap x y) (2 ^ 63) (omega (arith, ltb-false x y t)) ∙ sym t)
+    by-test (ltb x y) (λ t. le-leb (2 ^ 63) (gap x y) (omega (arith, ltb-true x y t)) ∙ sym t) (λ t. lt-leb (2 ^ 63) (gap x y) (omega (arith, ltb-false x y t)) ∙ sym t)
 
 module _ (w : List ℕ) (from : ℕ) where
   -- word k is below ROOM, and below the next one
   abbrev pub step : ℕ → Bool
-  step k = ltb (word w from k) (2 ^ 62) && ltb (gap (word w from k) (word w from (k + 1))) (2 ^ 63)
+  step k = ltb (word w from k) (2 ^ 62) && leb (2 ^ 63) (gap (word w from k) (word w from (k + 1)))
 
   in-turn : (a x b y : Bool) → ((a && x) && (b && y)) ≡ ((a && b) && (x && y))
   in-turn false x b y = refl
@@ -43,10 +61,11 @@ module _ (w : List ℕ) (from : ℕ) where
   in-turn true false false y = refl
 
   -- a turn of the loop
-  pub rise-turn : (words gaps i : ℕ) → (ltb words (2 ^ 62) && ltb gaps (2 ^ 63)) ≡ every step i → (ltb (bitOr words (word w from i)) (2 ^ 62) && ltb (bitOr gaps (gap (word w from i) (word w from (i + 1)))) (2 ^ 63)) ≡ every step (i + 1)
-  rise-turn words gaps i h =
-      ap₂ _&&_ (or-under 62 words (word w from i)) (or-under 63 gaps (gap (word w from i) (word w from (i + 1))))
-      ∙ in-turn (ltb words (2 ^ 62)) (ltb (word w from i) (2 ^ 62)) (ltb gaps (2 ^ 63)) (ltb (gap (word w from i) (word w from (i + 1))) (2 ^ 63))
+  pub rise-turn : (words gaps i r : ℕ) → gaps < 2 ^ 64 → (ltb words (2 ^ 62) && leb (2 ^ 63) gaps) ≡ every step i → r ≡ gap (word w from i) (word w from (i + 1)) → (ltb (bitOr words (word w from i)) (2 ^ 62) && leb (2 ^ 63) (bitAnd gaps r)) ≡ every step (i + 1)
+  rise-turn words gaps i r l h e =
+      let d = gap (word w from i) (word w from (i + 1)) in
+      ap₂ _&&_ (or-under 62 words (word w from i)) (ap (λ (k : ℕ). leb (2 ^ 63) (bitAnd gaps k)) e ∙ and-over gaps d l (omega arith))
+      ∙ in-turn (ltb words (2 ^ 62)) (ltb (word w from i) (2 ^ 62)) (leb (2 ^ 63) gaps) (leb (2 ^ 63) d)
       ∙ ap (λ (b : Bool). b && step i) h
       ∙ sym (every-next step i)
 

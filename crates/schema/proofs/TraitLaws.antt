@@ -114,37 +114,38 @@ module _ (t : ℕ) where
   whole : t ≡ t % 256 + 2 ^ 8 * (t / 256 % 256) + 2 ^ 16 * (t / 2 ^ 16 % 256) + 2 ^ 24 * (t / 2 ^ 24)
   whole = omega arith
 
-  sum : t < half → t % half + margins ≡ (t % 256 + 123) + 2 ^ 8 * (t / 256 % 256 + 126) + 2 ^ 16 * (t / 2 ^ 16 % 256 + 123) + 2 ^ 24 * (t / 2 ^ 24 + 123)
+  sum : t < half → (t + margins) % 2 ^ 64 ≡ (t % 256 + 123) + 2 ^ 8 * (t / 256 % 256 + 126) + 2 ^ 16 * (t / 2 ^ 16 % 256 + 123) + 2 ^ 24 * (t / 2 ^ 24 + 123)
   sum l = omega (arith, whole)
 
-  clear-traits : Clear t → Clear (t % half + margins) → Traits t
+  clear-traits : Clear t → Clear ((t + margins) % 2 ^ 64) → Traits t
   clear-traits x y =
       let b = bytes-clear t (t % 256) (t / 256 % 256) (t / 2 ^ 16 % 256) (t / 2 ^ 24) whole (omega arith) (omega arith) (omega arith) x in
       let c =
-      bytes-clear (t % half + margins) (t % 256 + 123) (t / 256 % 256 + 126) (t / 2 ^ 16 % 256 + 123) (t / 2 ^ 24 + 123)
+      bytes-clear ((t + margins) % 2 ^ 64) (t % 256 + 123) (t / 256 % 256 + 126) (t / 2 ^ 16 % 256 + 123) (t / 2 ^ 24 + 123)
       (sum (omega (arith, x .top))) (omega (arith, b .0)) (omega (arith, b .1)) (omega (arith, b .2)) y in
       record { kind = omega (arith, c .0); nullable = omega (arith, c .1); read = omega (arith, c .2); write = omega (arith, c .3) }
 
-  traits-clears : Traits t → Clear t × Clear (t % half + margins)
+  traits-clears : Traits t → Clear t × Clear ((t + margins) % 2 ^ 64)
   traits-clears x = (
     clear-bytes t (t % 256) (t / 256 % 256) (t / 2 ^ 16 % 256) (t / 2 ^ 24) whole
         (omega (arith, x .kind)) (omega (arith, x .nullable)) (omega (arith, x .read)) (omega (arith, x .write)),
-    clear-bytes (t % half + margins) (t % 256 + 123) (t / 256 % 256 + 126) (t / 2 ^ 16 % 256 + 123) (t / 2 ^ 24 + 123)
+    clear-bytes ((t + margins) % 2 ^ 64) (t % 256 + 123) (t / 256 % 256 + 126) (t / 2 ^ 16 % 256 + 123) (t / 2 ^ 24 + 123)
         (sum (omega (arith, whole, x .kind, x .nullable, x .read, x .write)))
         (omega (arith, x .kind)) (omega (arith, x .nullable)) (omega (arith, x .read)) (omega (arith, x .write)),
   )
 
-  pub traits-clear : (topBitsClear t && topBitsClear (t % half + margins)) ≡ traitsRight t
+  pub traits-clear : (topBitsClear t && topBitsClear ((t + margins) % 2 ^ 64)) ≡ traitsRight t
   traits-clear =
       same _ _ (λ h. from-traits t (clear-traits (to-clear t (left _ _ h)) (to-clear _ (right (topBitsClear t) _ h))))
       (λ h. let c = traits-clears (to-traits t h) in both _ _ (from-clear t (c .0)) (from-clear _ (c .1)))
 
 -- a turn of the loop that joins the words of the column
-pub traits-turn : (w : List ℕ) (i bits : ℕ) → topBitsClear bits ≡ allTraits w i → topBitsClear (bitOr (bitOr bits (word w traitsColumn i)) (word w traitsColumn i % half + margins)) ≡ allTraits w (i + 1)
-traits-turn w i bits h =
+pub traits-turn : (w : List ℕ) (i bits r : ℕ) → r ≡ (word w traitsColumn i + margins) % 2 ^ 64 → topBitsClear bits ≡ allTraits w i → topBitsClear (bitOr (bitOr bits (word w traitsColumn i)) r) ≡ allTraits w (i + 1)
+traits-turn w i bits r e h =
     let t = word w traitsColumn i in
-    or-both (bitOr bits t) (t % half + margins)
-    ∙ ap (λ (b : Bool). b && topBitsClear (t % half + margins)) (or-both bits t)
-    ∙ and-assoc (topBitsClear bits) (topBitsClear t) (topBitsClear (t % half + margins))
+    ap (λ (k : ℕ). topBitsClear (bitOr (bitOr bits t) k)) e
+    ∙ or-both (bitOr bits t) ((t + margins) % 2 ^ 64)
+    ∙ ap (λ (b : Bool). b && topBitsClear ((t + margins) % 2 ^ 64)) (or-both bits t)
+    ∙ and-assoc (topBitsClear bits) (topBitsClear t) (topBitsClear ((t + margins) % 2 ^ 64))
     ∙ ap₂ _&&_ h (traits-clear t)
     ∙ sym (every-next (λ k. traitsRight (word w traitsColumn k)) i)

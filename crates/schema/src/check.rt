@@ -26,6 +26,8 @@ use bounds::ATTRIBUTES;
 use bounds::CLUSTERS;
 use bounds::ENDPOINTS;
 use bounds::VERSIONS;
+use std::num::wrapping_add_u64;
+use std::num::wrapping_sub_u64;
 
 // Far above any path and key.
 const ROOM: u64 = 4_611_686_018_427_387_904;
@@ -37,7 +39,8 @@ const MARGINS: u64 = 127 - TEXT
     + (127 - ADMINISTER) * WRITE_PART;
 
 // The n words from `from` on rise strictly, and the last is below limit. No way out of the loop, so that it becomes vector code: of two words below ROOM the
-// first is the lower exactly if its gap is below 2 * ROOM, and whether all words and gaps are, their ORs tell.
+// first is the lower exactly if their difference wraps, to 2 * ROOM at least. Whether all words are below ROOM, their OR tells, and whether all differences
+// wrap, the AND of these.
 fn rising(w: &[u64; WORDS], from: usize, n: usize, limit: u64) -> bool
     requires { ⌜ (from + n ≤ wordCount) × (limit ≤ 2 ^ 62) ⌝ }
     ensures { λ r. ⌜ r ≡ rises (now (w .entry)) from n limit ⌝ }
@@ -47,15 +50,15 @@ fn rising(w: &[u64; WORDS], from: usize, n: usize, limit: u64) -> bool
     }
     let last = n - 1;
     let mut words: u64 = 0;
-    let mut gaps: u64 = 0;
+    let mut gaps: u64 = u64::MAX;
     let mut i = 0;
     while i < last {
         let x = w[from + i];
         i += 1;
         words = words | x;
-        gaps = gaps | (x % ROOM + (2 * ROOM - w[from + i] % ROOM));
+        gaps = gaps & wrapping_sub_u64(x, w[from + i]);
     }
-    (words < ROOM) & (gaps < 2 * ROOM) & (w[from + last] < limit)
+    (words < ROOM) & (2 * ROOM <= gaps) & (w[from + last] < limit)
 }
 
 // Each of the n words from `from` on is below limit.
@@ -120,7 +123,7 @@ fn all_traits(w: &[u64; WORDS], n: usize) -> bool
     let mut i = 0;
     while i < n {
         let t = w[TRAITS + i];
-        bits = bits | t | (t % HALF + MARGINS);
+        bits = bits | t | wrapping_add_u64(t, MARGINS);
         i += 1;
     }
     top_bits_clear(bits)

@@ -26,8 +26,8 @@ mul-t c = search needs
 element-copy-out-t : tie.Need-element-copy-out-t Inv-loop μ-loop
 element-copy-out-t c = search needs
 
-add-bits : tie.Need-add-bits Inv-loop μ-loop
-add-bits c = search needs
+wrapping-add-u64-requires : tie.Need-wrapping-add-u64-requires Inv-loop μ-loop
+wrapping-add-u64-requires c κs = search needs
 
 add-i : tie.Need-add-i Inv-loop μ-loop
 add-i c = search needs
@@ -36,7 +36,10 @@ loop-less : tie.Need-loop-less Inv-loop μ-loop
 loop-less c = search needs
 
 loop-again : tie.Need-loop-again Inv-loop μ-loop
-loop-again c = (search needs, traits-turn (c .before .before .before .args .w .now) (c .before .before .loop .i) (c .before .before .loop .bits) (c .before .before .loop .inv .1))
+loop-again c =
+    let a = c .before .before .before .before .args in
+    let l = c .before .before .before .loop in
+    (search needs, traits-turn (a .w .now) (l .i) (l .bits) _ (c .wrapping-add-u64 .ensures) (l .inv .1))
 
 top-bits-clear-requires : tie.Need-top-bits-clear-requires Inv-loop μ-loop
 top-bits-clear-requires c κs = search needs
@@ -56,7 +59,7 @@ all-traits-spec =
     add-t
     mul-t
     element-copy-out-t
-    add-bits
+    wrapping-add-u64-requires
     add-i
     loop-less
     loop-again
