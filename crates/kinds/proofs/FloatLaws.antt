@@ -79,3 +79,24 @@ first-in-range low high first h = go (finite (float32 low)) (finite (float32 hig
     go true true false p q r e = cc
     go true false f p q r e = cc
     go false m f p q r e = cc
+
+-- between finite limits is nothing but what is finite
+finite-between : (l v h : Float) → finite l ≡ true → finite h ≡ true → finite v ≡ false → (le l v && le v h) ≡ false
+unfolding le lt eq
+finite-between l nan h p q n = rw (le-nan l)
+finite-between nan (inf s) h p q n = cc
+finite-between (inf t) (inf s) h p q n = cc
+finite-between (fin t m e) (inf true) h p q n = refl
+finite-between (fin t m e) (inf false) nan p q n = cc
+finite-between (fin t m e) (inf false) (inf u) p q n = cc
+finite-between (fin t m e) (inf false) (fin u k d) p q n = refl
+finite-between l (fin s m e) h p q n = cc
+
+pub infinite-range : (low high first held : ℕ) → rangeOk low high first ≡ true → finite (float32 held) ≡ false → inRange (rangeOf low high first) held ≡ false
+unfolding rangeOk rangeOf inRange
+infinite-range low high first held h n = go (finite (float32 low)) (finite (float32 high)) refl refl h
+  where
+    go : (l m : Bool) → finite (float32 low) ≡ l → finite (float32 high) ≡ m → (l && (m && (finite (float32 first) && inOrder (float32 low) (float32 high) (float32 first)))) ≡ true → (le (floatOf low) (float32 held) && le (float32 held) (floatOf high)) ≡ false
+    go true true p q e = rw (floatOf-finite low p, floatOf-finite high q) (finite-between (float32 low) (float32 held) (float32 high) p q n)
+    go true false p q e = cc
+    go false m p q e = cc

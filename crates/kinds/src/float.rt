@@ -1,6 +1,7 @@
 // Floats by their bits: NaN patterns, finite values, the range of an attribute.
 use super::Range;
 ghost use mathlib.Core.Path.{_≡_};
+ghost use mathlib.Core.Bool.{_&&_};
 ghost use lib.Ieee.{binary32, nanBits};
 ghost use Rattle.kinds.specs.Float.{float32, finite, floatOf, rangeOf, inRange, inOrder, rangeOk};
 
@@ -74,4 +75,17 @@ pub fn range_ok(low: u32, high: u32, first: u32) -> bool
         return false;
     }
     in_order(range_of(low, high, first))
+}
+
+// The same, and a value held in range: of finite limits only what is finite is, and the exponent tells that at once.
+pub fn range_holds(low: u32, high: u32, first: u32, held: u32) -> bool
+    ensures { λ r. ⌜ r ≡ (rangeOk low high first && inRange (rangeOf low high first) held) ⌝ }
+{
+    if !range_ok(low, high, first) {
+        return false;
+    }
+    if !finite_bits(held) {
+        return false;
+    }
+    in_range(range_of(low, high, first), held)
 }

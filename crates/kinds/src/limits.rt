@@ -1,4 +1,4 @@
-// A new value against a kind and its limits, and a stored float. (Stored values of every kind are judged by their words: `node::held`.)
+// A new value against a kind and its limits. (Stored values are judged by their words: `node::held`.)
 use super::Kind;
 use super::Range;
 use super::Verdict;
@@ -7,10 +7,7 @@ use bounds::TEXT_MAX;
 use tlv::Value;
 ghost use mathlib.Core.Path.{_≡_};
 ghost use mathlib.Core.List.{List};
-ghost use mathlib.Core.Bool.{_&&_};
 ghost use Prim.Native.Nat.{ℕ};
-ghost use lib.Dec.{ltb};
-ghost use Rattle.kinds.specs.Float.{inRange};
 ghost use Rattle.kinds.specs.Limits.{statusCode, between, betweenZ, limited, nullOf, againstIn, judgedIn};
 
 // The status code of document 01.
@@ -121,16 +118,5 @@ pub fn judge(kind: Kind, nullable: bool, v: Value, src: &[u8]) -> Verdict
         Kind::Signed { low, high } => judge_signed(low, high, v),
         Kind::Float(range) => judge_float(range, v),
         Kind::Text => judge_text(v, src),
-    }
-}
-
-// Whether a stored word is a float of 32 bits in this range.
-pub fn float_holds(range: Range, word: u64) -> bool
-    ensures { λ r. ⌜ r ≡ (ltb word 4294967296 && inRange range word) ⌝ }
-{
-    if word < 4294967296 {
-        in_range(range, word as u32)
-    } else {
-        false
     }
 }

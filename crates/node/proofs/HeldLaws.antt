@@ -1,13 +1,19 @@
 -- A first value and a value held, judged over the words of a row at once: the first value's rule and the held value's.
-use mathlib.Core.Path.{_≡_, _∙_}
-use mathlib.Core.Bool.{Bool, true, false, _&&_}
-use Prim.Native.Nat.{ℕ, _+_, _≤_, _<_}
+use mathlib.Core.Path.{_≡_, refl, sym, ap, _∙_}
+use mathlib.Core.Bool.{Bool, true, false, _&&_, false≢true}
+use Prim.Native.Nat.{ℕ, _+_, _%_, _≤_, _<_}
 use native.Mathlib.Omega.{arith}
-use lib.Dec.{eqb}
+use borrow.Author.Tests.{ltb-true, lt-ltb, le-ltb}
+use lib.Bits.{bitOr}
+use lib.Dec.{leb, ltb}
+use Rattle.kinds.specs.Float.{rangeOf, inRange, rangeOk}
 use Rattle.kinds.specs.Stored.{held}
+use Rattle.schema.specs.Layout.{half}
 use Rattle.schema.specs.Rows.{AttributeRow}
+use Rattle.schema.proofs.BoolLaws.{both, left, right, by-test}
+use Rattle.schema.proofs.RiseLaws.{or-under}
 use Rattle.node.specs.Attributes.{byCode, kindOf}
-use Rattle.node.specs.Check.{numberRight}
+use Rattle.node.specs.Check.{floatRight, numberRight}
 use Rattle.node.specs.Held.{floatsRight, wordsRight}
 use Rattle.node.proofs.KindLaws.{other-code, kind-unsigned, kind-signed, kind-float, kind-text, kind-boolean}
 use Rattle.node.proofs.FirstLaws.{by-code}
@@ -26,16 +32,56 @@ both-rules a nullable word =
     by-code (a .kind) (λ e. rw (kind-unsigned a e, e)) (λ e. rw (kind-signed a e, e)) (λ e. rw (kind-float a e, e)) (λ e. rw (kind-text a e, e))
     (λ h₁ h₂ h₃ h₄. rw (kind-boolean a h₁ h₂ h₃ h₄, other-code _ _ _ _ _ (a .kind) h₁ h₂ h₃ h₄, other-code _ _ _ _ _ (a .kind) h₁ h₂ h₃ h₄))
 
-module _ (a : AttributeRow) (nullable isNull : Bool) (word : ℕ) where
-  -- as the code has the row's words
-  pub present : (code low high first : ℕ) (r : Bool) → isNull ≡ false → code ≡ a .kind → low ≡ a .low → high ≡ a .high → first ≡ a .first → r ≡ wordsRight code low high first word → r ≡ (numberRight a && held (kindOf a) nullable word isNull)
-  present code low high first r n ek el eh ef h = h ∙ rw (ek, el, eh, ef, n) (both-rules a nullable word)
+-- as the code has the row's words
+module _ (a : AttributeRow) (nullable : Bool) (word : ℕ) where
+  pub present : (code low high first : ℕ) (r : Bool) → code ≡ a .kind → low ≡ a .low → high ≡ a .high → first ≡ a .first → r ≡ wordsRight code low high first word → r ≡ (numberRight a && held (kindOf a) nullable word false)
+  present code low high first r ek el eh ef h = h ∙ rw (ek, el, eh, ef) (both-rules a nullable word)
 
-  -- null: allowed or not, and stored as 0
-  pub null-allowed : numberRight a ≡ true → isNull ≡ true → nullable ≡ true → eqb word 0 ≡ (numberRight a && held (kindOf a) nullable word isNull)
-  unfolding held
-  null-allowed h n y = rw (h, n, y)
+  pub present-boolean : (code first : ℕ) → code ≡ a .kind → first ≡ a .first → code < 1 → (leb first 1 && leb word 1) ≡ (numberRight a && held (kindOf a) nullable word false)
+  unfolding wordsRight
+  present-boolean code first ek ef l =
+      let e : a .kind ≡ 0 = omega (arith, ek, l) in
+      present 0 (a .low) (a .high) first (leb first 1 && leb word 1) (sym e) refl refl ef refl
 
-  pub null-refused : isNull ≡ true → nullable ≡ false → numberRight a ≡ true → false ≡ (numberRight a && held (kindOf a) nullable word isNull)
-  unfolding held
-  null-refused n y h = rw (h, n, y)
+-- ---- the four words of a float
+
+module _ (low high first word : ℕ) where
+  abbrev joined : ℕ
+  joined = bitOr (bitOr (bitOr low high) first) word
+
+  joined-under : ltb joined half ≡ (((ltb low half && ltb high half) && ltb first half) && ltb word half)
+  joined-under =
+      or-under 32 (bitOr (bitOr low high) first) word
+      ∙ ap (λ (b : Bool). b && ltb word half) (or-under 32 (bitOr low high) first ∙ ap (λ (b : Bool). b && ltb first half) (or-under 32 low high))
+
+  pub all-under : joined < half → (low < half) × (high < half) × (first < half) × (word < half)
+  all-under l =
+      let h = sym joined-under ∙ lt-ltb joined half l in
+      let h3 = left ((ltb low half && ltb high half) && ltb first half) (ltb word half) h in
+      let h2 = left (ltb low half && ltb high half) (ltb first half) h3 in (
+        ltb-true low half (left (ltb low half) (ltb high half) h2),
+        ltb-true high half (right (ltb low half) (ltb high half) h2),
+        ltb-true first half (right (ltb low half && ltb high half) (ltb first half) h3),
+        ltb-true word half (right ((ltb low half && ltb high half) && ltb first half) (ltb word half) h),
+      )
+
+  under-all : floatsRight low high first word ≡ true → ltb joined half ≡ true
+  unfolding floatsRight floatRight
+  under-all h =
+      let f = left (floatRight low high first) _ h in
+      let f1 = right (ltb low half) _ f in
+      let f2 = right (ltb high half) _ f1 in
+      joined-under ∙ both _ _ (both _ _ (both _ _ (left (ltb low half) _ f) (left (ltb high half) _ f1)) (left (ltb first half) _ f2)) (left (ltb word half) _ (right (floatRight low high first) _ h))
+
+  pub floats-wide : half ≤ joined → false ≡ floatsRight low high first word
+  floats-wide l =
+      by-test (floatsRight low high first word) (λ t. absurd (false≢true (sym (le-ltb joined half l) ∙ under-all t))) (λ t. sym t)
+
+  pub floats-narrow : joined < half → (rangeOk low high first && inRange (rangeOf low high first) word) ≡ floatsRight low high first word
+  unfolding floatsRight floatRight
+  floats-narrow l =
+      let u = all-under l in
+      let el : low % half ≡ low = omega (arith, u .0) in
+      let eh : high % half ≡ high = omega (arith, u .1) in
+      let ef : first % half ≡ first = omega (arith, u .2) in
+      rw (el, eh, ef, lt-ltb low half (u .0), lt-ltb high half (u .1), lt-ltb first half (u .2), lt-ltb word half (u .3))

@@ -5,7 +5,7 @@ ghost use Prim.Native.Nat.{_<_};
 ghost use lib.ListN.{getD};
 ghost use lib.Dec.{eqb};
 ghost use Rattle.bounds.specs.Bounds.{clusterLimit, attributeLimit};
-ghost use Rattle.schema.specs.Layout.{subjectWord};
+ghost use Rattle.schema.specs.Layout.{subjectWord, textLimit};
 ghost use Rattle.schema.specs.Rows.{clusterCount, attributeCount, clusterRow, attributeRow, isText, factoryWord, factoryStart, factoryLength};
 use bounds::ATTRIBUTES;
 use bounds::CLUSTERS;
@@ -197,11 +197,19 @@ pub fn is_text(w: &[u64; WORDS], i: usize) -> bool
     w[TRAITS + i] % BYTE == TEXT
 }
 
-// The factory text of a rank. A rank that no text may have is none of the column's.
+// The factory text of a rank that a text may have.
+pub fn factory_at(w: &[u64; WORDS], rank: usize) -> u64
+    requires { ⌜ rank < textLimit ⌝ }
+    ensures { λ r. ⌜ r ≡ factoryWord (now (w .entry)) rank ⌝ }
+{
+    w[FACTORY + rank]
+}
+
+// The same of any rank: one that no text may have is none of the column's.
 fn factory_word(w: &[u64; WORDS], rank: usize) -> u64
     ensures { λ r. ⌜ r ≡ factoryWord (now (w .entry)) rank ⌝ }
 {
-    if rank < TEXTS { w[FACTORY + rank] } else { 0 }
+    if rank < TEXTS { factory_at(w, rank) } else { 0 }
 }
 
 // Where it starts in the page of defaults.

@@ -11,10 +11,11 @@ use Rattle.bounds.specs.Bounds.{textMax}
 use Rattle.utf8.specs.WellFormed.{wellFormed}
 use Rattle.utf8.specs.Bytewise.{allBelow}
 use Rattle.utf8.proofs.Below.{ascii-formed, below-part}
+use Rattle.kinds.specs.Stored.{held}
 use Rattle.schema.specs.Layout.{textLimit, textSize}
 use Rattle.schema.specs.Rows.{attributeRow, attributeCount, isText, factoryStart, factoryLength}
 use Rattle.schema.specs.Check.{every, rank, rankRight, ranksRight, textCount}
-use Rattle.schema.proofs.BoolLaws.{both, left, right, past, fails, by-test}
+use Rattle.schema.proofs.BoolLaws.{both, left, right, past, fails, by-test, same}
 use Rattle.schema.proofs.CheckLaws.{every-next, every-at, every-all, every-fails, no-text}
 use Rattle.schema.proofs.TextLaws.{count-past}
 use Rattle.node.specs.Check.{numberRight, numbersRight}
@@ -22,9 +23,9 @@ use Rattle.node.specs.Pages.{place, unchanged, shownText}
 use Rattle.node.proofs.PageLaws.{part-whole}
 use Rattle.values.specs.Values.{rankText, rankLength, markAt}
 use Rattle.values.specs.Valid.{markMax, textRight, heldRight, valuesRight}
-use Rattle.values.specs.Quick.{some, someNull, someText, textRoom, plainPage, startIn, lengthIn, formedAt, near, nearAt, nullAt, quickAt, allQuick, quickRight}
+use Rattle.values.specs.Quick.{some, someNull, someText, textRoom, plainPage, startIn, lengthIn, formedAt, near, nearAt, nullAt, numberQuick, quickAt, allQuick, quickRight}
 use Rattle.values.proofs.ValueLaws.{mark-there}
-use Rattle.values.proofs.ValidLaws.{withinLimits, whole-text, text-null, text-there, number-row, text-first, text-within, text-right, heldOf, bothAt, right-done}
+use Rattle.values.proofs.ValidLaws.{withinLimits, and-true, whole-text, text-null, text-there, number-row, text-first, text-within, text-right, heldOf, bothAt, right-done}
 
 -- ---- one of them
 
@@ -135,11 +136,18 @@ module _ (low n mark len : ℕ) where
   near-edited e = rw (ne-eqb mark 0 e)
 
   module _ (e : mark ≡ 0) where
-    pub near-long : min len textMax < n → false ≡ near low n mark len
-    near-long l = rw (eq-eqb mark 0 e, lt-leb n (min len textMax) l)
+    pub near-long : textMax < n → false ≡ near low n mark len
+    near-long l = rw (eq-eqb mark 0 e, lt-leb n (min len textMax) (omega arith))
 
-    pub near-short : n ≤ min len textMax → leb low (len - n) ≡ near low n mark len
-    near-short l = rw (eq-eqb mark 0 e, le-leb n (min len textMax) l)
+    pub near-short : n ≤ textMax → leb (low + n) len ≡ near low n mark len
+    near-short l =
+        rw (eq-eqb mark 0 e)
+        (same (leb (low + n) len) (leb n (min len textMax) && leb low (len - n))
+        (λ h. let u = leb-true (low + n) len h in both _ _ (le-leb n (min len textMax) (omega (arith, u, l))) (le-leb low (len - n) (omega (arith, u))))
+        (λ h.
+        let u = leb-true n (min len textMax) (left _ _ h) in
+        let v = leb-true low (len - n) (right (leb n (min len textMax)) _ h) in
+        le-leb (low + n) len (omega (arith, u, v))))
 
 -- those of the nulls: there is none, or each is looked at
 pub no-nulls : (w words : List ℕ) (nulls : List Bool) (n : ℕ) → someNull nulls n ≡ false → true ≡ every (nullAt w words nulls) n
@@ -153,6 +161,22 @@ module _ (w words : List ℕ) (nulls : List Bool) (i : ℕ) where
 
   pub null-none : getD nulls i false ≡ false → nullAt w words nulls i ≡ true
   null-none t = rw t
+
+-- a number whose null, where it is one, has been looked at
+module _ (w words : List ℕ) (nulls : List Bool) (i : ℕ) (z : nullAt w words nulls i ≡ true) where
+  pub number-null : getD nulls i false ≡ true → numberRight (attributeRow w i) ≡ numberQuick w words nulls i
+  unfolding held
+  number-null t =
+      let h : (eqb (attributeRow w i .nullable) 1 && eqb (getD words i 0) 0) ≡ true = rw t at z in
+      rw (t, h) (and-true (numberRight (attributeRow w i)))
+
+  module _ (r : Bool) (e : r ≡ (numberRight (attributeRow w i) && withinLimits w i (getD words i 0) false)) where
+    pub number-holds : r ≡ true → true ≡ numberQuick w words nulls i
+    number-holds h =
+        by-test (getD nulls i false) (λ t. sym (left _ _ (sym e ∙ h)) ∙ number-null t) (λ t. sym h ∙ e ∙ rw t)
+
+    pub number-fails : r ≡ false → getD nulls i false ≡ false → false ≡ numberQuick w words nulls i
+    number-fails h t = sym h ∙ e ∙ rw t
 
 -- and those of a row, with k the texts before it
 module _ (w words : List ℕ) (nulls : List Bool) (texts : List ℕ) (len : ℕ) where
@@ -168,19 +192,12 @@ module _ (w words : List ℕ) (nulls : List Bool) (texts : List ℕ) (len : ℕ)
       quick-text z =
           ap (nearAt w texts len) (sym q) ∙ rw (t, eq-eqb (attributeRow w i .first) (rank w i) (q ∙ e), eq-eqb (getD words i 0) 0 z)
 
-  pub quick-number : (i : ℕ) → isText (attributeRow w i) ≡ false → (numberRight (attributeRow w i) && withinLimits w i (getD words i 0) (getD nulls i false)) ≡ quickAt w words nulls texts len i
+  pub quick-number : (i : ℕ) → isText (attributeRow w i) ≡ false → numberQuick w words nulls i ≡ quickAt w words nulls texts len i
   quick-number i t = rw t
 
   pub quick-wrong : (size i : ℕ) → i < attributeCount w → quickAt w words nulls texts len i ≡ false → false ≡ allQuick w words nulls texts len size
   unfolding allQuick
   quick-wrong size i l t = fails _ _ (sym (every-fails (quickAt w words nulls texts len) (attributeCount w) i l t))
-
-  -- a text too many
-  pub quick-many : (size i : ℕ) → i < attributeCount w → isText (attributeRow w i) ≡ true → textLimit ≤ rank w i → false ≡ allQuick w words nulls texts len size
-  unfolding allQuick
-  quick-many size i l t m =
-      let c = lt-leb (textCount w) textLimit (omega (arith, count-past (λ j. isText (attributeRow w j)) (attributeCount w) i l t, m)) in
-      by-test (every (quickAt w words nulls texts len) (attributeCount w)) (λ h. rw (h, c)) (λ h. rw h)
 
   pub quick-done : (size : ℕ) → every (quickAt w words nulls texts len) (attributeCount w) ≡ true → textCount w ≤ textLimit → eqb size (textSize * textCount w) ≡ allQuick w words nulls texts len size
   unfolding allQuick

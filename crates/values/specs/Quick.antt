@@ -72,12 +72,17 @@ nullAt w words nulls i = pick (getD nulls i false) (eqb (attributeRow w i .nulla
 abbrev pub nearAt : List ℕ → List ℕ → ℕ → ℕ → Bool
 nearAt w texts len r = near (factoryStart w r) (factoryLength w r) (getD texts r 0) len
 
+-- a number: its first value and what it holds
+abbrev pub numberQuick : List ℕ → List ℕ → List Bool → ℕ → Bool
+numberQuick w words nulls i =
+    numberRight (attributeRow w i) && held (kindOf (attributeRow w i)) (eqb (attributeRow w i .nullable) 1) (getD words i 0) (getD nulls i false)
+
 -- attribute i: a text by its rank, its word and its length, a number by its limits
 abbrev pub quickAt : List ℕ → List ℕ → List Bool → List ℕ → ℕ → ℕ → Bool
 quickAt w words nulls texts len i =
     pick (isText (attributeRow w i))
     (eqb (attributeRow w i .first) (rank w i) && (eqb (getD words i 0) 0 && nearAt w texts len (attributeRow w i .first)))
-    (numberRight (attributeRow w i) && held (kindOf (attributeRow w i)) (eqb (attributeRow w i .nullable) 1) (getD words i 0) (getD nulls i false))
+    (numberQuick w words nulls i)
 
 -- every attribute, where the factory page has len bytes and the page of edits size; and not too many texts
 unfoldable pub allQuick : List ℕ → List ℕ → List Bool → List ℕ → ℕ → ℕ → Bool

@@ -1,18 +1,21 @@
 // The quick test of what a sign holds, asked at every call: the texts of each page (pages.rt), and a few comparisons for each row. What it passes is right;
 // what it does not pass is looked at closely (valid.rt).
 ghost use mathlib.Core.Path.{_≡_};
-ghost use mathlib.Core.Bool.{_&&_};
-ghost use Prim.Native.Nat.{_<_, _≤_, min};
+ghost use mathlib.Core.Bool.{true, false, _&&_};
+ghost use Prim.Native.Nat.{_<_, _≤_, _/_, _%_};
 ghost use lib.Dec.{eqb};
-ghost use Rattle.bounds.specs.Bounds.{attributeLimit, textMax};
-ghost use Rattle.schema.specs.Rows.{attributeRow};
+ghost use Rattle.bounds.specs.Bounds.{attributeLimit};
+ghost use Rattle.schema.specs.Layout.{half};
+ghost use Rattle.schema.specs.Rows.{attributeRow, attributeCount, isText};
 ghost use Rattle.schema.specs.Check.{every};
-ghost use Rattle.values.specs.Quick.{someNull, near, nullAt, allQuick, quickRight};
+ghost use Rattle.values.specs.Quick.{someNull, near, nullAt, numberQuick, allQuick, quickRight};
 use super::pages::is_fit;
 use super::pages::text_room;
 use bounds::ATTRIBUTES;
 use bounds::TEXT_MAX;
+use node::first::first_ok;
 use node::held::limits_hold;
+use schema::HALF;
 use schema::TEXT_SIZE;
 use schema::TEXTS;
 use schema::WORDS;
@@ -34,30 +37,18 @@ fn some_null(nulls: &[bool; ATTRIBUTES], n: usize) -> bool
     found
 }
 
-// The longest factory text that is not looked at closely: what a page of len bytes can have.
-fn longest(len: u64) -> u64
-    ensures { λ r. ⌜ r ≡ min len textMax ⌝ }
-{
-    if len < TEXT_MAX as u64 {
-        len
-    } else {
-        TEXT_MAX as u64
-    }
-}
-
-// Whether the page that a text is shown from has it, where its factory text has n bytes at `low` of a page of len bytes. `cap` is the longest factory text:
-// given, since it is the same for every row.
-fn is_near(low: u64, n: u64, mark: u16, len: u64, cap: u64) -> bool
-    requires { ⌜ cap ≡ min len textMax ⌝ }
-    ensures { λ r. ⌜ r ≡ near low n mark len ⌝ }
+// Whether the page that a text is shown from has it, where its factory text is this part (start, length) of a page of len bytes.
+fn is_near(factory: u64, mark: u16, len: u64) -> bool
+    ensures { λ r. ⌜ r ≡ near (factory / half) (factory % half) mark len ⌝ }
 {
     if mark != 0 {
         return mark <= MARK_MAX;
     }
-    if cap < n {
+    let n = factory % HALF;
+    if n > TEXT_MAX as u64 {
         return false;
     }
-    low <= len - n
+    factory / HALF + n <= len
 }
 
 // Whether what is stored of a null of attribute i is right: the attribute allows it, and its word is 0.
@@ -112,8 +103,24 @@ pub fn nulls_ok<'a>(
     all_nulls(w, words, nulls, n)
 }
 
-// Every attribute by a few comparisons, with the ranks of the texts, which are counted on the way and give the size of the page of edits. Whether a text is
-// null is not asked here, where it would take a tenth of the whole test.
+// A number. That it may be null is asked only where the limits do not allow what is stored: a null that there is has been looked at.
+fn number_ok<'a>(
+    w: &'a [u64; WORDS],
+    words: &'a [u64; ATTRIBUTES],
+    nulls: &'a [bool; ATTRIBUTES],
+    i: usize,
+) -> bool
+    requires { ⌜ (i < attributeLimit) × ((isText (attributeRow (now w) i) ≡ false) × (nullAt (now w) (now words) (now nulls) i ≡ true)) ⌝ }
+    ensures { λ r. ⌜ r ≡ numberQuick (now (w .entry)) (now (words .entry)) (now (nulls .entry)) i ⌝ }
+{
+    if limits_hold(w, i, words[i]) {
+        return true;
+    }
+    if nulls[i] { first_ok(w, i) } else { false }
+}
+
+// Every attribute by a few comparisons, with the ranks of the texts, which are counted on the way and give the size of the page of edits. The nulls have been
+// looked at: asked here of each row they would take a tenth of the whole test.
 pub fn all_quick<'a>(
     w: &'a [u64; WORDS],
     words: &'a [u64; ATTRIBUTES],
@@ -122,10 +129,10 @@ pub fn all_quick<'a>(
     len: u64,
     size: usize,
 ) -> bool
+    requires { ⌜ every (nullAt (now w) (now words) (now nulls)) (attributeCount (now w)) ≡ true ⌝ }
     ensures { λ r. ⌜ r ≡ allQuick (now (w .entry)) (now (words .entry)) (now (nulls .entry)) (now (texts .entry)) len size ⌝ }
 {
     let n = schema::attribute_count(w);
-    let cap = longest(len);
     let mut rank: usize = 0;
     let mut i = 0;
     while i < n {
@@ -133,21 +140,16 @@ pub fn all_quick<'a>(
             if schema::first_value(w, i) != rank as u64 {
                 return false;
             }
-            if TEXTS <= rank {
-                return false;
-            }
             if words[i] != 0 {
                 return false;
             }
-            let low = schema::factory_start(w, rank) as u64;
-            let long = schema::factory_length(w, rank) as u64;
-            if !is_near(low, long, texts[rank], len, cap) {
+            if !is_near(schema::factory_at(w, rank), texts[rank], len) {
                 return false;
             }
             rank += 1;
             i += 1;
         } else {
-            if !limits_hold(w, i, words[i], nulls[i]) {
+            if !number_ok(w, words, nulls, i) {
                 return false;
             }
             i += 1;

@@ -1,34 +1,25 @@
 -- `node::held::limits_hold` meets its contract.
-use mathlib.Core.Path.{sym, _∙_}
+use mathlib.Core.Path.{_≡_, sym, _∙_}
+use native.Mathlib.Omega.{arith}
 use borrow.Author.Needs.{needs}
-use borrow.Author.Tests.{not-true, not-false}
+use borrow.Author.Tests.{eqb-false}
+use lib.Dec.{eqb}
+use Rattle.schema.specs.Layout.{textKind}
 use Rattle.schema.specs.Rows.{attributeRow}
-use Rattle.schema.proofs.BoolLaws.{fails}
-use Rattle.node.proofs.HeldLaws.{present, null-allowed, null-refused}
+use Rattle.node.proofs.HeldLaws.{present, present-boolean}
 use Rattle.node.proofs.held.limits_hold.Statement.{statement}
 use Rattle.node.proofs.held.limits_hold.Tie as tie
 
-first-ok-requires : tie.Need-first-ok-requires
-first-ok-requires c κs = search needs
-
-returns : tie.Need-returns
-returns c = fails _ _ (sym (c .before .first-ok .ensures) ∙ not-true _ (c .if2 .taken))
-
-is-nullable-requires : tie.Need-is-nullable-requires
-is-nullable-requires c κs = search needs
-
-returns-2 : tie.Need-returns-2
-returns-2 c =
-    null-allowed _ _ _ _ (sym (c .before .before .before .first-ok .ensures) ∙ not-false _ (c .before .before .if2 .left)) (c .before .before .before .before .if1 .taken)
-    (sym (c .before .is-nullable .ensures) ∙ c .if3 .taken)
-
-returns-3 : tie.Need-returns-3
-returns-3 c =
-    null-refused _ _ _ _ (c .before .before .before .before .if1 .taken) (sym (c .before .is-nullable .ensures) ∙ c .if3 .left)
-    (sym (c .before .before .before .first-ok .ensures) ∙ not-false _ (c .before .before .if2 .left))
-
 kind-code-requires : tie.Need-kind-code-requires
 kind-code-requires c κs = search needs
+
+first-value-requires : tie.Need-first-value-requires
+first-value-requires c κs = search needs
+
+returns : tie.Need-returns
+returns c =
+    let a = c .before .before .before .args in
+    present-boolean (attributeRow (a .w .now) (a .i)) (eqb (attributeRow (a .w .now) (a .i) .nullable) 1) (a .word) _ _ (c .before .before .kind-code .ensures) (c .before .first-value .ensures) (c .if1 .taken)
 
 lowest-requires : tie.Need-lowest-requires
 lowest-requires c κs = search needs
@@ -36,30 +27,24 @@ lowest-requires c κs = search needs
 highest-requires : tie.Need-highest-requires
 highest-requires c κs = search needs
 
-first-value-requires : tie.Need-first-value-requires
-first-value-requires c κs = search needs
-
 words-ok-requires : tie.Need-words-ok-requires
-words-ok-requires c κs = search needs
+words-ok-requires c κs =
+    (c .before .before .if1 .left, λ q. eqb-false _ textKind (c .before .before .before .before .before .pre .1) (sym (c .before .before .before .before .kind-code .ensures) ∙ q))
 
-returns-4 : tie.Need-returns-4
-returns-4 c =
+returns-2 : tie.Need-returns-2
+returns-2 c =
     let a = c .before .before .before .before .before .before .args in
-    present (attributeRow (a .w .now) (a .i)) _ _ _ _ _ _ _ _ (c .before .before .before .before .before .if1 .left) (c .before .before .before .before .kind-code .ensures)
-    (c .before .before .before .lowest .ensures) (c .before .before .highest .ensures) (c .before .first-value .ensures) (c .words-ok .ensures)
+    present (attributeRow (a .w .now) (a .i)) _ _ _ _ _ _ _ (c .before .before .before .before .before .kind-code .ensures) (c .before .before .lowest .ensures)
+    (c .before .highest .ensures) (c .before .before .before .before .first-value .ensures) (c .words-ok .ensures)
 
 pub limits-hold-spec : {M : Type 1} → statement M
 limits-hold-spec =
     tie.close
     (tie.spec
-    first-ok-requires
-    returns
-    is-nullable-requires
-    returns-2
-    returns-3
     kind-code-requires
+    first-value-requires
+    returns
     lowest-requires
     highest-requires
-    first-value-requires
     words-ok-requires
-    returns-4)
+    returns-2)

@@ -1,16 +1,11 @@
 -- `node::held::words_ok` meets its contract: the comparisons find the code.
-use mathlib.Core.Path.{ap₂}
+use mathlib.Core.Path.{ap₂, _∙_}
 use mathlib.Core.Bool.{_&&_}
-use native.Mathlib.Omega.{arith}
 use borrow.Author.Needs.{needs}
 use Rattle.node.specs.Held.{wordsRight}
 use Rattle.node.proofs.HeldLaws.{only, past-text}
 use Rattle.node.proofs.held.words_ok.Statement.{statement}
 use Rattle.node.proofs.held.words_ok.Tie as tie
-
-returns : tie.Need-returns
-unfolding wordsRight
-returns c = rw (only _ 0 (omega arith) (c .if1 .taken))
 
 unsigned-within-requires : tie.Need-unsigned-within-requires
 unsigned-within-requires c κs = search needs
@@ -18,10 +13,10 @@ unsigned-within-requires c κs = search needs
 unsigned-within-requires-2 : tie.Need-unsigned-within-requires-2
 unsigned-within-requires-2 c κs = search needs
 
-returns-2 : tie.Need-returns-2
+returns : tie.Need-returns
 unfolding wordsRight
-returns-2 c =
-    rw (only _ 1 (c .before .before .before .if1 .left) (c .before .before .if2 .taken))
+returns c =
+    rw (only _ 1 (c .before .before .before .pre .0) (c .before .before .if1 .taken))
     (ap₂ _&&_ (c .before .unsigned-within .ensures) (c .unsigned-within2 .ensures))
 
 signed-ok-requires : tie.Need-signed-ok-requires
@@ -30,39 +25,33 @@ signed-ok-requires c κs = search needs
 signed-ok-requires-2 : tie.Need-signed-ok-requires-2
 signed-ok-requires-2 c κs = search needs
 
-returns-3 : tie.Need-returns-3
+returns-2 : tie.Need-returns-2
 unfolding wordsRight
-returns-3 c =
-    rw (only _ 2 (c .before .before .before .if2 .left) (c .before .before .if3 .taken))
+returns-2 c =
+    rw (only _ 2 (c .before .before .before .if1 .left) (c .before .before .if2 .taken))
     (ap₂ _&&_ (c .before .signed-ok .ensures) (c .signed-ok2 .ensures))
 
 floats-ok-requires : tie.Need-floats-ok-requires
 floats-ok-requires c κs = search needs
 
+returns-3 : tie.Need-returns-3
+unfolding wordsRight
+returns-3 c = rw (only _ 3 (c .before .before .if2 .left) (c .before .if3 .taken)) (c .floats-ok .ensures)
+
 returns-4 : tie.Need-returns-4
 unfolding wordsRight
-returns-4 c = rw (only _ 3 (c .before .before .if3 .left) (c .before .if4 .taken)) (c .floats-ok .ensures)
-
-returns-5 : tie.Need-returns-5
-unfolding wordsRight
-returns-5 c = rw (c .if5 .taken)
-
-returns-6 : tie.Need-returns-6
-unfolding wordsRight
-returns-6 c = rw (past-text _ _ _ _ _ _ (c .before .if4 .left) (c .if5 .left))
+returns-4 c = rw (past-text _ _ _ _ _ _ (c .if3 .left) (c .before .before .before .pre .1))
 
 pub words-ok-spec : {M : Type 1} → statement M
 words-ok-spec =
     tie.close
     (tie.spec
-    returns
     unsigned-within-requires
     unsigned-within-requires-2
-    returns-2
+    returns
     signed-ok-requires
     signed-ok-requires-2
-    returns-3
+    returns-2
     floats-ok-requires
-    returns-4
-    returns-5
-    returns-6)
+    returns-3
+    returns-4)

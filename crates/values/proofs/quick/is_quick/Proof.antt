@@ -48,7 +48,10 @@ returns-3 c =
     fails _ _ (sym f ∙ not-true _ (c .if3 .taken)) ∙ past _ _ (sym e ∙ not-false _ (c .before .before .if2 .left)) ∙ past _ _ (sym z ∙ not-false _ (c .before .before .before .before .before .if1 .left))
 
 all-quick-requires : tie.Need-all-quick-requires
-all-quick-requires c κs = search needs
+all-quick-requires c κs =
+    let a = c .before .before .before .before .before .before .before .before .before .before .args in
+    sym (c .before .before .before .before .before .before .nulls-ok .ensures ∙ ap (every (nullAt (a .w .now) (a .words .now) (a .nulls .now))) (c .before .before .before .before .before .before .before .attribute-count .ensures))
+    ∙ not-false _ (c .before .before .before .before .before .if1 .left)
 
 returns-4 : tie.Need-returns-4
 unfolding quickRight

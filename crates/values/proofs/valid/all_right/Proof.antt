@@ -22,7 +22,10 @@ returns c =
     fails _ _ (sym z ∙ not-true _ (c .if1 .taken)) ∙ close-right (a .w .now) (a .defaults .now) (a .edits .now) (a .words .now) (a .nulls .now) (a .texts .now)
 
 all-quick-requires : tie.Need-all-quick-requires
-all-quick-requires c κs = search needs
+all-quick-requires c κs =
+    let a = c .before .before .before .before .before .before .args in
+    sym (c .before .before .nulls-ok .ensures ∙ ap (every (nullAt (a .w .now) (a .words .now) (a .nulls .now))) (c .before .before .before .attribute-count .ensures))
+    ∙ not-false _ (c .before .if1 .left)
 
 returns-2 : tie.Need-returns-2
 returns-2 c =
