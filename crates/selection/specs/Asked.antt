@@ -37,3 +37,7 @@ asksFor p q =
 -- every part is named
 unfoldable pub concrete : Asked → Bool
 concrete p = not (p .«any_endpoint») && (not (p .«any_cluster») && not (p .«any_attribute»))
+
+-- none is
+unfoldable pub unbound : Asked → Bool
+unbound p = (p .«any_endpoint» && p .«any_cluster») && p .«any_attribute»

@@ -5,7 +5,7 @@ ghost use Prim.Native.Nat.{_<_, _^_};
 ghost use Rattle.schema.specs.Rows.{attributeCount};
 ghost use Rattle.schema.specs.Rules.{path, pathAt};
 ghost use Rattle.schema.specs.Check.{wellFormed};
-ghost use Rattle.selection.specs.Asked.{named, askedFor, partIs, asksFor, concrete};
+ghost use Rattle.selection.specs.Asked.{named, askedFor, partIs, asksFor, concrete, unbound};
 use interaction::Target;
 use schema::WORDS;
 
@@ -62,11 +62,21 @@ fn asks(p: Asked, endpoint: u64, cluster: u64, attribute: u64) -> bool
     part_is(p.any_attribute, p.attribute as u64, attribute)
 }
 
-// Whether the path asks for attribute i.
+// No part is named.
+fn asks_all(p: Asked) -> bool
+    ensures { λ r. ⌜ r ≡ unbound p ⌝ }
+{
+    p.any_endpoint & p.any_cluster & p.any_attribute
+}
+
+// Whether the path asks for attribute i. A read of everything, whose path asks for every one, looks at no row for that.
 pub fn asks_row(w: &[u64; WORDS], p: Asked, i: usize) -> bool
     requires { ⌜ (wellFormed (now w) ≡ true) × (i < attributeCount (now w)) ⌝ }
     ensures { λ r. ⌜ r ≡ asksFor p (pathAt (now (w .entry)) i) ⌝ }
 {
+    if asks_all(p) {
+        return true;
+    }
     let k = schema::attribute_cluster(w, i);
     asks(
         p,

@@ -116,6 +116,10 @@ or-true : (x : Bool) → (x || true) ≡ true
 or-true true = refl
 or-true false = refl
 
+or-false : (x : Bool) → (x || false) ≡ x
+or-false true = refl
+or-false false = refl
+
 pub past-end : (page : List ℕ) (at : ℕ) → length page ≤ at → true ≡ boundary page at
 unfolding boundary trails
 past-end page at h = rw (List·getD-eq-default page 0 h)
@@ -125,6 +129,15 @@ module _ (page : List ℕ) (start len : ℕ) where
   unfolding cutWell
   cut-past h = rw (← past-end page start h, ← past-end page (start + len) (omega arith)) (sym (or-true (eqb len 0)))
 
-  pub cut-long : start < length page → length page < start + len → boundary page start ≡ cutWell page start len
+  pub cut-long : start < length page → length page ≤ start + len → boundary page start ≡ cutWell page start len
   unfolding cutWell
   cut-long l h = rw (ne-eqb len 0 (λ e. omega arith), ← past-end page (start + len) (omega arith)) (sym (and-true (boundary page start)))
+
+  -- a part that ends before its page does
+  pub cut-wrong : (boundary page start && boundary page (start + len)) ≡ false → eqb len 0 ≡ cutWell page start len
+  unfolding cutWell
+  cut-wrong h = rw h (sym (or-false (eqb len 0)))
+
+  pub cut-right : (boundary page start && boundary page (start + len)) ≡ true → true ≡ cutWell page start len
+  unfolding cutWell
+  cut-right h = rw h (sym (or-true (eqb len 0)))

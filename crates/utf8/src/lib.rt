@@ -206,26 +206,31 @@ pub fn valid(s: &[u8]) -> bool
     up_to_four(s)
 }
 
-// Whether a sequence may begin or the bytes end at this place of a page: the byte there is no trailing one, or there is none.
-pub fn is_boundary(page: &[u8], at: usize) -> bool
+// Whether a sequence may begin at this place of a page: the byte there is no trailing one.
+fn is_boundary(page: &[u8], at: usize) -> bool
+    requires { ⌜ at < length (now page) ⌝ }
     ensures { λ r. ⌜ r ≡ boundary (now (page .entry)) at ⌝ }
 {
-    if page.len() <= at {
-        return true;
-    }
     let d = page[at];
     !((0x80 <= d) & (d <= 0xBF))
 }
 
-// Whether a part of a page is cut at boundaries: then it is well-formed where the page is. The part may reach past the end of the page, which ends it.
+// Whether a part of a page is cut at boundaries: then it is well-formed where the page is. The part may reach past the end of the page, which ends it. An
+// empty part, which may lie anywhere, is looked for last.
 pub fn is_cut_well(page: &[u8], start: usize, len: usize) -> bool
     ensures { λ r. ⌜ r ≡ cutWell (now (page .entry)) start len ⌝ }
 {
     if page.len() <= start {
         return true;
     }
-    if page.len() - start < len {
+    if page.len() - start <= len {
         return is_boundary(page, start);
     }
-    (len == 0) | (is_boundary(page, start) & is_boundary(page, start + len))
+    if !is_boundary(page, start) {
+        return len == 0;
+    }
+    if !is_boundary(page, start + len) {
+        return len == 0;
+    }
+    true
 }

@@ -1,9 +1,11 @@
 -- `utf8::is_cut_well` meets its contract.
-use mathlib.Core.Path.{_∙_}
+use mathlib.Core.Path.{_≡_, sym, _∙_}
+use mathlib.Core.Bool.{true, false}
 use native.Mathlib.Omega.{arith}
 use borrow.Author.Needs.{needs}
-use Rattle.utf8.specs.Boundary.{cutWell}
-use Rattle.utf8.proofs.Cuts.{cut-past, cut-long}
+use borrow.Author.Tests.{not-true, not-false}
+use Rattle.utf8.specs.Boundary.{boundary}
+use Rattle.utf8.proofs.Cuts.{cut-past, cut-long, cut-wrong, cut-right}
 use Rattle.utf8.proofs.is_cut_well.Statement.{statement}
 use Rattle.utf8.proofs.is_cut_well.Tie as tie
 
@@ -22,15 +24,24 @@ returns-2 c = c .is-boundary .ensures ∙ cut-long _ _ _ (omega arith) (omega ar
 is-boundary-requires-2 : tie.Need-is-boundary-requires-2
 is-boundary-requires-2 c κs = search needs
 
+returns-3 : tie.Need-returns-3
+returns-3 c = cut-wrong _ _ _ (rw (sym (c .before .is-boundary2 .ensures) ∙ not-true _ (c .if3 .taken)))
+
 add-is-boundary : tie.Need-add-is-boundary
 add-is-boundary c = search needs
 
 is-boundary-requires-3 : tie.Need-is-boundary-requires-3
-is-boundary-requires-3 c κs = search needs
+is-boundary-requires-3 c κs = omega arith
 
-returns-3 : tie.Need-returns-3
-unfolding cutWell
-returns-3 c = rw (c .before .is-boundary2 .ensures, c .is-boundary3 .ensures)
+returns-4 : tie.Need-returns-4
+returns-4 c =
+    cut-wrong _ _ _
+    (rw (sym (c .before .before .before .is-boundary2 .ensures) ∙ not-false _ (c .before .before .if3 .left), sym (c .before .is-boundary3 .ensures) ∙ not-true _ (c .if4 .taken)))
+
+returns-5 : tie.Need-returns-5
+returns-5 c =
+    cut-right _ _ _
+    (rw (sym (c .before .before .before .is-boundary2 .ensures) ∙ not-false _ (c .before .before .if3 .left), sym (c .before .is-boundary3 .ensures) ∙ not-false _ (c .if4 .left)))
 
 pub is-cut-well-spec : {M : Type 1} → statement M
 is-cut-well-spec =
@@ -41,6 +52,8 @@ is-cut-well-spec =
     is-boundary-requires
     returns-2
     is-boundary-requires-2
+    returns-3
     add-is-boundary
     is-boundary-requires-3
-    returns-3)
+    returns-4
+    returns-5)
