@@ -5,11 +5,13 @@ use mathlib.Core.List.{List, [], _∷_}
 use Prim.Native.Nat.{ℕ, _+_, _*_, _^_, _<_, _≤_}
 use native.Mathlib.Nat.{suc-mul}
 use native.Mathlib.Omega.{arith}
-use lib.ListN.{length, length-append}
+use lib.ListN.{length, length-append, take, drop, length-take, length-drop}
 use Rattle.octets.specs.Number.{bytesOf}
 use Rattle.tlv.specs.Octet.{tagWidth, numberWidth, headOctets}
 use Rattle.tlv.specs.Tree.{Tree}
-use Rattle.tlv.specs.Value.{Datum}
+use Rattle.tlv.specs.declared.Value.{Value}
+use Rattle.tlv.specs.declared.Value.the-variants as Parsed
+use Rattle.tlv.specs.Value.{Datum, datumIn}
 use Rattle.tlv_writer.specs.declared.Tag.the-variants.{Anonymous, Context}
 use Rattle.tlv_writer.specs.Width.{leastWidth, leastOf, widthCode}
 use Rattle.tlv_writer.specs.Element.{formOf, labelOf, headLength, headFor, unsignedOctets, openOctets, datumOctets}
@@ -92,6 +94,19 @@ value-bound (Datum.float n) h = omega (arith, length-float (Context 2) n)
 value-bound (Datum.text bs) h = omega (arith, length-text (Context 2) bs, width8 (length bs) (omega arith))
 value-bound Datum.other h = omega arith
 
+-- and a text by what the page has
+pub value-within : (page : List ℕ) (v : Value) → length (datumOctets (Context 2) (datumIn page v)) ≤ 10 + length page
+unfolding datumOctets headLength formOf tagWidth
+value-within page Parsed.Null = omega (arith, length-null (Context 2))
+value-within page (Parsed.Boolean b) = omega (arith, length-boolean (Context 2) b)
+value-within page (Parsed.Unsigned n) = omega (arith, context-unsigned 2 n, width-most (unsigned-is-width n))
+value-within page (Parsed.Signed z) = omega (arith, length-signed (Context 2) z, width-most (signed-is-width z))
+value-within page (Parsed.Float n) = omega (arith, length-float (Context 2) n)
+value-within page (Parsed.Text start n) =
+    let bs = take n (drop start page) in
+    omega (arith, length-text (Context 2) bs, width-most (unsigned-is-width (length bs)), length-take n (drop start page), length-drop start page)
+value-within page Parsed.Other = omega arith
+
 -- THE BOUNDS of what the server writes: a block, and a status of a write response
 module _ (e c a : ℕ) (fe : e < 2 ^ 16) (fc : c < 2 ^ 32) (fa : a < 2 ^ 32) where
   pub path-bound : (tag : ℕ) → length (spelling (pathTree tag e c a)) ≤ 19
@@ -100,6 +115,10 @@ module _ (e c a : ℕ) (fe : e < 2 ^ 16) (fc : c < 2 ^ 32) (fa : a < 2 ^ 32) whe
   pub data-block-bound : (version : ℕ) (d : Datum) → version < 2 ^ 32 → ShortText d → length (spelling (dataBlockTree version e c a d)) ≤ 233
   data-block-bound version d fv fd =
       omega (arith, length-data-block e c a version d, width32 version fv, path-bound 1, value-bound d fd)
+
+  pub data-block-within : (version : ℕ) (page : List ℕ) (v : Value) → version < 2 ^ 32 → length (spelling (dataBlockTree version e c a (datumIn page v))) ≤ 40 + length page
+  data-block-within version page v fv =
+      omega (arith, length-data-block e c a version (datumIn page v), width32 version fv, path-bound 1, value-within page v)
 
   pub status-block-bound : (code : ℕ) → code < 2 ^ 8 → length (spelling (statusBlockTree e c a code)) ≤ 30
   status-block-bound code f = omega (arith, length-status-block e c a code, width8 code f, path-bound 0)

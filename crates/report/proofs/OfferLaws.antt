@@ -1,9 +1,10 @@
 -- A block offered to a buffer, by whether there is room for it.
-use mathlib.Core.Path.{_≡_, refl, subst}
+use mathlib.Core.Path.{_≡_, refl, sym, subst}
+use mathlib.Core.Bool.{true}
 use mathlib.Core.List.{List}
-use Prim.Native.Nat.{ℕ, _+_, _<_, _≤_}
+use Prim.Native.Nat.{ℕ, _+_, _-_, _<_, _≤_}
 use native.Mathlib.Omega.{arith}
-use borrow.Author.Tests.{leb-true, leb-false}
+use borrow.Author.Tests.{leb-true, leb-false, le-leb}
 use lib.Dec.{leb}
 use lib.ListN.{length}
 use Rattle.octets.specs.Store.{Stored}
@@ -12,8 +13,18 @@ use Rattle.tlv.specs.Decode.Opt.{just}
 use Rattle.interaction_writer.specs.Spelling.{spelling}
 use Rattle.interaction_writer.specs.Block.{Block, blockTree}
 use Rattle.interaction_writer.proofs.LengthLaws.{length-data-block, length-status-block}
-use Rattle.schema.proofs.BoolLaws.{by-test}
+use Rattle.schema.proofs.BoolLaws.{by-test, same}
 use Rattle.report.specs.Offer.{Offered, OfferedIf}
+
+-- there is room for what is no longer than that
+pub within-room : (k m room : ℕ) → k ≤ m → leb m room ≡ true → true ≡ leb k room
+within-room k m room l h = sym (le-leb k room (omega (arith, leb-true m room h)))
+
+-- a part of the room left free, or the part added
+pub beside : (k n room : ℕ) → k ≤ room → leb n (room - k) ≡ leb (k + n) room
+beside k n room l =
+    same (leb n (room - k)) (leb (k + n) room) (λ h. le-leb (k + n) room (omega (arith, leb-true n (room - k) h)))
+    (λ h. le-leb n (room - k) (omega (arith, leb-true (k + n) room h)))
 
 -- there is none
 pub offered-full : {old : List ℕ} {start room : ℕ} {b : Block} → room < length (spelling (blockTree b)) → Offered old start room b old start

@@ -2,10 +2,12 @@
 ghost use mathlib.Core.Path.{_≡_};
 ghost use mathlib.Core.Bool.{true};
 ghost use Prim.Native.Nat.{ℕ, _<_, _+_, _≤_};
+ghost use lib.Dec.{leb};
 ghost use lib.ListN.{length};
 ghost use Rattle.tlv.specs.Value.{datumIn};
 ghost use Rattle.tlv_writer.specs.Element.{InPage};
-ghost use Rattle.interaction_writer.specs.Block.{Block};
+ghost use Rattle.interaction_writer.specs.Spelling.{spelling};
+ghost use Rattle.interaction_writer.specs.Block.{Block, dataBlockTree};
 ghost use Rattle.schema.specs.Rows.{attributeCount};
 ghost use Rattle.schema.specs.Check.{wellFormed};
 ghost use Rattle.selection.specs.declared.items.Item.the-variants as variants;
@@ -26,6 +28,39 @@ use tlv::Value;
 use values::text_at;
 use values::value_at;
 
+// What a block has at most beside its text.
+const BESIDE_TEXT: usize = 40;
+
+// Whether there is room for any block with a text of n bytes.
+fn is_ample(room: usize, n: usize) -> bool
+    ensures { λ r. ⌜ r ≡ leb (40 + n) room ⌝ }
+{
+    if room < BESIDE_TEXT {
+        false
+    } else {
+        n <= room - BESIDE_TEXT
+    }
+}
+
+// Whether there is room for a block. How long it will be is found only where that decides: most are far from the end of the room.
+fn data_fits(
+    version: u32,
+    endpoint: u16,
+    cluster: u32,
+    attribute: u32,
+    v: Value,
+    page: &[u8],
+    room: usize,
+) -> bool
+    requires { ⌜ InPage (now page) v ⌝ }
+    ensures { λ r. ⌜ r ≡ leb (length (spelling (dataBlockTree version endpoint cluster attribute (datumIn (now (page .entry)) v)))) room ⌝ }
+{
+    if is_ample(room, page.len()) {
+        return true;
+    }
+    data_block_len(version, endpoint, cluster, attribute, v, page) <= room
+}
+
 fn offer_data(
     version: u32,
     endpoint: u16,
@@ -40,7 +75,7 @@ fn offer_data(
     requires { ⌜ (InPage (now page) v) × (at + room ≤ length (now out)) ⌝ }
     ensures { λ r. ⌜ Offered (now (out .entry)) at room (Block.value version endpoint cluster attribute (datumIn (now (page .entry)) v)) (now (out .exit)) r ⌝ }
 {
-    if room < data_block_len(version, endpoint, cluster, attribute, v, page) {
+    if !data_fits(version, endpoint, cluster, attribute, v, page, room) {
         return at;
     }
     put_data_block(out, at, version, endpoint, cluster, attribute, v, page)

@@ -30,3 +30,10 @@ pub same : (a b : Bool) → (a ≡ true → b ≡ true) → (b ≡ true → a �
 same true b f g = sym (f refl)
 same false true f g = g refl
 same false false f g = refl
+
+-- two pairs of tests, joined the other way
+pub in-turn : (a x b y : Bool) → ((a && x) && (b && y)) ≡ ((a && b) && (x && y))
+in-turn false x b y = refl
+in-turn true true b y = refl
+in-turn true false true y = refl
+in-turn true false false y = refl

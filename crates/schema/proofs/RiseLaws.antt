@@ -10,7 +10,7 @@ use lib.Bits.{bitAnd, bitOr, or-lt, or-comm, or-add-and, and-le-l, and-le-r, and
 use lib.Dec.{leb, ltb}
 use Rattle.schema.specs.Rows.{word}
 use Rattle.schema.specs.Check.{every, rises}
-use Rattle.schema.proofs.BoolLaws.{both, left, right, same, by-test}
+use Rattle.schema.proofs.BoolLaws.{both, left, right, same, by-test, in-turn}
 use Rattle.schema.proofs.CheckLaws.{every-next, every-at, every-all, rises-below, rises-order, rises-all}
 
 -- an OR is below a power of two exactly if both are
@@ -53,12 +53,6 @@ module _ (w : List ℕ) (from : ℕ) where
   -- word k is below ROOM, and below the next one
   abbrev pub step : ℕ → Bool
   step k = ltb (word w from k) (2 ^ 62) && leb (2 ^ 63) (gap (word w from k) (word w from (k + 1)))
-
-  in-turn : (a x b y : Bool) → ((a && x) && (b && y)) ≡ ((a && b) && (x && y))
-  in-turn false x b y = refl
-  in-turn true true b y = refl
-  in-turn true false true y = refl
-  in-turn true false false y = refl
 
   -- a turn of the loop
   pub rise-turn : (words gaps i r : ℕ) → gaps < 2 ^ 64 → (ltb words (2 ^ 62) && leb (2 ^ 63) gaps) ≡ every step i → r ≡ gap (word w from i) (word w from (i + 1)) → (ltb (bitOr words (word w from i)) (2 ^ 62) && leb (2 ^ 63) (bitAnd gaps r)) ≡ every step (i + 1)

@@ -1,6 +1,6 @@
 -- The parts of traits words, judged all at once by their top bits.
 use mathlib.Core.Path.{_≡_, sym, ap, ap₂, subst, _∙_}
-use mathlib.Core.Bool.{Bool, true, _&&_, and-assoc}
+use mathlib.Core.Bool.{Bool, true, _&&_}
 use mathlib.Core.List.{List}
 use Prim.Native.Nat.{ℕ, _+_, _*_, _/_, _%_, _^_, _≤_, _<_, max}
 use native.Mathlib.Nat.{add-mul-div-left, div-lt-iff-lt-mul}
@@ -12,7 +12,7 @@ use lib.Bits.{bitOr, or-shr, or-step, or-comm, or-lt, or-add-and, and-le-r}
 use Rattle.schema.specs.Rows.{word}
 use Rattle.schema.specs.Layout.{half, traitsColumn}
 use Rattle.schema.specs.Check.{traitsRight, topBitsClear, allTraits}
-use Rattle.schema.proofs.BoolLaws.{both, left, right, same}
+use Rattle.schema.proofs.BoolLaws.{both, left, right, same, in-turn}
 use Rattle.schema.proofs.CheckLaws.{every-next}
 
 pub record Traits (t : ℕ) : Type 0 where
@@ -140,12 +140,11 @@ module _ (t : ℕ) where
       (λ h. let c = traits-clears (to-traits t h) in both _ _ (from-clear t (c .0)) (from-clear _ (c .1)))
 
 -- a turn of the loop that joins the words of the column
-pub traits-turn : (w : List ℕ) (i bits r : ℕ) → r ≡ (word w traitsColumn i + margins) % 2 ^ 64 → topBitsClear bits ≡ allTraits w i → topBitsClear (bitOr (bitOr bits (word w traitsColumn i)) r) ≡ allTraits w (i + 1)
-traits-turn w i bits r e h =
+pub traits-turn : (w : List ℕ) (i bits sums r : ℕ) → r ≡ (word w traitsColumn i + margins) % 2 ^ 64 → topBitsClear (bitOr bits sums) ≡ allTraits w i → topBitsClear (bitOr (bitOr bits (word w traitsColumn i)) (bitOr sums r)) ≡ allTraits w (i + 1)
+traits-turn w i bits sums r e h =
     let t = word w traitsColumn i in
-    ap (λ (k : ℕ). topBitsClear (bitOr (bitOr bits t) k)) e
-    ∙ or-both (bitOr bits t) ((t + margins) % 2 ^ 64)
-    ∙ ap (λ (b : Bool). b && topBitsClear ((t + margins) % 2 ^ 64)) (or-both bits t)
-    ∙ and-assoc (topBitsClear bits) (topBitsClear t) (topBitsClear ((t + margins) % 2 ^ 64))
-    ∙ ap₂ _&&_ h (traits-clear t)
+    or-both (bitOr bits t) (bitOr sums r)
+    ∙ ap₂ _&&_ (or-both bits t) (or-both sums r)
+    ∙ in-turn (topBitsClear bits) (topBitsClear t) (topBitsClear sums) (topBitsClear r)
+    ∙ ap₂ _&&_ (sym (or-both bits sums) ∙ h) (ap (λ (k : ℕ). topBitsClear t && topBitsClear k) e ∙ traits-clear t)
     ∙ sym (every-next (λ k. traitsRight (word w traitsColumn k)) i)

@@ -114,19 +114,21 @@ fn top_bits_clear(x: u64) -> bool
 }
 
 // Each part of each traits word is one that there is. A part is too high exactly if its top bit is set in the word, or in the word with MARGINS added:
-// so all words and sums are joined by OR, which takes no branch a word, and the top bits are looked at once.
+// so all words and all sums are joined by OR, which takes no branch a word, and the top bits are looked at once.
 fn all_traits(w: &[u64; WORDS], n: usize) -> bool
     requires { ⌜ n ≤ attributeLimit ⌝ }
     ensures { λ r. ⌜ r ≡ allTraits (now (w .entry)) n ⌝ }
 {
     let mut bits: u64 = 0;
+    let mut sums: u64 = 0;
     let mut i = 0;
     while i < n {
         let t = w[TRAITS + i];
-        bits = bits | t | wrapping_add_u64(t, MARGINS);
+        bits = bits | t;
+        sums = sums | wrapping_add_u64(t, MARGINS);
         i += 1;
     }
-    top_bits_clear(bits)
+    top_bits_clear(bits | sums)
 }
 
 // The first word of each text is its rank: how many texts stand before it. And there are not too many.

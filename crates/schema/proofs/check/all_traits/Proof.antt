@@ -1,6 +1,7 @@
 use mathlib.Core.Path.{_≡_, refl, ap, _∙_}
 use Prim.Native.Nat.{_-_, _≤_}
 use native.Mathlib.Omega.{arith}
+use lib.Bits.{bitOr}
 use Rattle.schema.specs.Check.{every, topBitsClear, allTraits}
 use Rattle.schema.proofs.TraitLaws.{traits-turn}
 use borrow.Author.Needs.{needs}
@@ -8,10 +9,10 @@ use Rattle.schema.proofs.check.all_traits.Statement.{statement}
 use Rattle.schema.proofs.check.all_traits.Tie as tie
 
 abbrev Inv-loop : tie.InvT-loop
-Inv-loop w n bits₀ i₀ bits i = (i ≤ n) × (topBitsClear bits ≡ allTraits w i)
+Inv-loop w n bits₀ sums₀ i₀ bits sums i = (i ≤ n) × (topBitsClear (bitOr bits sums) ≡ allTraits w i)
 
 abbrev μ-loop : tie.MeasureT-loop
-μ-loop w n bits₀ i₀ bits i = n - i
+μ-loop w n bits₀ sums₀ i₀ bits sums i = n - i
 
 loop-holds : tie.Need-loop-holds Inv-loop μ-loop
 unfolding every
@@ -39,7 +40,7 @@ loop-again : tie.Need-loop-again Inv-loop μ-loop
 loop-again c =
     let a = c .before .before .before .before .args in
     let l = c .before .before .before .loop in
-    (search needs, traits-turn (a .w .now) (l .i) (l .bits) _ (c .wrapping-add-u64 .ensures) (l .inv .1))
+    (search needs, traits-turn (a .w .now) (l .i) (l .bits) (l .sums) _ (c .wrapping-add-u64 .ensures) (l .inv .1))
 
 top-bits-clear-requires : tie.Need-top-bits-clear-requires Inv-loop μ-loop
 top-bits-clear-requires c κs = search needs
