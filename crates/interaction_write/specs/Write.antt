@@ -91,7 +91,7 @@ entryWords x = x .version ∷ x .endpoint ∷ x .cluster ∷ x .attribute ∷ x 
 abbrev pub keptWords : EntryOf ℕ → List ℕ
 keptWords x = entryWords (entryStruct x)
 
-unfoldable pub entryIn : List ℕ → ℕ → Entry
+abbrev pub entryIn : List ℕ → ℕ → Entry
 entryIn l i =
     record { version = getD l (i * entrySize) 0; endpoint = getD l (i * entrySize + 1) 0; cluster = getD l (i * entrySize + 2) 0; attribute = getD l (i * entrySize + 3) 0; place = getD l (i * entrySize + 4) 0 }
 

@@ -66,5 +66,5 @@ use Rattle.promises_example.specs.Sign.{sign0, sign1, sign2, sign3, chan
 use Rattle.promises_example.specs.Calls.{SignCalls}
 
 pub sign-calls : SignCalls
-unfolding bytesOf Number.numberOf store allBelow completes table trailing within Utf8.after Utf8.wellFormed closedAt headAt headOctets numberWidth tagWidth allowedIn elementBy elementEnd foldAt foldBy booleanOctets datumOctets formOf headFor labelOf openOctets textOctets unsignedOctets leastOf leastWidth widthCode eachStep optionalIn fieldStep fieldsAt fieldsFrom insideAt placeOf putAt slotOf flagIn flagOf numberIn wideIn Scalar.numberOf askableP banned loose pathAt pathFrom soundPath firstOf listAt messageAt untagged askedAt askedOf readFrom readIn responseFrom responseIn blockTree dataBlockTree dataMembers pathTree bigNumber bigOctets envelopeOctets envelopeWord reportEnding reportMembers revision statusMembers members primitiveD spelling spellings writerTag envelopeIn fieldsOf filterMembers pathsTree readMembers wildcardTree judgedIn statusCode equal held nextVersion count every rises Schema.changes Schema.wellFormed rowsFrom first coversPlace givenBy grantsOf isGranted levelOf privilegeOk privilegesOk tableOk kindOf accepted numbersRight textsRight shownText storedEdits storedValues wordFor freshValues valuesRight datumAt textAt askedFor asksFor concrete filterWords joined on skipsNow wordAfter Request.askedAt pathsWords concreteItem itemAt readItem span wildcardItem located allowed reached actionOf onRequest onStatus blockOf blocksFrom collect pathBlocks pathsBlocks valueBlock left taken report.after partPayload changed offered refusalCode readBegun requestOf reportMessage keeping nextPart rowRight standingIn forServer reacted received stepOf alteredBy freshRow started signRight readMessage successMessage access defaults edits plan words changedEdits changedValues part1 part2 request row1 row2 sign0 sign1 sign2 sign3 success
+unfolding bytesOf Number.numberOf store allBelow completes table trailing within Utf8.after Utf8.wellFormed closedAt headAt headOctets numberWidth tagWidth allowedIn elementBy elementEnd foldAt foldBy booleanOctets datumOctets formOf headFor labelOf openOctets textOctets unsignedOctets leastOf leastWidth widthCode eachStep optionalIn fieldStep fieldsAt fieldsFrom insideAt placeOf putAt slotOf flagIn flagOf numberIn wideIn Scalar.numberOf askableP banned loose pathAt pathFrom soundPath firstOf listAt messageAt untagged askedAt askedOf readFrom readIn responseFrom responseIn blockTree dataBlockTree dataMembers pathTree bigNumber bigOctets envelopeOctets envelopeWord reportEnding reportMembers revision statusMembers members primitiveD spelling spellings writerTag envelopeIn fieldsOf filterMembers pathsTree readMembers wildcardTree judgedIn statusCode equal held nextVersion count every rises Schema.changes Schema.wellFormed rowsFrom first coversPlace givenBy grantsOf isGranted levelOf privilegeOk privilegesOk tableOk kindOf accepted numbersRight textsRight shownText storedEdits storedValues wordFor freshValues valuesRight datumAt textAt askedFor asksFor concrete filterWords joined on skipsNow wordAfter pathsWords concreteItem itemAt readItem span wildcardItem located allowed reached actionOf onRequest onStatus blockOf blocksFrom collect pathBlocks pathsBlocks valueBlock left taken report.after partPayload changed offered refusalCode readBegun requestOf reportMessage keeping nextPart rowRight standingIn forServer reacted received stepOf alteredBy freshRow started signRight readMessage successMessage access defaults edits plan words changedEdits changedValues part1 part2 request row1 row2 sign0 sign1 sign2 sign3 success
 sign-calls = record { accepts = refl; words-fit = refl; table-right = refl; edits-size = refl; made = refl; begins = refl; repeats = refl; alters = refl; goes-on = refl; turns = (refl, refl); part1-sent = λ l. refl; part2-sent = λ l. refl; row6 = refl; may-read6 = (_, refl); stands = (refl, refl, refl, refl) }

@@ -46,7 +46,6 @@ rows-taken f (x ∷ l) (suc n) k z h e =
 
 -- filters are read back from their words
 pub wanted-back : (fs : List Wanted) (n : ℕ) → n ≤ length fs → wantedList (wordsOf wantedWords fs) n ≡ take n fs
-unfolding wantedIn
 wanted-back fs n h = rows-taken (wantedIn (wordsOf wantedWords fs)) fs n 0 unwanted h (λ i q. ap (wantedIn (wordsOf wantedWords fs)) (omega arith) ∙ words-back wantedWords wantedIn here behind fs i unwanted q)
   where
     here : (f : Wanted) (r : List ℕ) → wantedIn (wantedWords f ++ r) 0 ≡ f
@@ -83,7 +82,6 @@ paths-here l n k p h e = rows-here (askedAt l) n k p h e
 -- ---- a request that was stored is read back
 
 path-in : (l : List ℕ) (k : ℕ) → k < maxPaths → askedAt (pathsIn l) k ≡ askedAt l k
-unfolding askedAt
 path-in l k h =
     λ j. askedFor (record {
       endpoint = getD-take filtersAt l (k * pathSize) 0 (omega arith) j;

@@ -62,7 +62,7 @@ unfoldable pub filterWords : List ℕ → List Wanted → List ℕ
 filterWords w fs = rowsFrom (filterWord w fs) clusterLimit 0
 
 -- the filters of a request as words that are lent: number k, and the first n
-unfoldable pub wantedIn : List ℕ → ℕ → Wanted
+abbrev pub wantedIn : List ℕ → ℕ → Wanted
 wantedIn l k = record { endpoint = getD l (k * wantedSize) 0; cluster = getD l (k * wantedSize + 1) 0; version = getD l (k * wantedSize + 2) 0 }
 
 abbrev pub wantedList : List ℕ → ℕ → List Wanted

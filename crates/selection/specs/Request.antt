@@ -31,7 +31,7 @@ abbrev pub filtersIn : List ℕ → List ℕ
 filtersIn l = take clusterLimit (drop filtersAt l)
 
 -- path number k
-unfoldable pub askedAt : List ℕ → ℕ → Asked
+abbrev pub askedAt : List ℕ → ℕ → Asked
 askedAt l k =
     askedFor (record { endpoint = getD l (k * pathSize) 0; cluster = getD l (k * pathSize + 1) 0; attribute = getD l (k * pathSize + 2) 0 })
 

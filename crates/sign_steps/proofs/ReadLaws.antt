@@ -15,7 +15,7 @@ use Rattle.schema.specs.Rows.{attributeCount, rowsFrom}
 use Rattle.acl.specs.declared.Grants.{Grants}
 use Rattle.selection.specs.Asked.{askedFor}
 use Rattle.selection.specs.Filters.{filterWords}
-use Rattle.selection.specs.Request.{pathsWords, askedAt}
+use Rattle.selection.specs.Request.{pathsWords}
 use Rattle.round_trip.specs.Meant.{everything, readAnswer}
 use Rattle.report.specs.declared.Place as report
 use Rattle.report.specs.declared.part.Request.{Request}
@@ -43,7 +43,7 @@ module _ (w : List ℕ) (fs : List Wanted) where
   request = requestOf w (readAnswer fs)
 
   all-asked : pathsOf request ≡ askedFor everything ∷ []
-  unfolding requestOf firstOf pathsWords askedAt rowsFrom
+  unfolding requestOf firstOf pathsWords rowsFrom
   all-asked = refl
 
   filters-judged : length fs ≤ maxFilters → request .filters ≡ filterWords w fs

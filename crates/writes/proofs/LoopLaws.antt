@@ -18,7 +18,6 @@ use Rattle.writes.specs.Entry.{entryWritten, entriesIn, heldAfter, codes
 
 -- entries are read back from their words
 pub entry-back : (xs : List Entry) (k : ℕ) → k < length xs → entryIn (wordsOf entryWords xs) k ≡ getD xs k noEntry
-unfolding entryIn
 entry-back xs k h = words-back entryWords entryIn here behind xs k noEntry h
   where
     here : (x : Entry) (r : List ℕ) → entryIn (entryWords x ++ r) 0 ≡ x
