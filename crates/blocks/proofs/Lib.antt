@@ -3,3 +3,4 @@ pub mod DataLaws
 pub mod CodeLaws
 pub mod OrderLaws
 pub mod OnLaws
+pub mod SizeLaws

@@ -144,7 +144,7 @@ pub const NO_LIST: Listed = Listed {
 };
 
 // One member more of a list, in three words, if there is room.
-fn keep_three(kept: &mut [u64], limit: usize, count: usize, a: u64, b: u64, c: u64)
+pub fn keep_three(kept: &mut [u64], limit: usize, count: usize, a: u64, b: u64, c: u64)
     requires { ⌜ limit * 3 ≤ length (now kept) ⌝ }
     ensures { λ _. ⌜ now (kept .exit) ≡ keepMore limit 3 (λ l. l) (now (kept .entry)) count (a ∷ b ∷ c ∷ []) ⌝ }
 {

@@ -13,6 +13,7 @@ use Rattle.tlv.specs.Octet.{pick, structure, array}
 use Rattle.tlv.specs.Head.{headAt}
 use Rattle.tlv.specs.Walk.{Got}
 use Rattle.tlv.specs.Walk.Got.{got, bad}
+use Rattle.tlv.specs.Decode.{Opt}
 use Rattle.tlv.specs.Decode.Opt.{just, nothing}
 use Rattle.members.specs.Array.{optionalIn}
 use Rattle.members.specs.Scalar.{WRONG, numberIn, flagIn}
@@ -22,7 +23,8 @@ use Rattle.blocks.specs.Data.{ReportOf, reportAt, reportOn}
 use Rattle.blocks.proofs.OnLaws.{report-reads}
 use Rattle.interaction.specs.Message.{given, structureAt, wholePass, listAt, listOn}
 use Rattle.interaction.proofs.PassLaws.{list-reads, list-other, whole-bad, whole-lacks, whole-passed}
-use Rattle.interaction_report.specs.Report.{firstIn, partTags, partOf, placed, partFrom, partIn, partRead, partBy}
+use Rattle.interaction_report.specs.declared.Part.{Part}
+use Rattle.interaction_report.specs.Report.{PartAt, firstIn, partTags, partOf, placed, partFrom, partIn, partRead, partBy}
 
 -- the array of blocks by its head
 pub blocks-reads : (s : List ℕ) → Reads 9 s (listAt reportAt 9 s) (listOn reportAt 9 s)
@@ -66,21 +68,27 @@ from : (s xs ks : List ℕ) → ks ≡ map (codeIn s) xs → {f : ℕ} {l : List
 unfolding partFrom
 from s xs ks k a b = rw (a, b, ← (number-coded s ks xs k 0 4294967295 false (omega arith) refl), ← (flag-coded s ks xs k 3 refl), ← (flag-coded s ks xs k 4 refl), ← (number-coded s ks xs k 9 255 false (omega arith) refl)) refl
 
--- what is made of the members is what the code makes of their codes
-pub part-passed : {s before : List ℕ} {stops : List Bool} {z : Pass} → Left 9 s structure partTags stops before (structureAt partTags s) z → 10 ≤ z .slot → (f : ℕ) (l : List (ReportOf ℕ)) → (z .good ≡ true → firstIn s (getD (z .at) 1 0) ≡ f) → (z .good ≡ true → optionalIn [] (listAt reportAt 9 s) (getD (z .at) 1 0) ≡ just l) → partBy (length s) z (length l) f ≡ partRead (partIn s)
-unfolding partBy partIn
-part-passed {s} {z = z} L o f l first some = by (z .good) refl
-  where
-    made : (w a b c d : Bool) → pick w (pick a (partRead nothing) (pick b (partRead nothing) (pick c (partRead nothing) (pick d (record { good = true; more = flagBy (getD (z .codes) 3 0); blocks = length l; first = f }) (partRead nothing))))) (partRead nothing) ≡ partRead (pick w (placed f (pick a nothing (pick b nothing (pick c nothing (pick d (just (record { more = flagBy (getD (z .codes) 3 0); blocks = l })) nothing))))) nothing)
-    made false a b c d = refl
-    made true true b c d = refl
-    made true false true c d = refl
-    made true false false true d = refl
-    made true false false false true = refl
-    made true false false false false = refl
+module _ {s before : List ℕ} {stops : List Bool} {z : Pass} (L : Left 9 s structure partTags stops before (structureAt partTags s) z) (o : 10 ≤ z .slot) (f : ℕ) (l : List (ReportOf ℕ)) (first : z .good ≡ true → firstIn s (getD (z .at) 1 0) ≡ f) (some : z .good ≡ true → optionalIn [] (listAt reportAt 9 s) (getD (z .at) 1 0) ≡ just l) where
+  made : partIn s ≡ pick (wholePass (length s) z) (placed f (partOf (numberBy 4294967295 false (getD (z .codes) 0 0)) (flagBy (getD (z .codes) 3 0)) (flagBy (getD (z .codes) 4 0)) (numberBy 255 false (getD (z .codes) 9 0)) (just l))) nothing
+  unfolding partIn
+  made = by (z .good) refl
+    where
+      by : (b : Bool) → z .good ≡ b → partIn s ≡ pick (wholePass (length s) z) (placed f (partOf (numberBy 4294967295 false (getD (z .codes) 0 0)) (flagBy (getD (z .codes) 3 0)) (flagBy (getD (z .codes) 4 0)) (numberBy 255 false (getD (z .codes) 9 0)) (just l))) nothing
+      by false g = rw (whole-bad (length s) z g) (whole-lacks (partFrom s) L o (λ h. absurd (clash (sym h ∙ g))))
+      by true g = whole-passed (partFrom s) L o ∙ ap (λ x. pick (wholePass (length s) z) x nothing) (from s (z .at) (z .codes) (L .coded) (first g) (some g))
 
-    by : (b : Bool) → z .good ≡ b → partBy (length s) z (length l) f ≡ partRead (partIn s)
-    by false g = rw (whole-bad (length s) z g) (sym (ap partRead (whole-lacks (partFrom s) L o (λ h. absurd (clash (sym h ∙ g))))))
-    by true g =
-        made (wholePass (length s) z) (eqb (numberBy 4294967295 false (getD (z .codes) 0 0)) WRONG) (eqb (flagBy (getD (z .codes) 3 0)) WRONG) (eqb (flagBy (getD (z .codes) 4 0)) WRONG) (given (numberBy 255 false (getD (z .codes) 9 0)))
-        ∙ sym (ap partRead (whole-passed (partFrom s) L o ∙ ap (λ x. pick (wholePass (length s) z) x nothing) (from s (z .at) (z .codes) (L .coded) (first g) (some g))))
+  -- what is made of the members is what the code makes of their codes, for all that is made of a part
+  pub part-out : {X : Type 0} (out : Part → X) (mean : Opt PartAt → X) → out (partRead nothing) ≡ mean nothing → ((more : ℕ) → let x : Opt PartAt = just (record { part = record { more = more; blocks = l }; first = f }) in out (partRead x) ≡ mean x) → out (partBy (length s) z (length l) f) ≡ mean (partIn s)
+  unfolding partBy
+  part-out out mean lacks has = go (wholePass (length s) z) (eqb (numberBy 4294967295 false (getD (z .codes) 0 0)) WRONG) (eqb (flagBy (getD (z .codes) 3 0)) WRONG) (eqb (flagBy (getD (z .codes) 4 0)) WRONG) (given (numberBy 255 false (getD (z .codes) 9 0))) ∙ sym (ap mean made)
+    where
+      go : (w a b c d : Bool) → out (pick w (pick a (partRead nothing) (pick b (partRead nothing) (pick c (partRead nothing) (pick d (record { good = true; more = flagBy (getD (z .codes) 3 0); blocks = length l; first = f }) (partRead nothing))))) (partRead nothing)) ≡ mean (pick w (placed f (pick a nothing (pick b nothing (pick c nothing (pick d (just (record { more = flagBy (getD (z .codes) 3 0); blocks = l })) nothing))))) nothing)
+      go false a b c d = lacks
+      go true true b c d = lacks
+      go true false true c d = lacks
+      go true false false true d = lacks
+      go true false false false false = lacks
+      go true false false false true = has (flagBy (getD (z .codes) 3 0))
+
+  pub part-passed : partBy (length s) z (length l) f ≡ partRead (partIn s)
+  part-passed = part-out (λ p. p) partRead refl (λ more. refl)

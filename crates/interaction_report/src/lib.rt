@@ -16,6 +16,8 @@ use members::WRONG;
 use tlv::Cursor;
 use tlv::Element;
 
+pub mod kept; // kept.rt: the blocks kept in words that are lent
+
 // How many blocks an array holds, all of which are well formed.
 pub struct Count {
     pub good: bool,

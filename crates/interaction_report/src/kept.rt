@@ -1,0 +1,188 @@
+// Report Data with its blocks kept in words that are lent, three for each (document 01, The panel).
+ghost use mathlib.Core.Path.{_≡_};
+ghost use Rattle.blocks.specs.Data.{reportAt};
+ghost use Rattle.interaction.specs.Message.{listOn, listWith, listRead};
+ghost use Rattle.interaction_report.specs.Report.{blocksAt, partIn};
+ghost use Rattle.interaction_report.specs.Kept.{concreteP, blockSize, maxBlocks, reportWords, blockWords, wordList, partKept, partWith, keptBy};
+use super::Part;
+use super::REPORT;
+use super::part_of;
+use blocks::Path;
+use blocks::Report;
+use blocks::ReportRead;
+use bounds::VERSIONS;
+use interaction::Listed;
+use interaction::NO_LIST;
+use members::Item;
+use tlv::Cursor;
+use tlv::Element;
+
+// How many blocks are kept. A payload holds no more: each takes ten bytes.
+pub const BLOCKS: usize = 102;
+
+pub const BLOCK_SIZE: usize = 3;
+
+pub const BLOCK_WORDS: usize = BLOCKS * BLOCK_SIZE;
+
+// The first word of a block that is of no use (a status, a path that is not concrete, no version): no endpoint and cluster make it.
+pub const UNSHOWN: u64 = 281474976710656;
+
+// A block in words: endpoint and cluster, attribute and version, where its data stands.
+pub struct Words {
+    pub first: u64,
+    pub second: u64,
+    pub third: u64,
+}
+
+const NO_WORDS: Words = Words {
+    first: UNSHOWN,
+    second: 0,
+    third: 0,
+};
+
+// A path that names one attribute, each part of its width.
+fn concrete(p: Path) -> bool
+    ensures { λ r. ⌜ r ≡ concreteP p ⌝ }
+{
+    if !blocks::exact(p) {
+        return false;
+    }
+    if 65536 <= p.endpoint {
+        return false;
+    }
+    if 4294967296 <= p.cluster {
+        return false;
+    }
+    p.attribute < 4294967296
+}
+
+fn words_of(x: Report) -> Words
+    ensures { λ r. ⌜ wordList r ≡ reportWords x ⌝ }
+{
+    let Report::Shown(d) = x else {
+        return NO_WORDS;
+    };
+    let path = d.path;
+    if !concrete(path) {
+        return NO_WORDS;
+    }
+    if VERSIONS <= d.version {
+        return NO_WORDS;
+    }
+    Words {
+        first: path.endpoint * 4294967296 + path.cluster,
+        second: path.attribute * 4294967296 + d.version,
+        third: d.place as u64,
+    }
+}
+
+// The blocks of an array from one of its members on: all are checked and counted, the first are kept.
+pub fn kept_from(s: &[u8], c: Cursor, left: usize, kept: &mut [u64; BLOCK_WORDS]) -> Listed
+    ensures { λ r. ⌜ listWith r (now (kept .exit)) ≡ listRead maxBlocks blockSize blockWords (now (kept .entry)) (blocksAt left (now (s .entry)) (c .at)) ⌝ }
+{
+    let mut count: usize = 0;
+    let mut at = c.at;
+    loop {
+        let item = members::item_at(s, Cursor { at }, tlv::ARRAY);
+        match item {
+            Item::BadItem => {
+                *kept = [0u64; BLOCK_WORDS];
+                return NO_LIST;
+            }
+            Item::Ended(next) => {
+                return Listed {
+                    good: true,
+                    count,
+                    next,
+                };
+            }
+            Item::Member(e) => {
+                let ReportRead::Report(x, next) = blocks::report_of(s, e, left) else {
+                    *kept = [0u64; BLOCK_WORDS];
+                    return NO_LIST;
+                };
+                let w = words_of(x);
+                interaction::keep_three(kept, BLOCKS, count, w.first, w.second, w.third);
+                count += 1;
+                at = next.at;
+            }
+        }
+    }
+}
+
+// The blocks of the array whose head was read.
+fn kept_of(s: &[u8], e: Element, left: usize, kept: &mut [u64; BLOCK_WORDS]) -> Listed
+    ensures { λ r. ⌜ listWith r (now (kept .exit)) ≡ listRead maxBlocks blockSize blockWords (now (kept .entry)) (listOn reportAt left (now (s .entry)) e) ⌝ }
+{
+    if e.kind != tlv::ARRAY {
+        *kept = [0u64; BLOCK_WORDS];
+        return NO_LIST;
+    }
+    if left == 0 {
+        *kept = [0u64; BLOCK_WORDS];
+        return NO_LIST;
+    }
+    let c = e.next;
+    kept_from(s, c, left - 1, kept)
+}
+
+// A part of a report: whether it is well-formed, whether more is promised (1), and how many blocks it has.
+pub struct PartCounts {
+    pub good: bool,
+    pub more: u64,
+    pub blocks: usize,
+}
+
+const NO_COUNTS: PartCounts = PartCounts {
+    good: false,
+    more: 0,
+    blocks: 0,
+};
+
+// The part that was made, with its blocks in words. One that was refused leaves nothing in them.
+fn part_by(p: Part, kept: &mut [u64; BLOCK_WORDS]) -> PartCounts
+    ensures { λ r. ⌜ partWith r (now (kept .exit)) ≡ keptBy p (now (kept .entry)) ⌝ }
+{
+    if !p.good {
+        *kept = [0u64; BLOCK_WORDS];
+        return NO_COUNTS;
+    }
+    PartCounts {
+        good: true,
+        more: p.more,
+        blocks: p.blocks,
+    }
+}
+
+// ReportDataMessage, its blocks kept.
+pub fn report_kept(s: &[u8], kept: &mut [u64; BLOCK_WORDS]) -> PartCounts
+    ensures { λ r. ⌜ partWith r (now (kept .exit)) ≡ partKept (now (kept .entry)) (partIn (now (s .entry))) ⌝ }
+{
+    let listed = REPORT;
+    let stops = members::SECOND;
+    let mut at = [0usize; 10];
+    let mut codes = [0u64; 10];
+    let m = interaction::begin_message(s, &listed, &stops, &mut at, &mut codes);
+    if 10 <= m.slot {
+        let p = part_of(s.len(), m, &codes, 0, 0);
+        return part_by(p, kept);
+    }
+    let inner = m.head;
+    let f = kept_of(s, inner, bounds::MAX_DEPTH - 1, kept);
+    if !f.good {
+        return NO_COUNTS;
+    }
+    let after = f.next;
+    let z = members::finish(
+        s,
+        after,
+        bounds::MAX_DEPTH - 1,
+        tlv::STRUCTURE,
+        &listed,
+        &mut at,
+        &mut codes,
+    );
+    let first = inner.next;
+    let p = part_of(s.len(), z, &codes, f.count, first.at);
+    part_by(p, kept)
+}
