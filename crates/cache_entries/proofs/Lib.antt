@@ -1,0 +1,11 @@
+pub mod SetLaws
+pub mod ValueLaws
+pub mod ValidLaws
+pub mod OrderWithLaws
+pub mod TextLaws
+pub mod JoinLaws
+pub mod SharedLaws
+pub mod CoherentLaws
+pub mod PartLaws
+pub mod MarkLaws
+pub mod MoveLaws

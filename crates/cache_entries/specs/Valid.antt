@@ -1,0 +1,72 @@
+-- What a panel may hold (document 01, refusal 2: "state, page or access table breaks these rules"): at most 256 entries of at most 32 clusters, no path
+-- twice, each of a cluster that is there, with null or a value of one of the five kinds; a text has a place of its own, at most 200 bytes, and is UTF-8; a
+-- page of its size.
+use mathlib.Core.Bool.{Bool, true, false, not, _&&_}
+use mathlib.Core.Path.{_≡_}
+use mathlib.Core.List.{List}
+use Prim.Native.Nat.{ℕ, _/_, _^_}
+use lib.Dec.{eqb, ltb, leb}
+use lib.ListN.{length, getD}
+use Rattle.tlv.specs.Octet.{pick}
+use Rattle.utf8.specs.WellFormed.{wellFormed}
+use Rattle.schema.specs.Check.{every}
+use Rattle.ordered.specs.Order.{orderRight}
+use Rattle.cache_entries.specs.declared.Cached.{Cached}
+use Rattle.cache_entries.specs.Limits.{maxEntries, maxClusters, textPlaces, textSize, pageSize, orderSize, half, noVersion, nullKind, booleanKind, unsignedKind, signedKind, floatKind, textKind}
+use Rattle.cache_entries.specs.Entries.{clusterOrder, textIn}
+use Rattle.cache_entries.specs.Texts.{isText, placeUsed}
+
+-- a value's 64 bits by its kind; of a text the place is judged with the text
+unfoldable pub wordRight : ℕ → ℕ → Bool
+wordRight kind word =
+    pick (eqb kind nullKind) (eqb word 0)
+    (pick (eqb kind booleanKind) (leb word 1)
+    (pick (eqb kind unsignedKind) true (pick (eqb kind signedKind) true (pick (eqb kind floatKind) (ltb word half) (eqb kind textKind)))))
+
+-- an entry of a cluster that is there; its version may be none
+unfoldable pub entryRight : ℕ → ℕ → ℕ → ℕ → ℕ → Bool
+entryRight clusters key version kind word = ltb (key / half) clusters && (leb version noVersion && wordRight kind word)
+
+abbrev pub entryRightAt : Cached → ℕ → Bool
+entryRightAt c i = entryRight (c .«cluster_count») (getD (c .keys) i 0) (getD (c .versions) i 0) (getD (c .kinds) i 0) (getD (c .words) i 0)
+
+unfoldable pub entriesRight : Cached → Bool
+entriesRight c = every (entryRightAt c) (c .count)
+
+-- a text: at most 200 bytes of UTF-8
+unfoldable pub textRight : List ℕ → List ℕ → ℕ → Bool
+textRight page lengths p = leb (getD lengths p 0) textSize && wellFormed (textIn page lengths p)
+
+-- a text entry has a place that there is, and that no text before it has
+unfoldable pub textRightAt : List ℕ → List ℕ → List ℕ → List ℕ → ℕ → Bool
+textRightAt page kinds words lengths i =
+    pick (isText kinds i)
+    (ltb (getD words i 0) textPlaces && (not (placeUsed kinds words i (getD words i 0)) && textRight page lengths (getD words i 0)))
+    true
+
+unfoldable pub textsRight : List ℕ → Cached → Bool
+textsRight page c = every (textRightAt page (c .kinds) (c .words) (c .lengths)) (c .count)
+
+-- an endpoint has 16 bits
+unfoldable pub clustersRight : List ℕ → ℕ → Bool
+clustersRight l n = every (λ k. ltb (getD l k 0) (2 ^ 48)) n
+
+-- "at most 256 entries, 32 clusters", no path and no cluster twice: both stand in a rising order
+unfoldable pub heldRight : List ℕ → Cached → Bool
+heldRight page c =
+    eqb (length page) pageSize
+    && (leb (c .count) maxEntries
+    && (leb (c .«cluster_count») maxClusters
+    && (clustersRight (c .clusters) (c .«cluster_count»)
+    && (orderRight (c .clusters) (clusterOrder (c .order)) (c .«cluster_count»)
+    && (orderRight (c .keys) (c .order) (c .count) && (entriesRight c && textsRight page c))))))
+
+-- what the types of the columns say: how long each is
+pub record Whole (c : Cached) : Type 0 where
+  pub clusters : length (c .clusters) ≡ maxClusters
+  pub keys : length (c .keys) ≡ maxEntries
+  pub versions : length (c .versions) ≡ maxEntries
+  pub kinds : length (c .kinds) ≡ maxEntries
+  pub words : length (c .words) ≡ maxEntries
+  pub order : length (c .order) ≡ orderSize
+  pub lengths : length (c .lengths) ≡ textPlaces

@@ -1,0 +1,223 @@
+// Whether what a panel holds keeps the rules of document 01: refusal 2 where it does not.
+ghost use mathlib.Core.Path.{_≡_};
+ghost use mathlib.Core.Bool.{Bool};
+ghost use mathlib.Core.List.{List};
+ghost use Prim.Native.Nat.{ℕ, _≤_, _<_};
+ghost use lib.ListN.{length};
+ghost use Rattle.schema.specs.Check.{every};
+ghost use Rattle.cache_entries.specs.Limits.{maxEntries, maxClusters, textPlaces, pageSize};
+ghost use Rattle.cache_entries.specs.Entries.{heldOf};
+ghost use Rattle.cache_entries.specs.Valid.{wordRight, entryRight, textRight, textRightAt, clustersRight, entriesRight, heldRight, Whole};
+use super::CLUSTERS;
+use super::ENTRIES;
+use super::HALF;
+use super::NO_VERSION;
+use super::ORDER_SIZE;
+use super::PAGE_SIZE;
+use super::TEXT;
+use super::TEXT_PLACES;
+use super::TEXT_SIZE;
+use super::find::cluster_order;
+
+// A value's 64 bits by its kind. Each value has one form.
+fn word_ok(kind: u8, word: u64) -> bool
+    ensures { λ r. ⌜ r ≡ wordRight kind word ⌝ }
+{
+    if kind == super::NULL {
+        return word == 0;
+    }
+    if kind == super::BOOLEAN {
+        return word <= 1;
+    }
+    if kind == super::UNSIGNED {
+        return true;
+    }
+    if kind == super::SIGNED {
+        return true;
+    }
+    if kind == super::FLOAT {
+        return word < HALF;
+    }
+    kind == TEXT
+}
+
+// An entry of a cluster that is there, with a value of its kind.
+fn entry_ok(clusters: usize, key: u64, version: u64, kind: u8, word: u64) -> bool
+    ensures { λ r. ⌜ r ≡ entryRight clusters key version kind word ⌝ }
+{
+    if clusters as u64 <= key / HALF {
+        return false;
+    }
+    if NO_VERSION < version {
+        return false;
+    }
+    word_ok(kind, word)
+}
+
+// Every cluster's endpoint has 16 bits.
+fn clusters_ok(clusters: &[u64; CLUSTERS], n: usize) -> bool
+    requires { ⌜ n ≤ maxClusters ⌝ }
+    ensures { λ r. ⌜ r ≡ clustersRight (now (clusters .entry)) n ⌝ }
+{
+    let mut i = 0;
+    while i < n {
+        if 281_474_976_710_656 <= clusters[i] {
+            return false;
+        }
+        i += 1;
+    }
+    true
+}
+
+fn entries_ok(
+    keys: &[u64; ENTRIES],
+    versions: &[u64; ENTRIES],
+    kinds: &[u8; ENTRIES],
+    words: &[u64; ENTRIES],
+    k: usize,
+    n: usize,
+) -> bool
+    requires { ⌜ n ≤ maxEntries ⌝ }
+    ensures { λ r. ⌜ ((clusters order lengths : List ℕ) (primed : Bool) → r ≡ entriesRight (heldOf clusters (now (keys .entry)) (now (versions .entry)) (now (kinds .entry)) (now (words .entry)) order lengths k n primed)) ⌝ }
+{
+    let mut i = 0;
+    while i < n {
+        if !entry_ok(k, keys[i], versions[i], kinds[i], words[i]) {
+            return false;
+        }
+        i += 1;
+    }
+    true
+}
+
+fn size_of(len: u16) -> usize
+    ensures { λ r. ⌜ r ≡ len ⌝ }
+{
+    len as usize
+}
+
+// A text of at most TEXT_SIZE bytes at place p, which is UTF-8.
+fn text_ok(page: &[u8], lengths: &[u16; TEXT_PLACES], p: usize) -> bool
+    requires { ⌜ (p < textPlaces) × (length (now page) ≡ pageSize) ⌝ }
+    ensures { λ r. ⌜ r ≡ textRight (now (page .entry)) (now (lengths .entry)) p ⌝ }
+{
+    let len = size_of(lengths[p]);
+    if TEXT_SIZE < len {
+        return false;
+    }
+    let start = TEXT_SIZE * p;
+    let end = start + len;
+    utf8::valid(&page[start..end])
+}
+
+// Every text has a place of its own.
+fn texts_ok(
+    page: &[u8],
+    kinds: &[u8; ENTRIES],
+    words: &[u64; ENTRIES],
+    lengths: &[u16; TEXT_PLACES],
+    n: usize,
+) -> bool
+    requires { ⌜ (n ≤ maxEntries) × (length (now page) ≡ pageSize) ⌝ }
+    ensures { λ r. ⌜ r ≡ every (textRightAt (now (page .entry)) (now (kinds .entry)) (now (words .entry)) (now (lengths .entry))) n ⌝ }
+{
+    let mut marks = [0u8; TEXT_PLACES];
+    let mut i = 0;
+    while i < n {
+        if kinds[i] == TEXT {
+            if TEXT_PLACES as u64 <= words[i] {
+                return false;
+            }
+            let p = words[i] as usize;
+            if marks[p] != 0 {
+                return false;
+            }
+            if !text_ok(page, lengths, p) {
+                return false;
+            }
+            marks[p] = 1;
+            i += 1;
+        } else {
+            i += 1;
+        }
+    }
+    true
+}
+
+pub fn held_ok(
+    page: &[u8],
+    clusters: &[u64; CLUSTERS],
+    keys: &[u64; ENTRIES],
+    versions: &[u64; ENTRIES],
+    kinds: &[u8; ENTRIES],
+    words: &[u64; ENTRIES],
+    order: &[u8; ORDER_SIZE],
+    lengths: &[u16; TEXT_PLACES],
+    k: usize,
+    n: usize,
+) -> bool
+    ensures { λ r. ⌜ ((primed : Bool) → r ≡ heldRight (now (page .entry)) (heldOf (now (clusters .entry)) (now (keys .entry)) (now (versions .entry)) (now (kinds .entry)) (now (words .entry)) (now (order .entry)) (now (lengths .entry)) k n primed)) ⌝ }
+{
+    if page.len() != PAGE_SIZE {
+        return false;
+    }
+    if ENTRIES < n {
+        return false;
+    }
+    if CLUSTERS < k {
+        return false;
+    }
+    if !clusters_ok(clusters, k) {
+        return false;
+    }
+    if !ordered::order_ok(clusters, cluster_order(order), k) {
+        return false;
+    }
+    if !ordered::order_ok(keys, order, n) {
+        return false;
+    }
+    if !entries_ok(keys, versions, kinds, words, k, n) {
+        return false;
+    }
+    texts_ok(page, kinds, words, lengths, n)
+}
+
+// How many elements an array has, seen as a slice.
+fn count_words(l: &[u64]) -> usize
+    ensures { λ r. ⌜ r ≡ length (now (l .entry)) ⌝ }
+{
+    l.len()
+}
+
+fn count_bytes(l: &[u8]) -> usize
+    ensures { λ r. ⌜ r ≡ length (now (l .entry)) ⌝ }
+{
+    l.len()
+}
+
+fn count_halves(l: &[u16]) -> usize
+    ensures { λ r. ⌜ r ≡ length (now (l .entry)) ⌝ }
+{
+    l.len()
+}
+
+// How long the columns are. Their types say it, and the compiler leaves nothing of this function; a proof has to be told.
+pub fn columns_whole(
+    clusters: &[u64; CLUSTERS],
+    keys: &[u64; ENTRIES],
+    versions: &[u64; ENTRIES],
+    kinds: &[u8; ENTRIES],
+    words: &[u64; ENTRIES],
+    order: &[u8; ORDER_SIZE],
+    lengths: &[u16; TEXT_PLACES],
+)
+    ensures { λ _. ⌜ ((k n : ℕ) (primed : Bool) → Whole (heldOf (now (clusters .entry)) (now (keys .entry)) (now (versions .entry)) (now (kinds .entry)) (now (words .entry)) (now (order .entry)) (now (lengths .entry)) k n primed)) ⌝ }
+{
+    count_words(clusters);
+    count_words(keys);
+    count_words(versions);
+    count_bytes(kinds);
+    count_words(words);
+    count_bytes(order);
+    count_halves(lengths);
+}
