@@ -1,0 +1,4 @@
+pub mod RisingLaws
+pub mod BoundedLaws
+pub mod FilterLaws
+pub mod MessageLaws
