@@ -1,0 +1,5 @@
+pub mod WordLaws
+pub mod StateLaws
+pub mod BeginLaws
+pub mod ReactLaws
+pub mod NarrowLaws

@@ -1,0 +1,4 @@
+pub mod State
+pub mod Words
+pub mod Reaction
+pub mod Begin
