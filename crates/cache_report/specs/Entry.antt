@@ -1,0 +1,98 @@
+-- A block sets an entry: path, version, value (document 01, The panel); refusal 7: "a 257th entry, a 33rd cluster, or text over 200".
+use mathlib.Core.List.{List}
+use Prim.Native.Nat.{ℕ}
+use lib.Dec.{eqb}
+use lib.ListN.{take, drop}
+use Rattle.octets.specs.Store.{store}
+use Rattle.tlv.specs.declared.Value.{Value}
+use Rattle.tlv.specs.declared.Value.the-variants as value
+use Rattle.tlv.specs.Octet.{pick}
+use Rattle.kinds.specs.Stored.{wordOf}
+use Rattle.cache_entries.specs.declared.Cached.{Cached}
+use Rattle.cache_entries.specs.declared.set.Placed.{Placed}
+use Rattle.cache_entries.specs.declared.set.Placed.the-variants as placed
+use Rattle.cache_entries.specs.Limits.{nullKind, booleanKind, unsignedKind, signedKind, floatKind, textKind}
+use Rattle.cache_entries.specs.Entries.{clusterWord, keyWord, placeStart}
+use Rattle.cache_entries.specs.Texts.{textPlace}
+use Rattle.cache_entries.specs.Set.{clusterPlace, entryPlace, withCluster, withEntry}
+use Rattle.cache_report.specs.declared.block.Item.{Item}
+use Rattle.cache_report.specs.declared.block.Fate.{Fate}
+use Rattle.cache_report.specs.declared.block.Fate.the-variants.{Taken, Long, Unusable}
+use Rattle.cache_report.specs.declared.spot.Spot.{Spot}
+use Rattle.cache_report.specs.declared.spot.Spot.the-variants.{At, Full}
+
+-- where an entry of the cluster that goes to k goes, and where an item goes
+abbrev pub atEntry : ℕ → Placed → Spot
+atEntry k (placed.Here i) = At k i
+atEntry k placed.Full = Full
+
+unfoldable pub entrySpot : Cached → ℕ → ℕ → Spot
+entrySpot c k attribute = atEntry k (entryPlace c (keyWord k attribute))
+
+abbrev pub atCluster : Cached → ℕ → Placed → Spot
+atCluster c attribute (placed.Here k) = entrySpot c k attribute
+atCluster c attribute placed.Full = Full
+
+unfoldable pub spotOf : Cached → Item → Spot
+spotOf c x = atCluster c (x .attribute) (clusterPlace c (clusterWord (x .endpoint) (x .cluster)))
+
+-- the kind under which a value is kept
+unfoldable pub kindV : Value → ℕ
+kindV value.Null = nullKind
+kindV (value.Boolean b) = booleanKind
+kindV (value.Unsigned n) = unsignedKind
+kindV (value.Signed z) = signedKind
+kindV (value.Float n) = floatKind
+kindV (value.Text a n) = textKind
+kindV value.Other = nullKind
+
+-- its 64 bits; of a text at place p the place
+unfoldable pub wordAs : ℕ → Value → ℕ
+wordAs p v = pick (eqb (kindV v) textKind) p (wordOf v)
+
+-- the entry set
+unfoldable pub withItem : Cached → ℕ → ℕ → Item → Cached
+withItem c k i x =
+    withEntry (withCluster c k (clusterWord (x .endpoint) (x .cluster))) i (keyWord k (x .attribute)) (x .version) (kindV (x .value)) (wordAs (textPlace c i) (x .value)) (wordOf (x .value))
+
+abbrev pub heldAt : Cached → Item → Spot → Cached
+heldAt c x (At k i) = withItem c k i x
+heldAt c x Full = c
+
+unfoldable pub heldFor : Cached → Fate → Cached
+heldFor c Unusable = c
+heldFor c Long = c
+heldFor c (Taken x) = heldAt c x (spotOf c x)
+
+-- the number that a block gets
+abbrev pub spotNumber : Spot → ℕ
+spotNumber (At k i) = 0
+spotNumber Full = 7
+
+unfoldable pub numberFor : Cached → Fate → ℕ
+numberFor c Unusable = 6
+numberFor c Long = 7
+numberFor c (Taken x) = spotNumber (spotOf c x)
+
+-- 6 before 7 before 0
+unfoldable pub worse : ℕ → ℕ → ℕ
+worse a b = pick (eqb a 6) 6 (pick (eqb b 6) 6 (pick (eqb a 7) 7 b))
+
+-- a text stored at place p of the page; another value leaves the page as it is
+unfoldable pub textStored : List ℕ → List ℕ → ℕ → Value → List ℕ
+textStored s page p value.Null = page
+textStored s page p (value.Boolean b) = page
+textStored s page p (value.Unsigned n) = page
+textStored s page p (value.Signed z) = page
+textStored s page p (value.Float n) = page
+textStored s page p (value.Text a n) = store page (placeStart p) (take n (drop a s))
+textStored s page p value.Other = page
+
+abbrev pub pageAt : List ℕ → Cached → List ℕ → Item → Spot → List ℕ
+pageAt s c page x (At k i) = textStored s page (textPlace c i) (x .value)
+pageAt s c page x Full = page
+
+unfoldable pub pageFor : List ℕ → Cached → List ℕ → Fate → List ℕ
+pageFor s c page Unusable = page
+pageFor s c page Long = page
+pageFor s c page (Taken x) = pageAt s c page x (spotOf c x)

@@ -1,0 +1,4 @@
+pub mod Block
+pub mod Entry
+pub mod Part
+pub mod Words

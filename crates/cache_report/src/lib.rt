@@ -1,0 +1,12 @@
+// A part of a report as the panel takes it (document 01, The panel, and refusals 6 and 7): judged whole, then each block sets an entry. Its blocks are
+// words that are lent (`interaction_report::kept`), so that each is read once.
+
+pub mod block; // block.rt: what a block gets by itself
+pub mod spot; // spot.rt: where each block goes
+pub mod set; // set.rt: an entry set
+pub mod part; // part.rt: all blocks of a part
+
+// The numbers of document 01.
+pub const UNUSABLE: u8 = 6;
+
+pub const NO_ROOM: u8 = 7;
