@@ -2,9 +2,9 @@
 use mathlib.Core.Path.{_≡_, refl, sym, ap, _∙_}
 use Prim.Native.Nat.{ℕ, _+_, _%_, _≤_, _<_}
 use native.Mathlib.Omega.{arith}
-use mathlib.Core.Bool.{Bool, true, false, not, _&&_}
+use mathlib.Core.Bool.{Bool, true, false, not}
 use mathlib.Core.List.{List, [], _∷_}
-use borrow.Author.Tests.{leb-true}
+use borrow.Author.Tests.{eqb-true, eq-eqb, ne-eqb}
 use types.Run.{OneOf, miss}
 use denote.Enum.Declared.{tagOf}
 use mir.Syntax.{w64}
@@ -15,22 +15,23 @@ use Rattle.tlv.specs.Octet.{pick}
 use Rattle.tlv.specs.declared.Value.{Value}
 use Rattle.tlv.specs.declared.Value.the-variants as value
 use Rattle.tlv.proofs.Value as ValueType
-use Rattle.cached.specs.Valid.{wordRight}
-use Rattle.cached.proofs.ValidLaws.{held-right, entry-word}
-use Rattle.cache.specs.declared.State.{State}
-use Rattle.cache_ask.specs.declared.Held.{Held}
-use Rattle.cache_ask.specs.declared.Held.the-variants as held
-use Rattle.cache_ask.proofs.Held as HeldType
-use Rattle.cache.specs.State.{panelRight}
-use Rattle.cache_ask.specs.Ask.{valueBy, entryRead, entryOf, textOfValue, textOfEntry}
-use Rattle.cache.proofs.StateLaws.{right-held, right-within}
 use Rattle.schema.specs.declared.Found.{Found}
 use Rattle.schema.specs.declared.Found.the-variants as found
 use Rattle.schema.proofs.SearchLaws as Search
-use Rattle.cached.specs.declared.Cached.{Cached}
-use Rattle.cached.specs.Limits.{maxEntries, maxClusters, textSize, half, nullKind, booleanKind, unsignedKind, signedKind, floatKind, textKind}
-use Rattle.cached.specs.Entries.{clusterWord, keyWord, wordAt, clusterAt, place, inCluster, pathAt}
-use Rattle.cache_part.specs.Entry.{Within}
+use Rattle.ordered.specs.Order.{wordAt}
+use Rattle.cache_entries.specs.declared.Cached.{Cached}
+use Rattle.cache_entries.specs.Limits.{maxClusters, maxEntries, textPlaces, textSize, half, noVersion, nullKind, booleanKind, unsignedKind, signedKind, floatKind, textKind}
+use Rattle.cache_entries.specs.Entries.{clusterWord, keyWord, clusterAt, placeStart, inCluster, pathAt}
+use Rattle.cache_entries.specs.Valid.{wordRight}
+use Rattle.cache_entries.proofs.ValidLaws.{TextRight, held-right, entry-word, text-right}
+use Rattle.cache_state.specs.declared.State.{State}
+use Rattle.cache_state.specs.State.{panelRight}
+use Rattle.cache_state.specs.Words.{wordsRight}
+use Rattle.cache_state.proofs.StateLaws.{right-held, right-size}
+use Rattle.cache_ask.specs.declared.Held.{Held}
+use Rattle.cache_ask.specs.declared.Held.the-variants as held
+use Rattle.cache_ask.proofs.Held as HeldType
+use Rattle.cache_ask.specs.Ask.{valueBy, entryRead, entryOf, textOfValue, textOfEntry, textOf, textShown, Ordered}
 
 never : {A : Type 0} → _≡_ {A = ℕ} 0 1 → A
 never e = absurd (omega arith)
@@ -44,13 +45,33 @@ entry-count c endpoint cluster attribute i e = go (clusterAt c (clusterWord endp
     go (found.At k) q = omega (arith, Search.found (λ j. eqb (getD (c .keys) j 0) (keyWord k attribute)) (c .count) 0 i q .below)
     go found.Nothing q = never (cc)
 
-module _ (c : Cached) (within : Within c) where
-  pub cluster-found : (word k : ℕ) → clusterAt c word ≡ found.At k → k < maxClusters
-  unfolding wordAt
-  cluster-found word k e = omega (arith, within .clusters, Search.found (λ i. eqb (getD (c .clusters) i 0) word) (c .«cluster_count») 0 k e .below)
+pub cluster-found : (l : List ℕ) (n word k : ℕ) → n ≤ maxClusters → wordAt l n word ≡ found.At k → k < maxClusters
+unfolding wordAt
+cluster-found l n word k h e = omega (arith, Search.found (λ i. eqb (getD l i 0) word) n 0 k e .below)
 
-  pub entry-found : (endpoint cluster attribute i : ℕ) → pathAt c endpoint cluster attribute ≡ found.At i → i < maxEntries
-  entry-found endpoint cluster attribute i e = omega (arith, within .entries, entry-count c endpoint cluster attribute i e)
+-- what a panel that keeps the rules has for a path
+module _ (page : List ℕ) (s : State) (h : panelRight page s ≡ true) where
+  pub right-ordered : let c = s .held in Ordered (c .clusters) (c .keys) (c .order) (c .«cluster_count») (c .count)
+  right-ordered =
+      let r = held-right page (s .held) (right-held page s h) in
+      record { few-entries = r .few-entries; few-clusters = r .few-clusters; cluster-order = r .cluster-order; entry-order = r .entry-order }
+
+  module _ (endpoint cluster attribute i : ℕ) (e : pathAt (s .held) endpoint cluster attribute ≡ found.At i) where
+    pub entry-found : i < maxEntries
+    entry-found = omega (arith, right-ordered .few-entries, entry-count (s .held) endpoint cluster attribute i e)
+
+    -- its 64 bits fit its kind, and those of a text are a place with at most 200 bytes
+    pub found-word : wordRight (getD (s .held .kinds) i 0) (getD (s .held .words) i 0) ≡ true
+    found-word = entry-word (s .held) (held-right page (s .held) (right-held page s h) .entries) i (entry-count (s .held) endpoint cluster attribute i e)
+
+    found-text : getD (s .held .kinds) i 0 ≡ textKind → TextRight page (s .held) i
+    found-text k = text-right page (s .held) (held-right page (s .held) (right-held page s h) .texts) i (entry-count (s .held) endpoint cluster attribute i e) (eq-eqb _ _ k)
+
+    pub found-place : getD (s .held .kinds) i 0 ≡ textKind → getD (s .held .words) i 0 < textPlaces
+    found-place k = found-text k .place
+
+    pub found-short : getD (s .held .kinds) i 0 ≡ textKind → getD (s .held .lengths) (getD (s .held .words) i 0) 0 ≤ textSize
+    found-short k = found-text k .short
 
 -- no text
 pub no-entry : (page : List ℕ) (x : Held) → OneOf (0 ∷ 1 ∷ []) (tagOf HeldType.the-type x) → [] ≡ textOfEntry page x
@@ -67,45 +88,55 @@ no-text page (value.Float n) h = refl
 no-text page (value.Text a n) h = absurd (miss (0 ∷ 1 ∷ 2 ∷ 3 ∷ 4 ∷ 6 ∷ []) 5 tt h)
 no-text page value.Other h = refl
 
--- a text that is shown lies in its place of the page
-by-kind : (kind word i : ℕ) {a n : ℕ} → valueBy kind word i ≡ value.Text a n → (a ≡ place i) × (n ≡ word)
-unfolding valueBy
-by-kind kind word i {a} {n} e = go (eqb kind nullKind) (eqb kind booleanKind) (eqb kind unsignedKind) (eqb kind signedKind) (eqb kind floatKind) e
-  where
-    go : (p q r s t : Bool) → pick p value.Null (pick q (value.Boolean (not (eqb word 0))) (pick r (value.Unsigned word) (pick s (value.Signed (toZ w64 word)) (pick t (value.Float (word % half)) (value.Text (place i) word))))) ≡ value.Text a n → (a ≡ place i) × (n ≡ word)
-    go true q r s t e = never (cc)
-    go false true r s t e = never (cc)
-    go false false true s t e = never (cc)
-    go false false false true t e = never (cc)
-    go false false false false true e = never (cc)
-    go false false false false false e = (cc, cc)
+-- what is of no other kind is a text
+pub last-kind : (kind word : ℕ) → wordRight kind word ≡ true → (kind ≡ nullKind → ⊥) → (kind ≡ booleanKind → ⊥) → (kind ≡ unsignedKind → ⊥) → (kind ≡ signedKind → ⊥) → (kind ≡ floatKind → ⊥) → kind ≡ textKind
+unfolding wordRight
+last-kind kind word h a b c d e =
+    eqb-true kind textKind (rw (ne-eqb kind nullKind a, ne-eqb kind booleanKind b, ne-eqb kind unsignedKind c, ne-eqb kind signedKind d, ne-eqb kind floatKind e) at h)
 
--- and has its kind
-text-kind : (kind word i : ℕ) {a n : ℕ} → wordRight kind word ≡ true → valueBy kind word i ≡ value.Text a n → word ≤ textSize
+-- a text that is shown lies in its place of the page
+by-kind : (kind word len : ℕ) {a n : ℕ} → wordRight kind word ≡ true → valueBy kind word len ≡ value.Text a n → (kind ≡ textKind) × ((a ≡ placeStart word) × (n ≡ len))
 unfolding valueBy wordRight
-text-kind kind word i {a} {n} h e = go (eqb kind nullKind) (eqb kind booleanKind) (eqb kind unsignedKind) (eqb kind signedKind) (eqb kind floatKind) (eqb kind textKind) h e
+by-kind kind word len {a} {n} h e = go (eqb kind nullKind) (eqb kind booleanKind) (eqb kind unsignedKind) (eqb kind signedKind) (eqb kind floatKind) h e
   where
-    go : (p q r s t u : Bool) → pick p (eqb word 0) (pick q (leb word 1) (pick r true (pick s true (pick t (ltb word half) (pick u (leb word textSize) false))))) ≡ true → pick p value.Null (pick q (value.Boolean (not (eqb word 0))) (pick r (value.Unsigned word) (pick s (value.Signed (toZ w64 word)) (pick t (value.Float (word % half)) (value.Text (place i) word))))) ≡ value.Text a n → word ≤ textSize
-    go true q r s t u h e = never (cc)
-    go false true r s t u h e = never (cc)
-    go false false true s t u h e = never (cc)
-    go false false false true t u h e = never (cc)
-    go false false false false true u h e = never (cc)
-    go false false false false false true h e = leb-true word textSize h
-    go false false false false false false h e = never (let z : false ≡ true = h in cc)
+    go : (p q r s t : Bool) → pick p (eqb word 0) (pick q (leb word 1) (pick r true (pick s true (pick t (ltb word half) (eqb kind textKind))))) ≡ true → pick p value.Null (pick q (value.Boolean (not (eqb word 0))) (pick r (value.Unsigned word) (pick s (value.Signed (toZ w64 word)) (pick t (value.Float (word % half)) (value.Text (placeStart word) len))))) ≡ value.Text a n → (kind ≡ textKind) × ((a ≡ placeStart word) × (n ≡ len))
+    go true q r s t h e = never (cc)
+    go false true r s t h e = never (cc)
+    go false false true s t h e = never (cc)
+    go false false false true t h e = never (cc)
+    go false false false false true h e = never (cc)
+    go false false false false false h e = (eqb-true kind textKind h, (cc, cc))
 
 pub text-there : (page : List ℕ) (s : State) (endpoint cluster attribute : ℕ) {v a n : ℕ} {x : Value} → entryOf page s endpoint cluster attribute ≡ held.Here v x → x ≡ value.Text a n → a + n ≤ length page
 unfolding entryOf
 text-there page s endpoint cluster attribute {v} {a} {n} {x} e t = go (panelRight page s) (pathAt (s .held) endpoint cluster attribute) refl refl e
   where
-    go : (b : Bool) (f : Found) → panelRight page s ≡ b → pathAt (s .held) endpoint cluster attribute ≡ f → pick b (entryRead (s .held) f) held.Broken ≡ held.Here v x → a + n ≤ length page
-    go true (found.At i) p q e =
+    at : (i : ℕ) → panelRight page s ≡ true → pathAt (s .held) endpoint cluster attribute ≡ found.At i → (b : Bool) → pick b (held.Here (getD (s .held .versions) i 0) (valueBy (getD (s .held .kinds) i 0) (getD (s .held .words) i 0) (getD (s .held .lengths) (getD (s .held .words) i 0) 0))) held.Nothing ≡ held.Here v x → a + n ≤ length page
+    at i p q true e =
         let c = s .held in
-        let same : valueBy (getD (c .kinds) i 0) (getD (c .words) i 0) i ≡ x = cc in
-        let r = held-right page c (right-held page s p) in
-        let below = entry-found c (right-within page s p) endpoint cluster attribute i q in
-        let k = by-kind (getD (c .kinds) i 0) (getD (c .words) i 0) i (same ∙ t) in
-        let right-word = entry-word page c (r .entries) i (entry-count c endpoint cluster attribute i q) in
-        omega (arith, k .0, k .1, below, r .size, text-kind (getD (c .kinds) i 0) (getD (c .words) i 0) i right-word (same ∙ t))
+        let word : ℕ = getD (c .words) i 0 in
+        let same : valueBy (getD (c .kinds) i 0) word (getD (c .lengths) word 0) ≡ x = cc in
+        let k = by-kind (getD (c .kinds) i 0) word (getD (c .lengths) word 0) (found-word page s p endpoint cluster attribute i q) (same ∙ t) in
+        omega (arith, k .1 .0, k .1 .1, found-place page s p endpoint cluster attribute i q (k .0), found-short page s p endpoint cluster attribute i q (k .0), right-size page s p)
+    at i p q false e = never (cc)
+
+    go : (b : Bool) (f : Found) → panelRight page s ≡ b → pathAt (s .held) endpoint cluster attribute ≡ f → pick b (entryRead (s .held) f) held.Broken ≡ held.Here v x → a + n ≤ length page
+    go true (found.At i) p q e = at i p q (ltb (getD (s .held .versions) i 0) noVersion) e
     go true found.Nothing p q e = never (cc)
     go false f p q e = never (cc)
+
+-- by words that are a panel's
+pub text-inside : (asked page : List ℕ) (s : State) (endpoint cluster attribute : ℕ) {v a n : ℕ} {x : Value} → held.Here v x ≡ pick (wordsRight asked) (entryOf page s endpoint cluster attribute) held.Broken → x ≡ value.Text a n → a + n ≤ length page
+text-inside asked page s endpoint cluster attribute {v} {a} {n} {x} = go (wordsRight asked)
+  where
+    go : (b : Bool) → held.Here v x ≡ pick b (entryOf page s endpoint cluster attribute) held.Broken → x ≡ value.Text a n → a + n ≤ length page
+    go true e t = text-there page s endpoint cluster attribute (sym e) t
+    go false e t = never (cc)
+
+pub text-of : (asked page : List ℕ) (s : State) (endpoint cluster attribute : ℕ) {r : Held} → r ≡ pick (wordsRight asked) (entryOf page s endpoint cluster attribute) held.Broken → textOfEntry page r ≡ textShown asked page s endpoint cluster attribute
+unfolding textOf
+text-of asked page s endpoint cluster attribute e = ap (textOfEntry page) e ∙ go (wordsRight asked)
+  where
+    go : (b : Bool) → textOfEntry page (pick b (entryOf page s endpoint cluster attribute) held.Broken) ≡ pick b (textOfEntry page (entryOf page s endpoint cluster attribute)) []
+    go true = refl
+    go false = refl

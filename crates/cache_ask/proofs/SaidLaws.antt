@@ -1,9 +1,9 @@
 -- What is answered says what document 01 says.
-use mathlib.Core.Path.{_≡_, refl, ap, _∙_}
-use mathlib.Core.Bool.{Bool, true, false, not}
+use mathlib.Core.Path.{_≡_, refl, sym, ap, _∙_}
+use mathlib.Core.Bool.{Bool, true, false, not, _&&_, false≢true}
 use mathlib.Core.List.{List, []}
 use Prim.Native.Nat.{ℕ, _%_}
-use lib.Dec.{eqb}
+use lib.Dec.{eqb, ltb}
 use lib.ListN.{getD}
 use mir.Syntax.{w64}
 use mir.Val.{toZ}
@@ -14,10 +14,11 @@ use Rattle.tlv.specs.Decode.Opt.{just, nothing}
 use Rattle.tlv.specs.Value.{Datum, datumIn}
 use Rattle.schema.specs.declared.Found.{Found}
 use Rattle.schema.specs.declared.Found.the-variants as found
-use Rattle.cached.specs.Limits.{half, nullKind, booleanKind, unsignedKind, signedKind, floatKind}
-use Rattle.cached.specs.Entries.{clusterWord, textIn, place, datumBy, entryOf, atEntry, pathAt, lookup}
-use Rattle.cache.specs.declared.State.{State}
-use Rattle.cache.specs.State.{noneYet, lastPart, withStatus, panelRight}
+use Rattle.cache_entries.specs.Limits.{half, noVersion, nullKind, booleanKind, unsignedKind, signedKind, floatKind}
+use Rattle.cache_entries.specs.Entries.{clusterWord, textIn, placeStart, datumBy, entryOf, atEntry, pathAt, lookup}
+use Rattle.cache_state.specs.declared.State.{State}
+use Rattle.cache_state.specs.State.{noneYet, lastPart, withStatus, panelRight}
+use Rattle.cache_state.specs.Words.{wordsRight}
 use Rattle.cache_ask.specs.declared.Held.{Held}
 use Rattle.cache_ask.specs.declared.Whole.{Whole}
 use Rattle.cache_ask.specs.declared.Ended.{Ended}
@@ -39,11 +40,11 @@ module _ (page : List ℕ) (s : State) where
       go false o = refl
 
   -- the value that is answered is the one that the map holds
-  pub value-said : (kind word i : ℕ) → datumIn page (Ask.valueBy kind word i) ≡ datumBy kind word (textIn page i word)
+  pub value-said : (kind word : ℕ) (lengths : List ℕ) → datumIn page (Ask.valueBy kind word (getD lengths word 0)) ≡ datumBy kind word (textIn page lengths word)
   unfolding Ask.valueBy datumBy
-  value-said kind word i = go (eqb kind nullKind) (eqb kind booleanKind) (eqb kind unsignedKind) (eqb kind signedKind) (eqb kind floatKind)
+  value-said kind word lengths = go (eqb kind nullKind) (eqb kind booleanKind) (eqb kind unsignedKind) (eqb kind signedKind) (eqb kind floatKind)
     where
-      go : (p q r t u : Bool) → datumIn page (pick p value.Null (pick q (value.Boolean (not (eqb word 0))) (pick r (value.Unsigned word) (pick t (value.Signed (toZ w64 word)) (pick u (value.Float (word % half)) (value.Text (place i) word)))))) ≡ pick p Datum.null (pick q (Datum.boolean (not (eqb word 0))) (pick r (Datum.unsigned word) (pick t (Datum.signed (toZ w64 word)) (pick u (Datum.float (word % half)) (Datum.text (textIn page i word))))))
+      go : (p q r t u : Bool) → datumIn page (pick p value.Null (pick q (value.Boolean (not (eqb word 0))) (pick r (value.Unsigned word) (pick t (value.Signed (toZ w64 word)) (pick u (value.Float (word % half)) (value.Text (placeStart word) (getD lengths word 0))))))) ≡ pick p Datum.null (pick q (Datum.boolean (not (eqb word 0))) (pick r (Datum.unsigned word) (pick t (Datum.signed (toZ w64 word)) (pick u (Datum.float (word % half)) (Datum.text (textIn page lengths word))))))
       go true q r t u = refl
       go false true r t u = refl
       go false false true t u = refl
@@ -55,8 +56,12 @@ module _ (page : List ℕ) (s : State) where
   unfolding Ask.entryOf lookup
   entry-said e c a = go (panelRight page s) (pathAt (s .held) e c a)
     where
-      go : (b : Bool) (f : Found) → Ask.heldSaid page (pick b (Ask.entryRead (s .held) f) held.Broken) ≡ pick b (Ask.entrySaid (atEntry (s .held) page f)) (record { number = 2; entry = nothing })
-      go true (found.At i) = ap (λ (d : Datum). Ask.entrySaid (just (record { version = getD (s .held .versions) i 0; value = d }))) (value-said (getD (s .held .kinds) i 0) (getD (s .held .words) i 0) i)
+      at : (i : ℕ) (b : Bool) → Ask.heldSaid page (pick b (held.Here (getD (s .held .versions) i 0) (Ask.valueBy (getD (s .held .kinds) i 0) (getD (s .held .words) i 0) (getD (s .held .lengths) (getD (s .held .words) i 0) 0))) held.Nothing) ≡ Ask.entrySaid (pick b (just (entryOf (s .held) page i)) nothing)
+      at i true = ap (λ (d : Datum). Ask.entrySaid (just (record { version = getD (s .held .versions) i 0; value = d }))) (value-said (getD (s .held .kinds) i 0) (getD (s .held .words) i 0) (s .held .lengths))
+      at i false = refl
+
+      go : (b : Bool) (f : Found) → Ask.heldSaid page (pick b (Ask.entryRead (s .held) f) held.Broken) ≡ pick b (Ask.entrySaid (Ask.versioned (atEntry (s .held) page f))) (record { number = 2; entry = nothing })
+      go true (found.At i) = at i (ltb (getD (s .held .versions) i 0) noVersion)
       go true found.Nothing = refl
       go false f = refl
 
@@ -80,15 +85,60 @@ module _ (page : List ℕ) (s : State) where
       go true false = refl
       go false p = refl
 
-  -- an answer as the code has it, with what it says
-  pub whole-says : (endpoint cluster : ℕ) {r : Whole} → r ≡ Ask.wholeOf page s endpoint cluster → (r ≡ Ask.wholeOf page s endpoint cluster) × (Ask.wholeSaid r ≡ Ask.saysWhole page s endpoint cluster)
-  whole-says endpoint cluster e = (e, ap (λ (x : Whole). Ask.wholeSaid x) e ∙ whole-said endpoint cluster)
+-- AN ANSWER AS THE CODE HAS IT, with what it says
+answers : {A B : Type 0} (says : A → B) (broken : A) (asked : List ℕ) {x : A} {y : B} → says x ≡ y → {r : A} → r ≡ pick (wordsRight asked) x broken → Ask.Answers says broken asked x y r
+answers says broken asked {x} {y} h {r} e = record { answer = e; said = ap says e ∙ go (wordsRight asked) }
+  where
+    go : (b : Bool) → says (pick b x broken) ≡ pick b y (says broken)
+    go true = h
+    go false = refl
 
-  pub entry-says : (endpoint cluster attribute : ℕ) {r : Held} → r ≡ Ask.entryOf page s endpoint cluster attribute → (r ≡ Ask.entryOf page s endpoint cluster attribute) × (Ask.heldSaid page r ≡ Ask.saysEntry page s endpoint cluster attribute)
-  entry-says endpoint cluster attribute e = (e, ap (λ (x : Held). Ask.heldSaid page x) e ∙ entry-said endpoint cluster attribute)
+-- of words and a panel that keep the rules, or not
+by-rules : {A : Type 0} (a b : Bool) {r x : A} (y : A) → (a && b) ≡ true → r ≡ x → r ≡ pick a (pick b x y) y
+by-rules true true y h e = e
+by-rules true false y h e = absurd (false≢true h)
+by-rules false b y h e = absurd (false≢true h)
 
-  pub outcome-says : {r : Ended} → r ≡ Ask.outcomeOf page s → (r ≡ Ask.outcomeOf page s) × (Ask.endedSaid r ≡ Ask.saysOutcome page s)
-  outcome-says e = (e, ap (λ (x : Ended). Ask.endedSaid x) e ∙ outcome-said)
+by-none : {A : Type 0} (a b : Bool) (x y : A) → (a && b) ≡ false → y ≡ pick a (pick b x y) y
+by-none true true x y h = absurd (false≢true (sym h))
+by-none true false x y h = refl
+by-none false b x y h = refl
 
-  pub unknown-says : {r : Abandoned} → r ≡ Ask.unknownOf page s → (r ≡ Ask.unknownOf page s) × (Ask.abandonedSaid r ≡ Ask.saysUnknown page s)
-  unknown-says e = (e, ap (λ (x : Abandoned). Ask.abandonedSaid x) e ∙ unknown-said)
+module _ (asked page : List ℕ) (s : State) where
+  -- it keeps the rules
+  abbrev pub Right : Bool → Type 0
+  Right b = (wordsRight asked && panelRight page s) ≡ b
+
+  module _ (endpoint cluster : ℕ) where
+    pub whole-right : Right true → {r : Whole} → r ≡ Ask.wholeRead (Ask.coherentOf (s .held) (clusterWord endpoint cluster)) → Ask.AnswersWhole asked page s endpoint cluster r
+    unfolding Ask.wholeOf
+    whole-right h e = answers (λ x. Ask.wholeSaid x) whole.Broken asked (whole-said page s endpoint cluster) (by-rules (wordsRight asked) (panelRight page s) whole.Broken h e)
+
+    pub whole-broken : Right false → Ask.AnswersWhole asked page s endpoint cluster whole.Broken
+    unfolding Ask.wholeOf
+    whole-broken h = answers (λ x. Ask.wholeSaid x) whole.Broken asked (whole-said page s endpoint cluster) (by-none (wordsRight asked) (panelRight page s) _ whole.Broken h)
+
+  module _ (e c a : ℕ) where
+    pub entry-right : Right true → {r : Held} → r ≡ Ask.entryRead (s .held) (pathAt (s .held) e c a) → Ask.AnswersEntry asked page s e c a r
+    unfolding Ask.entryOf
+    entry-right h q = answers (λ x. Ask.heldSaid page x) held.Broken asked (entry-said page s e c a) (by-rules (wordsRight asked) (panelRight page s) held.Broken h q)
+
+    pub entry-broken : Right false → Ask.AnswersEntry asked page s e c a held.Broken
+    unfolding Ask.entryOf
+    entry-broken h = answers (λ x. Ask.heldSaid page x) held.Broken asked (entry-said page s e c a) (by-none (wordsRight asked) (panelRight page s) _ held.Broken h)
+
+  pub outcome-right : Right true → {r : Ended} → r ≡ Ask.endedBy (s .asked) → Ask.AnswersOutcome asked page s r
+  unfolding Ask.outcomeOf
+  outcome-right h e = answers (λ x. Ask.endedSaid x) ended.Broken asked (outcome-said page s) (by-rules (wordsRight asked) (panelRight page s) ended.Broken h e)
+
+  pub outcome-broken : Right false → Ask.AnswersOutcome asked page s ended.Broken
+  unfolding Ask.outcomeOf
+  outcome-broken h = answers (λ x. Ask.endedSaid x) ended.Broken asked (outcome-said page s) (by-none (wordsRight asked) (panelRight page s) _ ended.Broken h)
+
+  pub unknown-right : Right true → {r : Abandoned} → r ≡ pick (eqb (s .asked .unknown) 0) abandoned.Nothing (abandoned.Exchange (s .asked .unknown)) → Ask.AnswersUnknown asked page s r
+  unfolding Ask.unknownOf
+  unknown-right h e = answers (λ x. Ask.abandonedSaid x) abandoned.Broken asked (unknown-said page s) (by-rules (wordsRight asked) (panelRight page s) abandoned.Broken h e)
+
+  pub unknown-broken : Right false → Ask.AnswersUnknown asked page s abandoned.Broken
+  unfolding Ask.unknownOf
+  unknown-broken h = answers (λ x. Ask.abandonedSaid x) abandoned.Broken asked (unknown-said page s) (by-none (wordsRight asked) (panelRight page s) _ abandoned.Broken h)

@@ -1,8 +1,9 @@
 -- What a panel answers when it is asked. `..Said` gives document 01's number and the values of each case of an answer, `says..` what is to be said.
-use mathlib.Core.Bool.{Bool, not}
+use mathlib.Core.Path.{_≡_}
+use mathlib.Core.Bool.{true, not}
 use mathlib.Core.List.{List, [], _∷_}
-use Prim.Native.Nat.{ℕ, _%_}
-use lib.Dec.{eqb}
+use Prim.Native.Nat.{ℕ, _%_, _≤_}
+use lib.Dec.{eqb, ltb}
 use lib.ListN.{getD, take, drop}
 use mir.Syntax.{w64}
 use mir.Val.{toZ}
@@ -14,12 +15,13 @@ use Rattle.tlv.specs.Decode.{Opt}
 use Rattle.tlv.specs.Decode.Opt.{just, nothing}
 use Rattle.schema.specs.declared.Found.{Found}
 use Rattle.schema.specs.declared.Found.the-variants as found
-use Rattle.cached.specs.declared.Cached.{Cached}
-use Rattle.cached.specs.Limits.{half, nullKind, booleanKind, unsignedKind, signedKind, floatKind}
-use Rattle.cached.specs.Entries.{Entry, clusterWord, clusterAt, place, pathAt, lookup}
-use Rattle.cached.specs.Coherent.{coherentAt}
-use Rattle.cache.specs.declared.Request.{Request}
-use Rattle.cache.specs.declared.State.{State}
+use Rattle.ordered.specs.Order.{orderRight}
+use Rattle.cache_entries.specs.declared.Cached.{Cached}
+use Rattle.cache_entries.specs.Limits.{maxEntries, maxClusters, half, noVersion, nullKind, booleanKind, unsignedKind, signedKind, floatKind}
+use Rattle.cache_entries.specs.Entries.{Entry, clusterWord, clusterAt, clusterOrder, placeStart, pathAt, lookup}
+use Rattle.cache_entries.specs.Coherent.{coherentAt}
+use Rattle.cache_state.specs.declared.Request.{Request}
+use Rattle.cache_state.specs.declared.State.{State}
 use Rattle.cache_ask.specs.declared.Whole.{Whole}
 use Rattle.cache_ask.specs.declared.Whole.the-variants as whole
 use Rattle.cache_ask.specs.declared.Held.{Held}
@@ -28,7 +30,8 @@ use Rattle.cache_ask.specs.declared.Ended.{Ended}
 use Rattle.cache_ask.specs.declared.Ended.the-variants as ended
 use Rattle.cache_ask.specs.declared.Abandoned.{Abandoned}
 use Rattle.cache_ask.specs.declared.Abandoned.the-variants as abandoned
-use Rattle.cache.specs.State.{noneYet, lastPart, withStatus, panelRight}
+use Rattle.cache_state.specs.State.{noneYet, lastPart, withStatus, panelRight}
+use Rattle.cache_state.specs.Words.{wordsRight}
 
 -- document 01's number, and what goes with it
 pub record Said : Type 0 where
@@ -71,17 +74,25 @@ versionSaid (just v) = said 0 (v ∷ [])
 abbrev pub saysWhole : List ℕ → State → ℕ → ℕ → Said
 saysWhole page s endpoint cluster = unlessBroken page s (versionSaid (coherentOf (s .held) (clusterWord endpoint cluster)))
 
--- AN ENTRY: a text stands at its place of the page
+-- AN ENTRY: a text stands at its place of the page, which is its word
 unfoldable pub valueBy : ℕ → ℕ → ℕ → Value
-valueBy kind word i =
+valueBy kind word len =
     pick (eqb kind nullKind) value.Null
     (pick (eqb kind booleanKind) (value.Boolean (not (eqb word 0)))
     (pick (eqb kind unsignedKind) (value.Unsigned word)
     (pick (eqb kind signedKind) (value.Signed (toZ w64 word))
-    (pick (eqb kind floatKind) (value.Float (word % half)) (value.Text (place i) word)))))
+    (pick (eqb kind floatKind) (value.Float (word % half)) (value.Text (placeStart word) len)))))
+
+-- one with no version, which no call of ours makes yet, is not shown: it is answered like one that is not there
+abbrev pub versioned : Opt Entry → Opt Entry
+versioned nothing = nothing
+versioned (just x) = pick (ltb (x .version) noVersion) (just x) nothing
 
 abbrev pub entryRead : Cached → Found → Held
-entryRead c (found.At i) = held.Here (getD (c .versions) i 0) (valueBy (getD (c .kinds) i 0) (getD (c .words) i 0) i)
+entryRead c (found.At i) =
+    pick (ltb (getD (c .versions) i 0) noVersion)
+    (held.Here (getD (c .versions) i 0) (valueBy (getD (c .kinds) i 0) (getD (c .words) i 0) (getD (c .lengths) (getD (c .words) i 0) 0)))
+    held.Nothing
 entryRead c found.Nothing = held.Nothing
 
 unfoldable pub entryOf : List ℕ → State → ℕ → ℕ → ℕ → Held
@@ -102,7 +113,7 @@ entrySaid nothing = record { number = 1; entry = nothing }
 entrySaid (just x) = record { number = 0; entry = just x }
 
 abbrev pub saysEntry : List ℕ → State → ℕ → ℕ → ℕ → EntrySaid
-saysEntry page s e c a = pick (panelRight page s) (entrySaid (lookup (s .held) page e c a)) (record { number = 2; entry = nothing })
+saysEntry page s e c a = pick (panelRight page s) (entrySaid (versioned (lookup (s .held) page e c a))) (record { number = 2; entry = nothing })
 
 -- its text, as the part of the page
 abbrev pub textOfValue : List ℕ → Value → List ℕ
@@ -158,3 +169,33 @@ abandonedSaid (abandoned.Exchange n) = said 0 (n ∷ [])
 -- 0 and the exchange, or 1
 abbrev pub saysUnknown : List ℕ → State → Said
 saysUnknown page s = unlessBroken page s (pick (eqb (s .asked .unknown) 0) (said 1 []) (said 0 (s .asked .unknown ∷ [])))
+
+-- ---- AS THE CODE HAS IT: memory whose words are no panel's answers 2 as well
+
+-- what is answered, and what that says
+pub record Answers {A B : Type 0} (says : A → B) (broken : A) (asked : List ℕ) (x : A) (y : B) (r : A) : Type 0 where
+  pub answer : r ≡ pick (wordsRight asked) x broken
+  pub said : says r ≡ pick (wordsRight asked) y (says broken)
+
+abbrev pub AnswersWhole : List ℕ → List ℕ → State → ℕ → ℕ → Whole → Type 0
+AnswersWhole asked page s endpoint cluster r =
+    Answers (λ x. wholeSaid x) whole.Broken asked (wholeOf page s endpoint cluster) (saysWhole page s endpoint cluster) r
+
+abbrev pub AnswersEntry : List ℕ → List ℕ → State → ℕ → ℕ → ℕ → Held → Type 0
+AnswersEntry asked page s e c a r = Answers (λ x. heldSaid page x) held.Broken asked (entryOf page s e c a) (saysEntry page s e c a) r
+
+abbrev pub textShown : List ℕ → List ℕ → State → ℕ → ℕ → ℕ → List ℕ
+textShown asked page s e c a = pick (wordsRight asked) (textOf page s e c a) []
+
+abbrev pub AnswersOutcome : List ℕ → List ℕ → State → Ended → Type 0
+AnswersOutcome asked page s r = Answers (λ x. endedSaid x) ended.Broken asked (outcomeOf page s) (saysOutcome page s) r
+
+abbrev pub AnswersUnknown : List ℕ → List ℕ → State → Abandoned → Type 0
+AnswersUnknown asked page s r = Answers (λ x. abandonedSaid x) abandoned.Broken asked (unknownOf page s) (saysUnknown page s) r
+
+-- what the search of an entry needs: counts within the limits, clusters and entries in their orders
+pub record Ordered (clusters keys order : List ℕ) (clusterCount count : ℕ) : Type 0 where
+  pub few-entries : count ≤ maxEntries
+  pub few-clusters : clusterCount ≤ maxClusters
+  pub cluster-order : orderRight clusters (clusterOrder order) clusterCount ≡ true
+  pub entry-order : orderRight keys order count ≡ true

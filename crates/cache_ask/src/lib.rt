@@ -1,22 +1,34 @@
-// What the panel holds, and how its newest request stands. A broken state or page answers 2 here too.
+// What the panel holds, and how its newest request stands. Memory that is no panel's, or one's that breaks the rules, answers 2 here too.
 ghost use mathlib.Core.Path.{_≡_};
-ghost use Prim.Native.Nat.{_≤_};
-ghost use Rattle.cached.specs.Limits.{maxEntries, maxClusters};
-ghost use Rattle.cached.specs.Entries.{pathAt};
-ghost use Rattle.cache_part.specs.Entry.{Within};
-ghost use Rattle.cache_ask.specs.Ask.{wholeRead, coherentOf, wholeOf, wholeSaid, saysWhole, valueBy, entryRead, entryOf, heldSaid, saysEntry, textOf, outcomeOf, endedSaid, saysOutcome, unknownOf, abandonedSaid, saysUnknown};
-use cache::LAST_PART;
-use cache::NONE;
-use cache::STATUS;
-use cache::State;
-use cache::panel_ok;
-use cached::Cached;
-use cached::HALF;
-use cached::TEXT_SIZE;
-use cached::find_cluster;
-use cached::find_entry;
-use cached::shared::Coherent;
-use cached::shared::coherent_at;
+ghost use mathlib.Core.Bool.{true};
+ghost use mathlib.Core.List.{List};
+ghost use Prim.Native.Nat.{ℕ, _<_};
+ghost use lib.ListN.{getD};
+ghost use Rattle.tlv.specs.declared.Value.the-variants as value;
+ghost use Rattle.cache_entries.specs.Limits.{textPlaces, textKind};
+ghost use Rattle.cache_entries.specs.Entries.{placeStart, pathAt};
+ghost use Rattle.cache_entries.specs.Valid.{wordRight};
+ghost use Rattle.cache_messages.specs.Filters.{Bounded};
+ghost use Rattle.cache_state.specs.Words.{heldIn, stateIn};
+ghost use Rattle.cache_ask.specs.Ask.{wholeRead, coherentOf, valueBy, Ordered, AnswersWhole, AnswersEntry, textShown, AnswersOutcome, AnswersUnknown};
+use cache_entries::CLUSTERS;
+use cache_entries::ENTRIES;
+use cache_entries::HALF;
+use cache_entries::NO_VERSION;
+use cache_entries::ORDER_SIZE;
+use cache_entries::TEXT_PLACES;
+use cache_entries::TEXT_SIZE;
+use cache_entries::find::find_cluster;
+use cache_entries::find::find_entry;
+use cache_entries::shared::Coherent;
+use cache_entries::shared::coherent_at;
+use cache_state::ASKED_WORDS;
+use cache_state::LAST_PART;
+use cache_state::NONE;
+use cache_state::STATUS;
+use cache_state::Standing;
+use cache_state::panel_ok;
+use cache_state::words::read_standing;
 use kinds::stored::signed_of;
 use schema::Found;
 use tlv::Value;
@@ -51,92 +63,188 @@ pub enum Abandoned {
     Exchange(u64),
 }
 
-fn whole_of(c: Cached, word: u64) -> Whole
-    requires { ⌜ Within c ⌝ }
-    ensures { λ r. ⌜ r ≡ wholeRead (coherentOf c word) ⌝ }
+fn whole_of<'a>(
+    clusters: &'a [u64; CLUSTERS],
+    keys: &'a [u64; ENTRIES],
+    versions: &'a [u64; ENTRIES],
+    order: &'a [u8; ORDER_SIZE],
+    t: Standing,
+    word: u64,
+) -> Whole
+    requires { ⌜ Bounded (now clusters) (now keys) (now versions) (now order) (t .«cluster_count») (t .count) ⌝ }
+    ensures { λ r. ⌜ ((kinds words lengths : List ℕ) → r ≡ wholeRead (coherentOf (heldIn (now (clusters .entry)) (now (keys .entry)) (now (versions .entry)) kinds words (now (order .entry)) lengths t) word)) ⌝ }
 {
-    let held = c;
-    let Found::At(k) = find_cluster(&held.clusters, held.cluster_count, word) else {
+    let Found::At(k) = find_cluster(clusters, order, t.cluster_count, word) else {
         return Whole::No;
     };
-    match coherent_at(held, k) {
+    match coherent_at(keys, versions, t.count, t.primed == 1, k) {
         Coherent::At(version) => Whole::At(version),
         Coherent::No => Whole::No,
     }
 }
 
-pub fn coherent(page: &[u8], state: State, endpoint: u16, cluster: u32) -> Whole
-    ensures { λ r. ⌜ (r ≡ wholeOf (now (page .entry)) state endpoint cluster) × (wholeSaid r ≡ saysWhole (now (page .entry)) state endpoint cluster) ⌝ }
+pub fn coherent<'a>(
+    page: &'a [u8],
+    clusters: &'a [u64; CLUSTERS],
+    keys: &'a [u64; ENTRIES],
+    versions: &'a [u64; ENTRIES],
+    kinds: &'a [u8; ENTRIES],
+    words: &'a [u64; ENTRIES],
+    order: &'a [u8; ORDER_SIZE],
+    lengths: &'a [u16; TEXT_PLACES],
+    asked: &'a [u64; ASKED_WORDS],
+    endpoint: u16,
+    cluster: u32,
+) -> Whole
+    ensures { λ r. ⌜ ((kept : List ℕ) → AnswersWhole (now (asked .entry)) (now (page .entry)) (stateIn (now (clusters .entry)) (now (keys .entry)) (now (versions .entry)) (now (kinds .entry)) (now (words .entry)) (now (order .entry)) (now (lengths .entry)) (now (asked .entry)) kept) endpoint cluster r) ⌝ }
 {
-    if !panel_ok(page, state) {
+    let t = read_standing(asked);
+    if !panel_ok(
+        page,
+        clusters,
+        keys,
+        versions,
+        kinds,
+        words,
+        order,
+        lengths,
+        asked,
+        t,
+    ) {
         return Whole::Broken;
     }
-    whole_of(state.held, endpoint as u64 * HALF + cluster as u64)
+    let word = endpoint as u64 * HALF + cluster as u64;
+    whole_of(clusters, keys, versions, order, t, word)
 }
 
 // Where the entry of a path stands.
-fn path_at(c: Cached, endpoint: u16, cluster: u32, attribute: u32) -> Found
-    requires { ⌜ Within c ⌝ }
-    ensures { λ r. ⌜ r ≡ pathAt c endpoint cluster attribute ⌝ }
+fn path_at<'a>(
+    clusters: &'a [u64; CLUSTERS],
+    keys: &'a [u64; ENTRIES],
+    order: &'a [u8; ORDER_SIZE],
+    t: Standing,
+    endpoint: u16,
+    cluster: u32,
+    attribute: u32,
+) -> Found
+    requires { ⌜ Ordered (now clusters) (now keys) (now order) (t .«cluster_count») (t .count) ⌝ }
+    ensures { λ r. ⌜ ((versions kinds words lengths : List ℕ) → r ≡ pathAt (heldIn (now (clusters .entry)) (now (keys .entry)) versions kinds words (now (order .entry)) lengths t) endpoint cluster attribute) ⌝ }
 {
-    let held = c;
     let word = endpoint as u64 * HALF + cluster as u64;
-    let Found::At(k) = find_cluster(&held.clusters, held.cluster_count, word) else {
+    let Found::At(k) = find_cluster(clusters, order, t.cluster_count, word) else {
         return Found::Nothing;
     };
-    find_entry(&held.keys, held.count, k as u64 * HALF + attribute as u64)
+    find_entry(keys, order, t.count, k as u64 * HALF + attribute as u64)
 }
 
-// The value of entry i.
-fn value_by(kind: u8, word: u64, i: usize) -> Value
-    requires { ⌜ i ≤ maxEntries ⌝ }
-    ensures { λ r. ⌜ r ≡ valueBy kind word i ⌝ }
+// The text at place p of the page.
+fn text_at(p: usize, len: u16) -> Value
+    requires { ⌜ p < textPlaces ⌝ }
+    ensures { λ r. ⌜ r ≡ value.Text (placeStart p) len ⌝ }
 {
-    if kind == cached::NULL {
+    Value::Text {
+        start: TEXT_SIZE * p,
+        len: len as usize,
+    }
+}
+
+// The value of an entry; the word of a text is its place.
+fn value_by(kind: u8, word: u64, lengths: &[u16; TEXT_PLACES]) -> Value
+    requires { ⌜ (wordRight kind word ≡ true) × (kind ≡ textKind → word < textPlaces) ⌝ }
+    ensures { λ r. ⌜ r ≡ valueBy kind word (getD (now (lengths .entry)) word 0) ⌝ }
+{
+    if kind == cache_entries::NULL {
         return Value::Null;
     }
-    if kind == cached::BOOLEAN {
+    if kind == cache_entries::BOOLEAN {
         return Value::Boolean(word != 0);
     }
-    if kind == cached::UNSIGNED {
+    if kind == cache_entries::UNSIGNED {
         return Value::Unsigned(word);
     }
-    if kind == cached::SIGNED {
+    if kind == cache_entries::SIGNED {
         return Value::Signed(signed_of(word));
     }
-    if kind == cached::FLOAT {
+    if kind == cache_entries::FLOAT {
         return Value::Float((word % HALF) as u32);
     }
-    Value::Text {
-        start: TEXT_SIZE * i,
-        len: word as usize,
-    }
+    let p = word as usize;
+    text_at(p, lengths[p])
 }
 
-pub fn entry(page: &[u8], state: State, endpoint: u16, cluster: u32, attribute: u32) -> Held
-    ensures { λ r. ⌜ (r ≡ entryOf (now (page .entry)) state endpoint cluster attribute) × (heldSaid (now (page .entry)) r ≡ saysEntry (now (page .entry)) state endpoint cluster attribute) ⌝ }
+// An entry that has no version is not shown.
+pub fn entry<'a>(
+    page: &'a [u8],
+    clusters: &'a [u64; CLUSTERS],
+    keys: &'a [u64; ENTRIES],
+    versions: &'a [u64; ENTRIES],
+    kinds: &'a [u8; ENTRIES],
+    words: &'a [u64; ENTRIES],
+    order: &'a [u8; ORDER_SIZE],
+    lengths: &'a [u16; TEXT_PLACES],
+    asked: &'a [u64; ASKED_WORDS],
+    endpoint: u16,
+    cluster: u32,
+    attribute: u32,
+) -> Held
+    ensures { λ r. ⌜ ((kept : List ℕ) → AnswersEntry (now (asked .entry)) (now (page .entry)) (stateIn (now (clusters .entry)) (now (keys .entry)) (now (versions .entry)) (now (kinds .entry)) (now (words .entry)) (now (order .entry)) (now (lengths .entry)) (now (asked .entry)) kept) endpoint cluster attribute r) ⌝ }
 {
-    if !panel_ok(page, state) {
+    let t = read_standing(asked);
+    if !panel_ok(
+        page,
+        clusters,
+        keys,
+        versions,
+        kinds,
+        words,
+        order,
+        lengths,
+        asked,
+        t,
+    ) {
         return Held::Broken;
     }
-    let held = state.held;
-    let Found::At(i) = path_at(held, endpoint, cluster, attribute) else {
+    let Found::At(i) = path_at(clusters, keys, order, t, endpoint, cluster, attribute) else {
         return Held::Nothing;
     };
-    Held::Here(held.versions[i], value_by(held.kinds[i], held.words[i], i))
+    let version = versions[i];
+    if NO_VERSION <= version {
+        return Held::Nothing;
+    }
+    Held::Here(version as u32, value_by(kinds[i], words[i], lengths))
 }
 
 // The text of an entry, as the very part of the page; nothing of it where there is no such text.
 pub fn text<'a>(
     page: &'a [u8],
-    state: State,
+    clusters: &'a [u64; CLUSTERS],
+    keys: &'a [u64; ENTRIES],
+    versions: &'a [u64; ENTRIES],
+    kinds: &'a [u8; ENTRIES],
+    words: &'a [u64; ENTRIES],
+    order: &'a [u8; ORDER_SIZE],
+    lengths: &'a [u16; TEXT_PLACES],
+    asked: &'a [u64; ASKED_WORDS],
     endpoint: u16,
     cluster: u32,
     attribute: u32,
 ) -> &'a [u8]
-    ensures { λ r. ⌜ now r ≡ textOf (now (page .entry)) state endpoint cluster attribute ⌝ }
+    ensures { λ r. ⌜ ((kept : List ℕ) → now r ≡ textShown (now (asked .entry)) (now (page .entry)) (stateIn (now (clusters .entry)) (now (keys .entry)) (now (versions .entry)) (now (kinds .entry)) (now (words .entry)) (now (order .entry)) (now (lengths .entry)) (now (asked .entry)) kept) endpoint cluster attribute) ⌝ }
 {
-    let Held::Here(_, v) = entry(page, state, endpoint, cluster, attribute) else {
+    let Held::Here(_, v) = entry(
+        page,
+        clusters,
+        keys,
+        versions,
+        kinds,
+        words,
+        order,
+        lengths,
+        asked,
+        endpoint,
+        cluster,
+        attribute,
+    ) else {
         return &page[0..0];
     };
     let Value::Text { start, len } = v else {
@@ -145,34 +253,76 @@ pub fn text<'a>(
     &page[start..start + len]
 }
 
-pub fn outcome(page: &[u8], state: State) -> Ended
-    ensures { λ r. ⌜ (r ≡ outcomeOf (now (page .entry)) state) × (endedSaid r ≡ saysOutcome (now (page .entry)) state) ⌝ }
+pub fn outcome<'a>(
+    page: &'a [u8],
+    clusters: &'a [u64; CLUSTERS],
+    keys: &'a [u64; ENTRIES],
+    versions: &'a [u64; ENTRIES],
+    kinds: &'a [u8; ENTRIES],
+    words: &'a [u64; ENTRIES],
+    order: &'a [u8; ORDER_SIZE],
+    lengths: &'a [u16; TEXT_PLACES],
+    asked: &'a [u64; ASKED_WORDS],
+) -> Ended
+    ensures { λ r. ⌜ ((kept : List ℕ) → AnswersOutcome (now (asked .entry)) (now (page .entry)) (stateIn (now (clusters .entry)) (now (keys .entry)) (now (versions .entry)) (now (kinds .entry)) (now (words .entry)) (now (order .entry)) (now (lengths .entry)) (now (asked .entry)) kept) r) ⌝ }
 {
-    if !panel_ok(page, state) {
+    let t = read_standing(asked);
+    if !panel_ok(
+        page,
+        clusters,
+        keys,
+        versions,
+        kinds,
+        words,
+        order,
+        lengths,
+        asked,
+        t,
+    ) {
         return Ended::Broken;
     }
-    let asked = state.asked;
-    if asked.stage == NONE {
+    if t.stage == NONE {
         return Ended::NoneYet;
     }
-    if asked.stage == LAST_PART {
+    if t.stage == LAST_PART {
         return Ended::LastPart;
     }
-    if asked.stage == STATUS {
-        return Ended::Status(asked.status);
+    if t.stage == STATUS {
+        return Ended::Status(t.status as u8);
     }
     Ended::Open
 }
 
-pub fn unknown(page: &[u8], state: State) -> Abandoned
-    ensures { λ r. ⌜ (r ≡ unknownOf (now (page .entry)) state) × (abandonedSaid r ≡ saysUnknown (now (page .entry)) state) ⌝ }
+pub fn unknown<'a>(
+    page: &'a [u8],
+    clusters: &'a [u64; CLUSTERS],
+    keys: &'a [u64; ENTRIES],
+    versions: &'a [u64; ENTRIES],
+    kinds: &'a [u8; ENTRIES],
+    words: &'a [u64; ENTRIES],
+    order: &'a [u8; ORDER_SIZE],
+    lengths: &'a [u16; TEXT_PLACES],
+    asked: &'a [u64; ASKED_WORDS],
+) -> Abandoned
+    ensures { λ r. ⌜ ((kept : List ℕ) → AnswersUnknown (now (asked .entry)) (now (page .entry)) (stateIn (now (clusters .entry)) (now (keys .entry)) (now (versions .entry)) (now (kinds .entry)) (now (words .entry)) (now (order .entry)) (now (lengths .entry)) (now (asked .entry)) kept) r) ⌝ }
 {
-    if !panel_ok(page, state) {
+    let t = read_standing(asked);
+    if !panel_ok(
+        page,
+        clusters,
+        keys,
+        versions,
+        kinds,
+        words,
+        order,
+        lengths,
+        asked,
+        t,
+    ) {
         return Abandoned::Broken;
     }
-    let asked = state.asked;
-    if asked.unknown == 0 {
+    if t.unknown == 0 {
         return Abandoned::Nothing;
     }
-    Abandoned::Exchange(asked.unknown)
+    Abandoned::Exchange(t.unknown)
 }

@@ -2,11 +2,11 @@
 use mathlib.Core.Path.{_≡_, refl, sym, ap, subst, _∙_}
 use mathlib.Core.Bool.{Bool, true, false, _&&_, not}
 use mathlib.Core.List.{List, []}
-use Prim.Native.Nat.{ℕ, zero, suc, _+_, _-_, _^_, _≤_, _<_}
+use Prim.Native.Nat.{ℕ, _+_, _-_, _^_, _≤_, _<_}
 use native.Mathlib.Omega.{arith}
 use borrow.Author.Tests.{eq-eqb, ne-eqb, eqb-true, lt-ltb, le-leb, ltb-true}
 use lib.Dec.{eqb, leb, ltb}
-use lib.ListN.{length, getD, replicate, length-replicate}
+use lib.ListN.{length, replicate, length-replicate}
 use Rattle.octets.proofs.StoreLaws.{length-store}
 use Rattle.tlv.specs.declared.Value.{Value}
 use Rattle.tlv.specs.Octet.{pick}
@@ -14,23 +14,25 @@ use Rattle.tlv.specs.Value.{datumIn}
 use Rattle.tlv.proofs.Picks.{pick-elim}
 use Rattle.schema.specs.Check.{every}
 use Rattle.schema.proofs.BoolLaws.{both, by-test}
-use Rattle.cached.specs.Limits.{maxEntries, maxClusters, pageSize}
-use Rattle.cached.specs.Valid.{clustersRight, entriesRight}
-use Rattle.cached.proofs.ValidLaws as Held
+use Rattle.cache_entries.specs.Limits.{maxEntries, maxClusters, textPlaces, pageSize, orderSize}
+use Rattle.ordered.proofs.OrderLaws.{order-empty}
+use Rattle.cache_entries.specs.Entries.{clusterOrder}
+use Rattle.cache_entries.specs.Valid.{clustersRight, entriesRight, textsRight}
+use Rattle.cache_entries.proofs.ValidLaws as Held
 use Rattle.interaction_writer.specs.Envelope.{panelEdition, exchangeLimit}
-use Rattle.cache_laws.proofs.RightLaws.{Good}
-use Rattle.cache_request.specs.Filters.{filtersOf}
-use Rattle.cache_request.specs.Messages.{readMessage, writeMessage}
+use Rattle.cache_report.proofs.RightLaws.{Good}
+use Rattle.cache_messages.specs.Filters.{filtersOf}
+use Rattle.cache_messages.specs.Messages.{readMessage, writeMessage}
 use Rattle.cache_laws.proofs.BoundLaws.{Sized, filters-narrow, filters-few, read-sized, write-sized}
 use Rattle.envelope.specs.Envelope.{maxMessage}
 use Rattle.exchange.specs.Rules.{firstReply}
-use Rattle.cache.specs.declared.Request.{Request}
-use Rattle.cache.specs.declared.State.{State}
-use Rattle.cache.specs.State.{reading, writing, withStatus, isOpen, openRight, askedRight, panelRight}
-use Rattle.cache.specs.Reaction.{Reaction, refusal}
-use Rattle.cache.specs.Begin.{fresh, unknownAfter, keeping, nextRequest, askedAs, sent, beginning, beginsRead, sendable, beginsWrite, resends, keptMessage}
-use Rattle.cache.proofs.StateLaws.{RightAsked}
-use Rattle.cache.proofs.BeginLaws.{sendable-fits}
+use Rattle.cache_state.specs.declared.Request.{Request}
+use Rattle.cache_state.specs.declared.State.{State}
+use Rattle.cache_state.specs.State.{reading, writing, withStatus, isOpen, openRight, askedRight, panelRight}
+use Rattle.cache_state.specs.Reaction.{Reaction, refusal}
+use Rattle.cache_state.specs.Begin.{fresh, unknownAfter, keeping, nextRequest, askedAs, sent, beginning, beginsRead, sendable, beginsWrite, resends, keptMessage}
+use Rattle.cache_state.proofs.StateLaws.{RightAsked}
+use Rattle.cache_state.proofs.BeginLaws.{sendable-fits}
 
 -- a panel that keeps the rules; its arrays have their lengths, as those of the code do
 pub record ValidPanel (page : List ℕ) (s : State) : Type 0 where
@@ -52,19 +54,22 @@ valid-right page s v = both _ _ (Held.right-held page (s .held) (v .held .right)
 zeros : (n : ℕ) → length {A = ℕ} (replicate n 0) ≡ n
 zeros n = length-replicate n 0
 
-zero-there : (n i : ℕ) → getD {A = ℕ} (replicate n 0) i 0 ≡ 0
-zero-there zero zero = refl
-zero-there zero (suc i) = refl
-zero-there (suc n) zero = refl
-zero-there (suc n) (suc i) = zero-there n i
-
 -- FRESH, with any page of its size
 pub fresh-valid : (page : List ℕ) → length page ≡ pageSize → ValidPanel page fresh
-unfolding fresh clustersRight entriesRight every isOpen
+unfolding fresh clustersRight entriesRight textsRight every isOpen
 fresh-valid page size = record {
   held = record {
-    right = record { size = size; few-entries = omega arith; few-clusters = omega arith; clusters = refl; entries = refl };
-    whole = record { clusters = zeros maxClusters; keys = zeros maxEntries; versions = zeros maxEntries; kinds = zeros maxEntries; words = zeros maxEntries; small = λ i. omega (arith, zero-there maxEntries i) };
+    right = record {
+      size = size;
+      few-entries = omega arith;
+      few-clusters = omega arith;
+      clusters = refl;
+      cluster-order = order-empty (replicate maxClusters 0) (clusterOrder (replicate orderSize 0));
+      entry-order = order-empty (replicate maxEntries 0) (replicate orderSize 0);
+      entries = refl;
+      texts = refl;
+    };
+    whole = record { clusters = zeros maxClusters; keys = zeros maxEntries; versions = zeros maxEntries; kinds = zeros maxEntries; words = zeros maxEntries; order = zeros orderSize; lengths = zeros textPlaces };
   };
   asked = record { used = omega arith; exchange = omega arith; unknown = omega arith; stage = omega arith; len = omega arith; sent = refl };
   kept = zeros maxMessage;
@@ -116,7 +121,7 @@ module _ (page : List ℕ) (s : State) (v : ValidPanel page s) where
   read-kept room =
       begun-valid room (sent page s reading 0 0 0 (readMessage panelEdition (s .asked .used + 1) (filtersOf (s .held))))
       (λ u. sent-valid reading 0 0 0 (omega arith) u
-      (read-sized panelEdition (s .asked .used + 1) (filtersOf (s .held)) (filters-narrow (s .held) (v .held .whole .small)) (omega (arith, filters-few (s .held), v .held .right .few-clusters))))
+      (read-sized panelEdition (s .asked .used + 1) (filtersOf (s .held)) (filters-narrow (s .held)) (omega (arith, filters-few (s .held), v .held .right .few-clusters))))
 
   -- BEGINNING A WRITE of any value
   pub write-kept : (e c a : ℕ) (given : Bool) (version : ℕ) (src : List ℕ) (x : Value) (room : ℕ) → e < 2 ^ 16 → c < 2 ^ 32 → a < 2 ^ 32 → version < 2 ^ 32 → Holds (beginsWrite page s e c a given version src x room)

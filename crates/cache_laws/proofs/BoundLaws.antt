@@ -24,19 +24,16 @@ use Rattle.request_writer.specs.Request.{readMembers, writeMembers, entryTree}
 use Rattle.request_writer.proofs.FilterLaws.{filter-bound}
 use Rattle.request_writer.proofs.RequestLaws.{read-bound, write-bound}
 use Rattle.exchange.specs.Rules.{readOpcode, writeOpcode, statusOpcode}
-use Rattle.cached.specs.declared.Cached.{Cached}
-use Rattle.cached.specs.Limits.{maxClusters, half}
-use Rattle.cached.specs.Coherent.{coherentAt}
-use Rattle.cached.proofs.CoherentLaws.{coherent-exactly}
-use Rattle.cache_request.specs.Filters.{leastBy, wantedAs, wantedIf, filterFor, onwards, filtersFrom, filtersOf, filterTreeOf}
-use Rattle.cache_request.specs.Messages.{readMessage, writeMessage, successMessage}
+use Rattle.cache_entries.specs.declared.Cached.{Cached}
+use Rattle.cache_entries.specs.Limits.{maxClusters, half}
+use Rattle.cache_entries.specs.Coherent.{coherentAt}
+use Rattle.cache_entries.proofs.CoherentLaws.{coherent-exactly}
+use Rattle.cache_messages.specs.Filters.{leastBy, wantedAs, wantedIf, filterFor, onwards, filtersFrom, filtersOf, filterTreeOf}
+use Rattle.cache_messages.specs.Messages.{readMessage, writeMessage, successMessage}
 
--- the version of a coherent cluster is that of one of its entries
-pub coherent-small : (c : Cached) (most : ℕ) → ((i : ℕ) → getD (c .versions) i 0 < most) → (k : ℕ) {v : ℕ} → coherentAt c k ≡ just v → v < most
-coherent-small c most small k {v} e =
-    let r = coherent-exactly c k v .0 e in
-    let j = r .1 .0 in
-    omega (arith, r .2 j (r .1 .1) (r .1 .2) (r .1 .3), small j)
+-- the version of a coherent cluster is one
+pub coherent-small : (c : Cached) (k : ℕ) {v : ℕ} → coherentAt c k ≡ just v → v < 2 ^ 32
+coherent-small c k {v} e = coherent-exactly c k v .0 e .1
 
 -- a filter whose numbers have their widths
 pub record Narrow (f : Wanted) : Type 0 where
@@ -50,14 +47,14 @@ unfolding Each
 each-both P [] b h q = q
 each-both P (x ∷ a) b h q = (h .0, each-both P a b (h .1) q)
 
-module _ (c : Cached) (small : (i : ℕ) → getD (c .versions) i 0 < 2 ^ 32) where
+module _ (c : Cached) where
   one-narrow : (k word : ℕ) → Each Narrow (filterFor c k word)
   unfolding filterFor Each
   one-narrow k word = go (coherentAt c k) refl
     where
       go : (o : Opt ℕ) → coherentAt c k ≡ o → Each Narrow (wantedIf word o)
       go nothing e = tt
-      go (just v) e = (record { endpoint = omega arith; cluster = omega arith; version = coherent-small c (2 ^ 32) small k e }, tt)
+      go (just v) e = (record { endpoint = omega arith; cluster = omega arith; version = coherent-small c k e }, tt)
 
   from-narrow : (m bound : ℕ) → Each Narrow (filtersFrom c m bound)
   unfolding filtersFrom Each

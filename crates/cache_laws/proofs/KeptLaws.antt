@@ -22,20 +22,19 @@ use Rattle.envelope.specs.declared.Envelope.{Envelope}
 use Rattle.envelope.specs.declared.Envelope.the-variants.{Whole, Short}
 use Rattle.envelope.specs.Envelope.{envelopeIn, envelopeLength, maxMessage}
 use Rattle.exchange.specs.Rules.{statusOpcode, reportOpcode}
-use Rattle.cached.specs.declared.Cached.{Cached}
-use Rattle.cached.specs.Valid.{clustersRight, entriesRight}
-use Rattle.cache_part.specs.Part.{blocksIn, judgedAll, heldAll, pageAll}
+use Rattle.cache_entries.specs.declared.Cached.{Cached}
+use Rattle.cache_entries.specs.Valid.{clustersRight, entriesRight, textsRight}
+use Rattle.cache_report.specs.Part.{blocksIn, judgedAll, heldAll, pageAll}
 use Rattle.interaction_writer.specs.Envelope.{panelEdition}
-use Rattle.cache_laws.proofs.RightLaws.{Good, part-right}
-use Rattle.cache_request.specs.Messages.{successMessage}
+use Rattle.cache_report.proofs.RightLaws.{Good, part-right}
+use Rattle.cache_messages.specs.Messages.{successMessage}
 use Rattle.cache_laws.proofs.BoundLaws.{success-sized}
-use Rattle.cache.specs.declared.Request.{Request}
-use Rattle.cache.specs.declared.State.{State}
-use Rattle.cache.specs.declared.Outcome.{Outcome}
-use Rattle.cache.specs.State.{reading, writing, lastPart, withStatus, isOpen, openRight, panelRight}
-use Rattle.cache.specs.Reaction.{Reaction, refusal, quiet, unsent}
-use Rattle.cache.specs.Begin.{keeping}
-use Rattle.cache.proofs.StateLaws.{RightAsked}
+use Rattle.cache_state.specs.declared.Request.{Request}
+use Rattle.cache_state.specs.declared.State.{State}
+use Rattle.cache_state.specs.Reaction.{Silent, Reaction, refusal, quiet, unsent}
+use Rattle.cache_state.specs.State.{reading, writing, lastPart, withStatus, isOpen, openRight, panelRight}
+use Rattle.cache_state.specs.Begin.{keeping}
+use Rattle.cache_state.proofs.StateLaws.{RightAsked}
 use Rattle.cache_laws.proofs.BegunLaws.{ValidPanel, Holds, valid-right, keeping-right}
 use Rattle.cache_receive.specs.Receive.{forCache, opcodeAwaited, awaited, endedAs, primedAs, endedWith, statusTaken, byStatus, ofWrite, answerTaken, byAnswer, nextAwaited, goesOn, ends, pastTurns, partTaken, takesPart, takes, inEnvelope, received}
 
@@ -55,10 +54,19 @@ closed-part = refl
 
 -- priming changes no entry
 primed-good : (page : List ℕ) (c : Cached) → Good page c → Good page (primedAs c)
-unfolding primedAs clustersRight entriesRight
+unfolding primedAs clustersRight entriesRight textsRight
 primed-good page c g = record {
-  right = record { size = g .right .size; few-entries = g .right .few-entries; few-clusters = g .right .few-clusters; clusters = g .right .clusters; entries = g .right .entries };
-  whole = record { clusters = g .whole .clusters; keys = g .whole .keys; versions = g .whole .versions; kinds = g .whole .kinds; words = g .whole .words; small = g .whole .small };
+  right = record {
+    size = g .right .size;
+    few-entries = g .right .few-entries;
+    few-clusters = g .right .few-clusters;
+    clusters = g .right .clusters;
+    cluster-order = g .right .cluster-order;
+    entry-order = g .right .entry-order;
+    entries = g .right .entries;
+    texts = g .right .texts;
+  };
+  whole = record { clusters = g .whole .clusters; keys = g .whole .keys; versions = g .whole .versions; kinds = g .whole .kinds; words = g .whole .words; order = g .whole .order; lengths = g .whole .lengths };
 }
 
 kept-length : (x : Request) (m : List ℕ) → length (keeping x m .kept) ≡ length (x .kept)
@@ -94,7 +102,7 @@ module _ (page : List ℕ) (s : State) (v : ValidPanel page s) where
 
   ended-valid : (code : ℕ) → ValidPanel page (endedWith s code .state)
   unfolding endedWith
-  ended-valid code = pick-elim (λ (o : Outcome). ValidPanel page (o .state)) (ltb code 256) _ _ (λ _. done) (λ _. v)
+  ended-valid code = pick-elim (λ (o : Silent). ValidPanel page (o .state)) (ltb code 256) _ _ (λ _. done) (λ _. v)
     where
       done : ValidPanel page (record { held = s .held; asked = endedAs (s .asked) withStatus code })
       done = record { held = v .held; asked = ended-right (s .asked) withStatus code (omega arith) closed-status (v .asked); kept = ended-length (s .asked) withStatus code ∙ v .kept }
@@ -113,7 +121,7 @@ module _ (page : List ℕ) (s : State) (v : ValidPanel page s) where
     where
       go : (o : Opt Answer) → ValidPanel page (answerTaken s o .state)
       go nothing = v
-      go (just a) = pick-elim (λ (o : Outcome). ValidPanel page (o .state)) (ofWrite (s .asked) (a .path)) _ _ (λ _. ended-valid (a .status .code)) (λ _. v)
+      go (just a) = pick-elim (λ (o : Silent). ValidPanel page (o .state)) (ofWrite (s .asked) (a .path)) _ _ (λ _. ended-valid (a .status .code)) (λ _. v)
 
   -- a part, of a read
   part-valid : s .asked .stage ≡ reading → (payload : List ℕ) → Holds (takesPart page s payload)

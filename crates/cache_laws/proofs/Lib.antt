@@ -1,6 +1,6 @@
-pub mod RightLaws
-pub mod MapLaws
 pub mod BoundLaws
+pub mod ReceiveLaws
 pub mod BegunLaws
 pub mod KeptLaws
 pub mod NeverLaws
+pub mod NarrowLaws

@@ -19,18 +19,16 @@ use Rattle.envelope.specs.declared.Envelope.{Envelope}
 use Rattle.envelope.specs.declared.Envelope.the-variants.{Whole, Short}
 use Rattle.envelope.specs.Envelope.{envelopeIn, envelopeLength, maxMessage}
 use Rattle.exchange.specs.Rules.{statusOpcode, reportOpcode}
-use Rattle.cached.specs.declared.Cached.{Cached}
-use Rattle.cache_part.specs.declared.block.Fate.{Fate}
-use Rattle.cache_part.specs.declared.block.Fate.the-variants.{Taken, Long, Unusable}
-use Rattle.cache_part.specs.declared.entry.Judged.{Judged}
-use Rattle.cache_part.specs.declared.entry.Spot.{Spot}
-use Rattle.cache_part.specs.declared.entry.Spot.the-variants.{At, Full}
-use Rattle.cache_part.specs.Entry.{spotOf, spotNumber, numberFor, worse}
-use Rattle.cache_part.specs.Part.{fateIn, blocksIn, judgedNext, judgedAll}
-use Rattle.cache.specs.declared.State.{State}
-use Rattle.cache.specs.declared.Outcome.{Outcome}
-use Rattle.cache.specs.State.{panelRight}
-use Rattle.cache.specs.Reaction.{Reaction}
+use Rattle.cache_entries.specs.declared.Cached.{Cached}
+use Rattle.cache_report.specs.declared.block.Fate.{Fate}
+use Rattle.cache_report.specs.declared.block.Fate.the-variants.{Taken, Long, Unusable}
+use Rattle.cache_report.specs.Part.{Judged, fateIn, blocksIn, judgedNext, judgedAll}
+use Rattle.cache_report.specs.declared.spot.Spot.{Spot}
+use Rattle.cache_report.specs.declared.spot.Spot.the-variants.{At, Full}
+use Rattle.cache_report.specs.Entry.{spotOf, spotNumber, numberFor, worse}
+use Rattle.cache_state.specs.declared.State.{State}
+use Rattle.cache_state.specs.Reaction.{Silent, Reaction}
+use Rattle.cache_state.specs.State.{panelRight}
 use Rattle.cache_laws.proofs.BegunLaws.{ValidPanel, valid-right}
 use Rattle.cache_receive.specs.Receive.{forCache, awaited, endedWith, statusTaken, byStatus, ofWrite, answerTaken, byAnswer, goesOn, pastTurns, partTaken, takesPart, takes, inEnvelope, received}
 
@@ -61,7 +59,7 @@ judged-fair s j h (x ∷ l) = judged-fair s (judgedNext s j x) (worse-fair (j .n
 abbrev FairR : Reaction → Type 0
 FairR r = Fair (r .number)
 
-abbrev FairO : Outcome → Type 0
+abbrev FairO : Silent → Type 0
 FairO o = Fair (o .number)
 
 ended-fair : (s : State) (code : ℕ) → FairO (endedWith s code)

@@ -1,2 +1,4 @@
 pub mod AnswerLaws
-pub mod ReceiveLaws
+pub mod OpenLaws
+pub mod LeaveLaws
+pub mod PartLaws

@@ -19,15 +19,14 @@ use Rattle.envelope.specs.declared.Envelope.{Envelope}
 use Rattle.envelope.specs.declared.Envelope.the-variants.{Whole, Short}
 use Rattle.envelope.specs.Envelope.{envelopeIn, envelopeLength, maxMessage}
 use Rattle.exchange.specs.Rules.{statusOpcode, reportOpcode, writeResponseOpcode, firstReply, maxTurn}
-use Rattle.cached.specs.declared.Cached.{Cached}
-use Rattle.cache_part.specs.Part.{blocksIn, judgedAll, heldAll, pageAll}
-use Rattle.cache_request.specs.Messages.{successMessage}
-use Rattle.cache.specs.declared.Request.{Request}
-use Rattle.cache.specs.declared.State.{State}
-use Rattle.cache.specs.declared.Outcome.{Outcome}
-use Rattle.cache.specs.State.{reading, writing, lastPart, withStatus, isOpen, panelRight}
-use Rattle.cache.specs.Reaction.{Reaction, refusal, quiet, unsent}
-use Rattle.cache.specs.Begin.{keeping}
+use Rattle.cache_entries.specs.declared.Cached.{Cached}
+use Rattle.cache_report.specs.Part.{blocksIn, judgedAll, heldAll, pageAll}
+use Rattle.cache_messages.specs.Messages.{successMessage}
+use Rattle.cache_state.specs.declared.Request.{Request}
+use Rattle.cache_state.specs.declared.State.{State}
+use Rattle.cache_state.specs.State.{reading, writing, lastPart, withStatus, isOpen, panelRight}
+use Rattle.cache_state.specs.Reaction.{Reaction, refusal, Silent, quiet, unsent}
+use Rattle.cache_state.specs.Begin.{keeping}
 
 -- refusal 4, "edition not 0, opcode not for this end": "A panel takes opcodes 1, 5, 7"
 unfoldable pub forCache : ℕ → ℕ → Bool
@@ -72,20 +71,22 @@ primedAs c =
       kinds = c .kinds;
       words = c .words;
       count = c .count;
+      order = c .order;
+      lengths = c .lengths;
       primed = true;
     }
 
 -- a status has 8 bits, as the readers of statuses see to
-unfoldable pub endedWith : State → ℕ → Outcome
+unfoldable pub endedWith : State → ℕ → Silent
 endedWith s code =
     pick (ltb code 256) (quiet 1 (record { held = s .held; asked = endedAs (s .asked) withStatus code })) (quiet 6 s)
 
 -- "A Status Response to a request ends it with that status"
-abbrev pub statusTaken : State → Opt ℕ → Outcome
+abbrev pub statusTaken : State → Opt ℕ → Silent
 statusTaken s nothing = quiet 6 s
 statusTaken s (just code) = endedWith s code
 
-unfoldable pub byStatus : State → List ℕ → Outcome
+unfoldable pub byStatus : State → List ℕ → Silent
 byStatus s payload = statusTaken s (responseIn payload)
 
 -- 6: "a write answer whose paths aren't the write's"
@@ -93,11 +94,11 @@ unfoldable pub ofWrite : Request → Path → Bool
 ofWrite x p =
     exactP p && (eqb (p .endpoint) (x .endpoint) && (eqb (p .cluster) (x .cluster) && eqb (p .attribute) (x .attribute)))
 
-abbrev pub answerTaken : State → Opt Answer → Outcome
+abbrev pub answerTaken : State → Opt Answer → Silent
 answerTaken s nothing = quiet 6 s
 answerTaken s (just a) = pick (ofWrite (s .asked) (a .path)) (endedWith s (a .status .code)) (quiet 6 s)
 
-unfoldable pub byAnswer : State → List ℕ → Outcome
+unfoldable pub byAnswer : State → List ℕ → Silent
 byAnswer s payload = answerTaken s (answeredIn payload)
 
 -- more was promised: a success for this turn, and the next one is awaited

@@ -1,39 +1,51 @@
 // A message taken: the refusals in their order, then what the awaited reply says.
 ghost use mathlib.Core.Path.{_≡_};
-ghost use mathlib.Core.Bool.{true, false};
+ghost use mathlib.Core.Bool.{Bool, true, false};
 ghost use mathlib.Core.List.{List};
 ghost use Prim.Native.Nat.{ℕ, _≤_, _<_};
 ghost use lib.ListN.{length};
+ghost use Rattle.bounds.specs.Bounds.{maxPayload};
 ghost use Rattle.interaction_writer.specs.Envelope.{exchangeLimit};
 ghost use Rattle.envelope.specs.Envelope.{maxMessage};
-ghost use Rattle.cache_part.specs.Entry.{Within};
-ghost use Rattle.cached.specs.Limits.{pageSize};
-ghost use Rattle.cache.specs.State.{panelRight};
-ghost use Rattle.cache.specs.Reaction.{Reacted};
-ghost use Rattle.cache_receive.specs.Receive.{forCache, opcodeAwaited, awaited, ofWrite, endedAs, primedAs, endedWith, byStatus, byAnswer, goesOn, pastTurns, takesPart, takes, received};
+ghost use Rattle.interaction_report.specs.Kept.{maxBlocks};
+ghost use Rattle.cache_entries.specs.Entries.{heldOf};
+ghost use Rattle.cache_entries.specs.Valid.{heldRight};
+ghost use Rattle.cache_report.specs.Words.{fatesFrom};
+ghost use Rattle.cache_state.specs.State.{panelRight};
+ghost use Rattle.cache_state.specs.Words.{askedSize, wordsRight, standingIn, requestOf, heldIn, stateWith, stateIn};
+ghost use Rattle.cache_state.specs.Reaction.{unsent, ofPanel, Reacted};
+ghost use Rattle.cache_receive.specs.Receive.{forCache, opcodeAwaited, awaited, ofWrite, endedWith, byStatus, byAnswer, goesOn, ends, pastTurns, takesPart, received};
+ghost use Rattle.cache_receive.specs.Steps.{openedIn, openedOf, byReply, afterPart, PartDone, partDone};
 use blocks::Path;
-use cache::BROKEN;
-use cache::DONE;
-use cache::LAST_PART;
-use cache::NO_MESSAGE;
-use cache::NOT_AWAITED;
-use cache::NOTHING;
-use cache::Outcome;
-use cache::READING;
-use cache::Request;
-use cache::SMALL_BUFFER;
-use cache::STATUS;
-use cache::State;
-use cache::UNUSABLE;
-use cache::WRITING;
-use cache::is_open;
-use cache::keep;
-use cache::panel_ok;
-use cache::refuse;
-use cache_part::part::judge_part;
-use cache_part::part::take_part;
-use cache_request::other::put_success;
-use cached::Cached;
+use cache_entries::CLUSTERS;
+use cache_entries::ENTRIES;
+use cache_entries::ORDER_SIZE;
+use cache_entries::TEXT_PLACES;
+use cache_entries::valid::columns_whole;
+use cache_messages::other::put_success;
+use cache_report::part::judge_part;
+use cache_report::part::take_part;
+use cache_report::set::Counts;
+use cache_state::ASKED_WORDS;
+use cache_state::BROKEN;
+use cache_state::DONE;
+use cache_state::LAST_PART;
+use cache_state::NO_MESSAGE;
+use cache_state::NOT_AWAITED;
+use cache_state::NOTHING;
+use cache_state::Outcome;
+use cache_state::READING;
+use cache_state::SMALL_BUFFER;
+use cache_state::STATUS;
+use cache_state::Standing;
+use cache_state::UNUSABLE;
+use cache_state::WRITING;
+use cache_state::is_open;
+use cache_state::panel_ok;
+use cache_state::refuse;
+use cache_state::words::keep;
+use cache_state::words::put_standing;
+use cache_state::words::read_standing;
 use envelope::Envelope;
 use envelope::Fields;
 use envelope::MAX_MESSAGE;
@@ -46,7 +58,9 @@ use interaction::StatusResponse;
 use interaction::status_response;
 use interaction_answer::Answered;
 use interaction_answer::write_response;
-use interaction_report::report_data;
+use interaction_report::kept::BLOCK_WORDS;
+use interaction_report::kept::BLOCKS;
+use interaction_report::kept::report_kept;
 use interaction_writer::envelope::PANEL_EDITION;
 
 // A panel takes opcodes 1, 5 and 7, in the edition of its own exchanges.
@@ -66,7 +80,7 @@ fn is_for_cache(edition: u64, opcode: u64) -> bool
 }
 
 // 1 at turn 1 alone, 5 in a read, 7 in a write.
-fn opcode_awaited(stage: u8, e: Fields) -> bool
+fn opcode_awaited(stage: u64, e: Fields) -> bool
     ensures { λ r. ⌜ r ≡ opcodeAwaited stage e ⌝ }
 {
     if e.opcode == exchange::STATUS {
@@ -79,189 +93,392 @@ fn opcode_awaited(stage: u8, e: Fields) -> bool
 }
 
 // The exchange, turn and opcode awaited.
-fn is_awaited(x: Request, e: Fields) -> bool
-    ensures { λ r. ⌜ r ≡ awaited x e ⌝ }
+fn is_awaited(t: Standing, e: Fields) -> bool
+    ensures { λ r. ⌜ ((kept : List ℕ) → r ≡ awaited (requestOf t kept) e) ⌝ }
 {
-    if !is_open(x.stage) {
+    if !is_open(t.stage) {
         return false;
     }
-    if e.exchange != x.exchange {
+    if e.exchange != t.exchange {
         return false;
     }
-    if e.turn != x.turn as u64 {
+    if e.turn != t.turn {
         return false;
     }
-    opcode_awaited(x.stage, e)
+    opcode_awaited(t.stage, e)
 }
 
-// The newest request, ended.
-fn ended_as(x: Request, stage: u8, status: u8) -> Request
-    ensures { λ r. ⌜ r ≡ endedAs x stage status ⌝ }
+// Why a message is not taken, or 0 and its opcode.
+pub struct Opened {
+    pub number: u8,
+    pub opcode: u64,
+}
+
+fn shut(number: u8) -> Opened
+    ensures { λ r. ⌜ r ≡ record { number = number; opcode = 0 } ⌝ }
 {
-    let mut next = x;
-    next.stage = stage;
-    next.status = status;
-    next
+    Opened { number, opcode: 0 }
+}
+
+// By its envelope: 4 or 5.
+fn open_envelope(t: Standing, message: &[u8]) -> Opened
+    ensures { λ r. ⌜ ((kept : List ℕ) → r ≡ openedIn (requestOf t kept) (now (message .entry))) ⌝ }
+{
+    let Envelope::Whole(e) = envelope_of(message) else {
+        return shut(NO_MESSAGE);
+    };
+    if MAX_MESSAGE < message.len() {
+        return shut(NO_MESSAGE);
+    }
+    if !is_for_cache(e.edition, e.opcode) {
+        return shut(NO_MESSAGE);
+    }
+    if !is_awaited(t, e) {
+        return shut(NOT_AWAITED);
+    }
+    Opened {
+        number: DONE,
+        opcode: e.opcode,
+    }
+}
+
+// 2 and 3, then by its envelope; t was read from the words.
+fn open_message<'a>(
+    page: &'a [u8],
+    clusters: &'a [u64; CLUSTERS],
+    keys: &'a [u64; ENTRIES],
+    versions: &'a [u64; ENTRIES],
+    kinds: &'a [u8; ENTRIES],
+    words: &'a [u64; ENTRIES],
+    order: &'a [u8; ORDER_SIZE],
+    lengths: &'a [u16; TEXT_PLACES],
+    asked: &'a [u64; ASKED_WORDS],
+    t: Standing,
+    message: &'a [u8],
+    room: usize,
+) -> Opened
+    ensures { λ r. ⌜ ((kept : List ℕ) → r ≡ openedOf (now (asked .entry)) (now (page .entry)) (stateWith (now (clusters .entry)) (now (keys .entry)) (now (versions .entry)) (now (kinds .entry)) (now (words .entry)) (now (order .entry)) (now (lengths .entry)) t kept) (now (message .entry)) room) ⌝ }
+{
+    if !panel_ok(
+        page,
+        clusters,
+        keys,
+        versions,
+        kinds,
+        words,
+        order,
+        lengths,
+        asked,
+        t,
+    ) {
+        return shut(BROKEN);
+    }
+    if room < MAX_MESSAGE {
+        return shut(SMALL_BUFFER);
+    }
+    open_envelope(t, message)
 }
 
 // The request ends with a status; one of more than 8 bits is none.
-fn ended_with(state: State, code: u64) -> Outcome
-    ensures { λ r. ⌜ r ≡ endedWith state code ⌝ }
+fn end_with(asked: &mut [u64; ASKED_WORDS], t: Standing, code: u64) -> Outcome
+    requires { ⌜ (t ≡ standingIn (now asked)) × ((wordsRight (now asked) ≡ true) × (length (now asked) ≡ askedSize)) ⌝ }
+    ensures { λ r. ⌜ ((clusters keys versions kinds words order lengths kept page old : List ℕ) → Reacted (unsent (endedWith (stateWith clusters keys versions kinds words order lengths t kept) code) page) r (stateIn clusters keys versions kinds words order lengths (now (asked .exit)) kept) (now (asked .entry)) (now (asked .exit)) page old old) ⌝ }
 {
     if 256 <= code {
-        return refuse(state, UNUSABLE);
+        return refuse(UNUSABLE);
     }
-    let held = state.held;
-    let asked = ended_as(state.asked, STATUS, code as u8);
+    let mut next = t;
+    next.stage = STATUS;
+    next.status = code;
+    put_standing(asked, next);
     Outcome {
-        state: State { held, asked },
         number: NOTHING,
         len: 0,
     }
 }
 
 // A Status Response to a request ends it with that status.
-fn take_status(state: State, payload: &[u8]) -> Outcome
-    ensures { λ r. ⌜ r ≡ byStatus state (now (payload .entry)) ⌝ }
+fn take_status(asked: &mut [u64; ASKED_WORDS], t: Standing, payload: &[u8]) -> Outcome
+    requires { ⌜ (t ≡ standingIn (now asked)) × ((wordsRight (now asked) ≡ true) × (length (now asked) ≡ askedSize)) ⌝ }
+    ensures { λ r. ⌜ ((clusters keys versions kinds words order lengths kept page old : List ℕ) → Reacted (unsent (byStatus (stateWith clusters keys versions kinds words order lengths t kept) (now (payload .entry))) page) r (stateIn clusters keys versions kinds words order lengths (now (asked .exit)) kept) (now (asked .entry)) (now (asked .exit)) page old old) ⌝ }
 {
     let StatusResponse::Code(code) = status_response(payload) else {
-        return refuse(state, UNUSABLE);
+        return refuse(UNUSABLE);
     };
-    ended_with(state, code)
+    end_with(asked, t, code)
 }
 
 // The path that was written.
-fn is_of_write(x: Request, p: Path) -> bool
-    ensures { λ r. ⌜ r ≡ ofWrite x p ⌝ }
+fn is_of_write(t: Standing, p: Path) -> bool
+    ensures { λ r. ⌜ ((kept : List ℕ) → r ≡ ofWrite (requestOf t kept) p) ⌝ }
 {
     if !blocks::exact(p) {
         return false;
     }
-    if p.endpoint != x.endpoint as u64 {
+    if p.endpoint != t.endpoint {
         return false;
     }
-    if p.cluster != x.cluster as u64 {
+    if p.cluster != t.cluster {
         return false;
     }
-    p.attribute == x.attribute as u64
+    p.attribute == t.attribute
 }
 
 // A Write Response ends the write with the status for its own path.
-fn take_answer(state: State, payload: &[u8]) -> Outcome
-    ensures { λ r. ⌜ r ≡ byAnswer state (now (payload .entry)) ⌝ }
+fn take_answer(asked: &mut [u64; ASKED_WORDS], t: Standing, payload: &[u8]) -> Outcome
+    requires { ⌜ (t ≡ standingIn (now asked)) × ((wordsRight (now asked) ≡ true) × (length (now asked) ≡ askedSize)) ⌝ }
+    ensures { λ r. ⌜ ((clusters keys versions kinds words order lengths kept page old : List ℕ) → Reacted (unsent (byAnswer (stateWith clusters keys versions kinds words order lengths t kept) (now (payload .entry))) page) r (stateIn clusters keys versions kinds words order lengths (now (asked .exit)) kept) (now (asked .entry)) (now (asked .exit)) page old old) ⌝ }
 {
     let Answered::One(x) = write_response(payload) else {
-        return refuse(state, UNUSABLE);
+        return refuse(UNUSABLE);
     };
-    if !is_of_write(state.asked, x.path) {
-        return refuse(state, UNUSABLE);
+    if !is_of_write(t, x.path) {
+        return refuse(UNUSABLE);
     }
     let status = x.status;
-    ended_with(state, status.code)
+    end_with(asked, t, status.code)
+}
+
+// An awaited reply that is no part of a report.
+fn take_reply(asked: &mut [u64; ASKED_WORDS], t: Standing, opcode: u64, payload: &[u8]) -> Outcome
+    requires { ⌜ (t ≡ standingIn (now asked)) × ((wordsRight (now asked) ≡ true) × (length (now asked) ≡ askedSize)) ⌝ }
+    ensures { λ r. ⌜ ((clusters keys versions kinds words order lengths kept page old : List ℕ) → Reacted (unsent (byReply (stateWith clusters keys versions kinds words order lengths t kept) opcode (now (payload .entry))) page) r (stateIn clusters keys versions kinds words order lengths (now (asked .exit)) kept) (now (asked .entry)) (now (asked .exit)) page old old) ⌝ }
+{
+    if opcode == exchange::STATUS {
+        return take_status(asked, t, payload);
+    }
+    take_answer(asked, t, payload)
 }
 
 // A part that promises more was taken: a success for it, and the next part is awaited.
-fn go_on(held: Cached, x: Request, out: &mut [u8]) -> Outcome
-    requires { ⌜ (x .exchange < exchangeLimit) × ((x .turn < 65535) × (maxMessage ≤ length (now out))) ⌝ }
-    ensures { λ r. ⌜ ((page : List ℕ) → Reacted (goesOn held x page) r page (now (out .entry)) (now (out .exit))) ⌝ }
+fn go_on(
+    asked: &mut [u64; ASKED_WORDS],
+    kept: &mut [u8; MAX_MESSAGE],
+    t: Standing,
+    out: &mut [u8],
+) -> Outcome
+    requires { ⌜ (wordsRight (now asked) ≡ true) × ((length (now asked) ≡ askedSize) × ((t .primed ≤ 1) × ((t .exchange < exchangeLimit) × ((t .turn < 65535) × (maxMessage ≤ length (now out)))))) ⌝ }
+    ensures { λ r. ⌜ ((clusters keys versions kinds words order lengths page : List ℕ) → Reacted (goesOn (heldIn clusters keys versions kinds words order lengths t) (requestOf t (now (kept .entry))) page) r (stateIn clusters keys versions kinds words order lengths (now (asked .exit)) (now (kept .exit))) (now (asked .entry)) (now (asked .exit)) page (now (out .entry)) (now (out .exit))) ⌝ }
 {
-    let end = put_success(out, PANEL_EDITION, x.exchange, x.turn);
-    let mut next = x;
-    next.turn = x.turn + 1;
-    let asked = keep(next, &out[0..end]);
+    let end = put_success(out, PANEL_EDITION, t.exchange, t.turn as u16);
+    keep(kept, &out[0..end]);
+    let mut next = t;
+    next.turn = t.turn + 1;
+    next.len = end;
+    put_standing(asked, next);
     Outcome {
-        state: State { held, asked },
         number: DONE,
         len: end,
     }
 }
 
-fn primed(c: Cached) -> Cached
-    ensures { λ r. ⌜ r ≡ primedAs c ⌝ }
+// The last part was taken: the read has ended, and the panel is primed.
+fn end_read(asked: &mut [u64; ASKED_WORDS], t: Standing) -> Outcome
+    requires { ⌜ (wordsRight (now asked) ≡ true) × (length (now asked) ≡ askedSize) ⌝ }
+    ensures { λ r. ⌜ ((clusters keys versions kinds words order lengths kept page old : List ℕ) → Reacted (ends (heldIn clusters keys versions kinds words order lengths t) (requestOf t kept) page) r (stateIn clusters keys versions kinds words order lengths (now (asked .exit)) kept) (now (asked .entry)) (now (asked .exit)) page old old) ⌝ }
 {
-    let mut next = c;
-    next.primed = true;
-    next
-}
-
-// More is promised, and there is no turn left for it.
-fn is_past_turns(more: u64, turn: u16) -> bool
-    ensures { λ r. ⌜ r ≡ pastTurns more turn ⌝ }
-{
-    if more == 1 {
-        return (turn as u64) == MAX_TURN;
-    }
-    false
-}
-
-// A part of a report: judged whole, then taken.
-fn take_report(page: &mut [u8], state: State, payload: &[u8], out: &mut [u8]) -> Outcome
-    requires { ⌜ (panelRight (now page) state ≡ true) × (maxMessage ≤ length (now out)) ⌝ }
-    ensures { λ r. ⌜ Reacted (takesPart (now (page .entry)) state (now (payload .entry))) r (now (page .exit)) (now (out .entry)) (now (out .exit)) ⌝ }
-{
-    let p = report_data(payload);
-    if !p.good {
-        return refuse(state, UNUSABLE);
-    }
-    let held = state.held;
-    let asked = state.asked;
-    if is_past_turns(p.more, asked.turn) {
-        return refuse(state, UNUSABLE);
-    }
-    let number = judge_part(payload, p, held);
-    if number != 0 {
-        return refuse(state, number);
-    }
-    let next = take_part(payload, p, held, page);
-    if p.more == 1 {
-        return go_on(next, asked, out);
-    }
+    let mut next = t;
+    next.primed = 1;
+    next.stage = LAST_PART;
+    next.status = 0;
+    put_standing(asked, next);
     Outcome {
-        state: State {
-            held: primed(next),
-            asked: ended_as(asked, LAST_PART, 0),
-        },
         number: NOTHING,
         len: 0,
     }
 }
 
-// The awaited reply.
-fn take(page: &mut [u8], state: State, opcode: u64, payload: &[u8], out: &mut [u8]) -> Outcome
-    requires { ⌜ (panelRight (now page) state ≡ true) × (maxMessage ≤ length (now out)) ⌝ }
-    ensures { λ r. ⌜ Reacted (takes (now (page .entry)) state opcode (now (payload .entry))) r (now (page .exit)) (now (out .entry)) (now (out .exit)) ⌝ }
+// More is promised, and there is no turn left for it.
+fn is_past_turns(more: u64, turn: u64) -> bool
+    ensures { λ r. ⌜ r ≡ pastTurns more turn ⌝ }
 {
-    if opcode == exchange::STATUS {
-        return take_status(state, payload);
+    if more == 1 {
+        return turn == MAX_TURN;
     }
-    if opcode == REPORT {
-        return take_report(page, state, payload, out);
-    }
-    take_answer(state, payload)
+    false
 }
 
-// A message from the sign: any bytes, any buffer, any state.
-pub fn receive(page: &mut [u8], state: State, message: &[u8], out: &mut [u8]) -> Outcome
-    ensures { λ r. ⌜ Reacted (received (now (page .entry)) state (now (message .entry)) (length (now (out .entry)))) r (now (page .exit)) (now (out .entry)) (now (out .exit)) ⌝ }
+// A part was taken; t has the counts that it leads to.
+fn after_part(
+    asked: &mut [u64; ASKED_WORDS],
+    kept: &mut [u8; MAX_MESSAGE],
+    t: Standing,
+    more: u64,
+    out: &mut [u8],
+) -> Outcome
+    requires { ⌜ (wordsRight (now asked) ≡ true) × ((length (now asked) ≡ askedSize) × ((t .primed ≤ 1) × ((t .exchange < exchangeLimit) × ((t .turn < 65536) × ((pastTurns more (t .turn) ≡ false) × (maxMessage ≤ length (now out))))))) ⌝ }
+    ensures { λ r. ⌜ ((clusters keys versions kinds words order lengths page : List ℕ) → Reacted (afterPart (heldIn clusters keys versions kinds words order lengths t) (requestOf t (now (kept .entry))) page more) r (stateIn clusters keys versions kinds words order lengths (now (asked .exit)) (now (kept .exit))) (now (asked .entry)) (now (asked .exit)) page (now (out .entry)) (now (out .exit))) ⌝ }
 {
-    if !panel_ok(page, state) {
-        return refuse(state, BROKEN);
+    if more == 1 {
+        return go_on(asked, kept, t, out);
     }
-    if out.len() < MAX_MESSAGE {
-        return refuse(state, SMALL_BUFFER);
+    end_read(asked, t)
+}
+
+// The number of a part, and how many clusters and entries there are after it.
+pub struct Filled {
+    pub number: u8,
+    pub counts: Counts,
+}
+
+// The blocks of a part: judged whole, then taken.
+fn take_blocks(
+    page: &mut [u8],
+    clusters: &mut [u64; CLUSTERS],
+    keys: &mut [u64; ENTRIES],
+    versions: &mut [u64; ENTRIES],
+    kinds: &mut [u8; ENTRIES],
+    words: &mut [u64; ENTRIES],
+    order: &mut [u8; ORDER_SIZE],
+    lengths: &mut [u16; TEXT_PLACES],
+    counts: Counts,
+    payload: &[u8],
+    blocks: &[u64; BLOCK_WORDS],
+    count: usize,
+) -> Filled
+    requires { ⌜ (count ≤ maxBlocks) × ((primed : Bool) → heldRight (now page) (heldOf (now clusters) (now keys) (now versions) (now kinds) (now words) (now order) (now lengths) (counts .clusters) (counts .entries) primed) ≡ true) ⌝ }
+    ensures { λ r. ⌜ ((primed : Bool) → _≡_ {A = PartDone} (record { number = r .number; held = heldOf (now (clusters .exit)) (now (keys .exit)) (now (versions .exit)) (now (kinds .exit)) (now (words .exit)) (now (order .exit)) (now (lengths .exit)) (r .counts .clusters) (r .counts .entries) primed; page = (now (page .exit)) }) (partDone (now (payload .entry)) (heldOf (now (clusters .entry)) (now (keys .entry)) (now (versions .entry)) (now (kinds .entry)) (now (words .entry)) (now (order .entry)) (now (lengths .entry)) (counts .clusters) (counts .entries) primed) (now (page .entry)) (fatesFrom (now (payload .entry)) (now (blocks .entry)) count 0))) ⌝ }
+{
+    columns_whole(clusters, keys, versions, kinds, words, order, lengths);
+    let mut spots = [0u64; BLOCKS];
+    let number = judge_part(
+        payload,
+        blocks,
+        count,
+        clusters,
+        keys,
+        order,
+        counts,
+        &mut spots,
+    );
+    if number != DONE {
+        return Filled { number, counts };
     }
-    let Envelope::Whole(e) = envelope_of(message) else {
-        return refuse(state, NO_MESSAGE);
-    };
-    if MAX_MESSAGE < message.len() {
-        return refuse(state, NO_MESSAGE);
+    let counts = take_part(
+        payload,
+        blocks,
+        count,
+        &spots,
+        clusters,
+        keys,
+        versions,
+        kinds,
+        words,
+        order,
+        lengths,
+        page,
+        counts,
+    );
+    Filled { number, counts }
+}
+
+// A part of a report.
+fn take_report(
+    page: &mut [u8],
+    clusters: &mut [u64; CLUSTERS],
+    keys: &mut [u64; ENTRIES],
+    versions: &mut [u64; ENTRIES],
+    kinds: &mut [u8; ENTRIES],
+    words: &mut [u64; ENTRIES],
+    order: &mut [u8; ORDER_SIZE],
+    lengths: &mut [u16; TEXT_PLACES],
+    asked: &mut [u64; ASKED_WORDS],
+    kept: &mut [u8; MAX_MESSAGE],
+    t: Standing,
+    payload: &[u8],
+    out: &mut [u8],
+) -> Outcome
+    requires { ⌜ (t ≡ standingIn (now asked)) × ((wordsRight (now asked) ≡ true) × ((length (now asked) ≡ askedSize) × ((panelRight (now page) (stateWith (now clusters) (now keys) (now versions) (now kinds) (now words) (now order) (now lengths) t (now kept)) ≡ true) × ((length (now payload) ≤ maxPayload) × (maxMessage ≤ length (now out)))))) ⌝ }
+    ensures { λ r. ⌜ Reacted (takesPart (now (page .entry)) (stateWith (now (clusters .entry)) (now (keys .entry)) (now (versions .entry)) (now (kinds .entry)) (now (words .entry)) (now (order .entry)) (now (lengths .entry)) t (now (kept .entry))) (now (payload .entry))) r (stateIn (now (clusters .exit)) (now (keys .exit)) (now (versions .exit)) (now (kinds .exit)) (now (words .exit)) (now (order .exit)) (now (lengths .exit)) (now (asked .exit)) (now (kept .exit))) (now (asked .entry)) (now (asked .exit)) (now (page .exit)) (now (out .entry)) (now (out .exit)) ⌝ }
+{
+    let mut blocks = [0u64; BLOCK_WORDS];
+    let p = report_kept(payload, &mut blocks);
+    if !p.good {
+        return refuse(UNUSABLE);
     }
-    if !is_for_cache(e.edition, e.opcode) {
-        return refuse(state, NO_MESSAGE);
+    if is_past_turns(p.more, t.turn) {
+        return refuse(UNUSABLE);
     }
-    if !is_awaited(state.asked, e) {
-        return refuse(state, NOT_AWAITED);
+    let filled = take_blocks(
+        page,
+        clusters,
+        keys,
+        versions,
+        kinds,
+        words,
+        order,
+        lengths,
+        Counts {
+            clusters: t.cluster_count,
+            entries: t.count,
+        },
+        payload,
+        &blocks,
+        p.blocks,
+    );
+    if filled.number != DONE {
+        return refuse(filled.number);
+    }
+    let counts = filled.counts;
+    let mut next = t;
+    next.cluster_count = counts.clusters;
+    next.count = counts.entries;
+    after_part(asked, kept, next, p.more, out)
+}
+
+// A message from the sign: any bytes, any buffer, any memory.
+pub fn receive(
+    page: &mut [u8],
+    clusters: &mut [u64; CLUSTERS],
+    keys: &mut [u64; ENTRIES],
+    versions: &mut [u64; ENTRIES],
+    kinds: &mut [u8; ENTRIES],
+    words: &mut [u64; ENTRIES],
+    order: &mut [u8; ORDER_SIZE],
+    lengths: &mut [u16; TEXT_PLACES],
+    asked: &mut [u64; ASKED_WORDS],
+    kept: &mut [u8; MAX_MESSAGE],
+    message: &[u8],
+    out: &mut [u8],
+) -> Outcome
+    ensures { λ r. ⌜ Reacted (ofPanel (now (asked .entry)) (now (page .entry)) (stateIn (now (clusters .entry)) (now (keys .entry)) (now (versions .entry)) (now (kinds .entry)) (now (words .entry)) (now (order .entry)) (now (lengths .entry)) (now (asked .entry)) (now (kept .entry))) (received (now (page .entry)) (stateIn (now (clusters .entry)) (now (keys .entry)) (now (versions .entry)) (now (kinds .entry)) (now (words .entry)) (now (order .entry)) (now (lengths .entry)) (now (asked .entry)) (now (kept .entry))) (now (message .entry)) (length (now (out .entry))))) r (stateIn (now (clusters .exit)) (now (keys .exit)) (now (versions .exit)) (now (kinds .exit)) (now (words .exit)) (now (order .exit)) (now (lengths .exit)) (now (asked .exit)) (now (kept .exit))) (now (asked .entry)) (now (asked .exit)) (now (page .exit)) (now (out .entry)) (now (out .exit)) ⌝ }
+{
+    let t = read_standing(asked);
+    let room = out.len();
+    let x = open_message(
+        page,
+        clusters,
+        keys,
+        versions,
+        kinds,
+        words,
+        order,
+        lengths,
+        asked,
+        t,
+        message,
+        room,
+    );
+    if x.number != DONE {
+        return refuse(x.number);
     }
     let payload = &message[envelope::LENGTH..message.len()];
-    take(page, state, e.opcode, payload, out)
+    if x.opcode == REPORT {
+        return take_report(
+            page,
+            clusters,
+            keys,
+            versions,
+            kinds,
+            words,
+            order,
+            lengths,
+            asked,
+            kept,
+            t,
+            payload,
+            out,
+        );
+    }
+    take_reply(asked, t, x.opcode, payload)
 }

@@ -8,3 +8,4 @@ pub mod SpotLaws
 pub mod PlacingLaws
 pub mod TakeLaws
 pub mod JudgeLaws
+pub mod BlockLaws

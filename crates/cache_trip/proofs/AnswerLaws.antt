@@ -11,8 +11,8 @@ use Rattle.interaction_writer.specs.Meaning.{exactPath}
 use Rattle.schema.proofs.BoolLaws.{both}
 use Rattle.round_trip.specs.Meant.{Outcome, OutcomeFits, outcomesOctets, outcomeMeans, statusOctets}
 use Rattle.round_trip.proofs.BackLaws.{answers-back, status-back}
-use Rattle.cache.specs.declared.Request.{Request}
-use Rattle.cache.specs.declared.State.{State}
+use Rattle.cache_state.specs.declared.Request.{Request}
+use Rattle.cache_state.specs.declared.State.{State}
 use Rattle.cache_receive.specs.Receive.{endedWith, ofWrite, answerTaken, byAnswer, statusTaken, byStatus}
 use Rattle.cache_trip.specs.Taken.{OfPath, endedBy}
 use Rattle.cache_trip.proofs.TakenLaws.{path-exact}

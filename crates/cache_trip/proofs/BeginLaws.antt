@@ -28,11 +28,11 @@ use Rattle.round_trip.proofs.ReaderLaws.{read-answered, write-answered}
 use Rattle.exchange.specs.Rules.{statusOpcode, readOpcode, writeOpcode}
 use Rattle.envelope.specs.Envelope.{envelopeIn}
 use Rattle.envelope.proofs.BigLaws.{envelope-read}
-use Rattle.cached.specs.declared.Cached.{Cached}
-use Rattle.cached.specs.Coherent.{coherentAt}
-use Rattle.cached.proofs.CoherentLaws.{coherent-exactly}
-use Rattle.cache_request.specs.Filters.{leastBy, wantedIf, filterFor, onwards, filtersFrom, filtersOf}
-use Rattle.cache_request.specs.Messages.{readMessage, writeMessage, successMessage}
+use Rattle.cache_entries.specs.declared.Cached.{Cached}
+use Rattle.cache_entries.specs.Coherent.{coherentAt}
+use Rattle.cache_entries.proofs.CoherentLaws.{coherent-exactly}
+use Rattle.cache_messages.specs.Filters.{leastBy, wantedIf, filterFor, onwards, filtersFrom, filtersOf}
+use Rattle.cache_messages.specs.Messages.{readMessage, writeMessage, successMessage}
 use Rattle.cache_trip.specs.Begun.{Sendable, envelopeAs}
 use Rattle.cache_trip.specs.Taken.{Takable}
 use Rattle.cache_trip.proofs.EachLaws.{each-both}
@@ -45,37 +45,32 @@ after-envelope edition opcode exchange turn q = drop-at (envelopeOctets edition 
 
 -- THE FILTERS of a panel fit, and are no more than its clusters
 module _ (c : Cached) where
-  module _ (small : (i : ℕ) → getD (c .versions) i 0 < 2 ^ 32) where
-    -- a coherent cluster has the version of one of its entries
-    version-fits : (k v : ℕ) → coherentAt c k ≡ just v → v < 2 ^ 32
-    version-fits k v e =
-        let r = coherent-exactly c k v .0 e in
-        let some = r .1 in
-        let same : getD (c .versions) (some .0) 0 ≡ v = r .2 (some .0) (some .1) (some .2) (some .3) in
-        omega (arith, same, small (some .0))
+  -- a coherent cluster has a version
+  version-fits : (k v : ℕ) → coherentAt c k ≡ just v → v < 2 ^ 32
+  version-fits k v e = coherent-exactly c k v .0 e .1
 
-    one-fits : (k word : ℕ) → Each WantedFits (filterFor c k word)
-    unfolding filterFor Each
-    one-fits k word = go (coherentAt c k) refl
-      where
-        go : (o : Opt ℕ) → coherentAt c k ≡ o → Each WantedFits (wantedIf word o)
-        go nothing e = tt
-        go (just v) e =
-            (record { endpoint-fits = omega arith; cluster-fits = omega arith; version-fits = version-fits k v e }, tt)
+  one-fits : (k word : ℕ) → Each WantedFits (filterFor c k word)
+  unfolding filterFor Each
+  one-fits k word = go (coherentAt c k) refl
+    where
+      go : (o : Opt ℕ) → coherentAt c k ≡ o → Each WantedFits (wantedIf word o)
+      go nothing e = tt
+      go (just v) e =
+          (record { endpoint-fits = omega arith; cluster-fits = omega arith; version-fits = version-fits k v e }, tt)
 
-    from-fit : (m bound : ℕ) → Each WantedFits (filtersFrom c m bound)
-    unfolding filtersFrom Each
-    from-fit zero bound = tt
-    from-fit (suc m) bound = go (leastBy (c .clusters) bound (c .«cluster_count»)) (from-fit m)
-      where
-        go : (r : Found) → ((b : ℕ) → Each WantedFits (filtersFrom c m b)) → Each WantedFits (onwards c (λ b. filtersFrom c m b) r)
-        go Nothing rest = tt
-        go (At k) rest =
-            each-both WantedFits (filterFor c k (getD (c .clusters) k 0)) (filtersFrom c m (getD (c .clusters) k 0 + 1)) (one-fits k (getD (c .clusters) k 0)) (rest (getD (c .clusters) k 0 + 1))
+  from-fit : (m bound : ℕ) → Each WantedFits (filtersFrom c m bound)
+  unfolding filtersFrom Each
+  from-fit zero bound = tt
+  from-fit (suc m) bound = go (leastBy (c .clusters) bound (c .«cluster_count»)) (from-fit m)
+    where
+      go : (r : Found) → ((b : ℕ) → Each WantedFits (filtersFrom c m b)) → Each WantedFits (onwards c (λ b. filtersFrom c m b) r)
+      go Nothing rest = tt
+      go (At k) rest =
+          each-both WantedFits (filterFor c k (getD (c .clusters) k 0)) (filtersFrom c m (getD (c .clusters) k 0 + 1)) (one-fits k (getD (c .clusters) k 0)) (rest (getD (c .clusters) k 0 + 1))
 
-    pub filters-fit : Each WantedFits (filtersOf c)
-    unfolding filtersOf
-    filters-fit = from-fit (c .«cluster_count») 0
+  pub filters-fit : Each WantedFits (filtersOf c)
+  unfolding filtersOf
+  filters-fit = from-fit (c .«cluster_count») 0
 
   one-few : (k word : ℕ) → length (filterFor c k word) ≤ 1
   unfolding filterFor
@@ -106,11 +101,11 @@ module _ (c : Cached) where
     read-payload = after-envelope edition readOpcode exchange 0 (readOctets (filtersOf c))
 
     pub read-meant : readIn (drop envelopeLength (readMessage edition exchange (filtersOf c))) ≡ just (readMeans (filtersOf c))
-    read-meant = ap readIn read-payload ∙ read-back (filtersOf c) (filters-fit (s .versions))
+    read-meant = ap readIn read-payload ∙ read-back (filtersOf c) filters-fit
 
     -- with no ground to refuse it
     pub read-taken : readRead (readIn (drop envelopeLength (readMessage edition exchange (filtersOf c)))) ≡ readAnswer (filtersOf c)
-    read-taken = ap (λ (q : List ℕ). readRead (readIn q)) read-payload ∙ read-answered (filtersOf c) (filters-fit (s .versions))
+    read-taken = ap (λ (q : List ℕ). readRead (readIn q)) read-payload ∙ read-answered (filtersOf c) filters-fit
 
 pub read-envelope : (edition exchange : ℕ) (fs : List Wanted) → edition < 16 → exchange < exchangeLimit → envelopeIn (readMessage edition exchange fs) ≡ envelopeAs edition readOpcode exchange 0
 unfolding readMessage

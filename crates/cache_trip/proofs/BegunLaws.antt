@@ -6,7 +6,7 @@ use Prim.Native.Nat.{ℕ, _+_, _-_, _^_, _<_}
 use native.Mathlib.Omega.{arith}
 use borrow.Author.Tests.{ltb-true, ltb-false, not-true}
 use lib.Dec.{ltb, leb}
-use lib.ListN.{length, getD, drop, length-take}
+use lib.ListN.{length, drop, length-take}
 use Rattle.tlv.specs.declared.Value.{Value}
 use Rattle.tlv.specs.declared.Value.the-variants as value
 use Rattle.tlv.specs.Value.{datumIn}
@@ -17,15 +17,15 @@ use Rattle.schema.proofs.BoolLaws.{left, right}
 use Rattle.interaction_writer.specs.Spelling.{primitiveD}
 use Rattle.interaction_writer.specs.Meaning.{PathFits}
 use Rattle.envelope.specs.Envelope.{maxMessage}
-use Rattle.cached.specs.Limits.{textSize}
-use Rattle.cached.proofs.ValidLaws.{held-right}
-use Rattle.cache_part.specs.Block.{insideUsable, usableIn, longV}
-use Rattle.cache_request.specs.Filters.{filtersOf}
-use Rattle.cache_request.specs.Messages.{writeMessage}
-use Rattle.cache.specs.declared.State.{State}
-use Rattle.cache.specs.State.{panelRight}
-use Rattle.cache.specs.Reaction.{Reaction}
-use Rattle.cache.specs.Begin.{sendable, beginning, beginsRead, beginsWrite}
+use Rattle.cache_entries.specs.Limits.{textSize}
+use Rattle.cache_entries.proofs.ValidLaws.{held-right}
+use Rattle.cache_entries.specs.Values.{insideUsable, usableIn, longV}
+use Rattle.cache_messages.specs.Filters.{filtersOf}
+use Rattle.cache_messages.specs.Messages.{writeMessage}
+use Rattle.cache_state.specs.declared.State.{State}
+use Rattle.cache_state.specs.State.{panelRight}
+use Rattle.cache_state.specs.Reaction.{Reaction}
+use Rattle.cache_state.specs.Begin.{sendable, beginning, beginsRead, beginsWrite}
 use Rattle.interaction_writer.specs.Envelope.{panelEdition, exchangeLimit}
 use Rattle.cache_trip.specs.Begun.{ReadBegun, WriteBegun}
 use Rattle.cache_trip.specs.Taken.{Takable}
@@ -58,11 +58,11 @@ module _ (page : List ℕ) (s : State) (room : ℕ) where
       (λ _ h. absurd (omega (arith, h)))
 
   -- A READ
-  pub read-begun : ((i : ℕ) → getD (s .held .versions) i 0 < 2 ^ 32) → beginsRead page s room .number ≡ 0 → ReadBegun s (beginsRead page s room .reply)
+  pub read-begun : beginsRead page s room .number ≡ 0 → ReadBegun s (beginsRead page s room .reply)
   unfolding beginsRead panelRight
-  read-begun small = began (ReadBegun s) _ (λ t l _. record {
+  read-begun = began (ReadBegun s) _ (λ t l _. record {
     envelope = read-envelope panelEdition (s .asked .used + 1) (filtersOf (s .held)) (omega arith) (omega (arith, l));
-    request = read-taken (s .held) (record { versions = small; clusters = held-right page (s .held) (left _ _ t) .few-clusters }) panelEdition (s .asked .used + 1);
+    request = read-taken (s .held) (record { clusters = held-right page (s .held) (left _ _ t) .few-clusters }) panelEdition (s .asked .used + 1);
   })
 
   -- A WRITE

@@ -16,9 +16,10 @@ use Rattle.schema.specs.declared.Found.the-variants.{At, Nothing}
 use Rattle.schema.proofs.BoolLaws.{by-test}
 use Rattle.interaction.specs.declared.Wanted.{Wanted}
 use Rattle.interaction_writer.specs.Spelling.{Each}
-use Rattle.cached.specs.declared.Cached.{Cached}
-use Rattle.cached.specs.Coherent.{coherentAt}
-use Rattle.cache_request.specs.Filters.{lower, betterOf, leastBy, wantedAs, wantedIf, filterFor, onwards, filtersFrom, filtersOf}
+use Rattle.cache_entries.specs.declared.Cached.{Cached}
+use Rattle.cache_entries.specs.Coherent.{coherentAt}
+use Rattle.cache_messages.specs.Filters.{leastBy, wantedAs, wantedIf, filterFor, onwards, filtersFrom, filtersOf}
+use Rattle.cache_messages.proofs.RisingLaws.{Least, least}
 use Rattle.cache_trip.specs.Exact.{FilterOf, wordOf, Rising, Distinct}
 use Rattle.cache_trip.proofs.EachLaws.{each-both}
 
@@ -26,34 +27,9 @@ use Rattle.cache_trip.proofs.EachLaws.{each-both}
 last-or-before : {P : Type 0} (k n : ℕ) → k < suc n → (k < n → P) → (k ≡ n → P) → P
 last-or-before k n h f g = by-test (eqb k n) (λ t. g (eqb-true k n t)) (λ t. f (omega (arith, eqb-false k n t)))
 
-module _ (l : List ℕ) (bound : ℕ) where
-  -- THE SEARCH finds the least word that is not below the bound
-  abbrev Least : ℕ → Found → Type 0
-  Least n Nothing = (k : ℕ) → k < n → getD l k 0 < bound
-  Least n (At b) = (b < n) × (bound ≤ getD l b 0) × ((k : ℕ) → k < n → bound ≤ getD l k 0 → getD l b 0 ≤ getD l k 0)
-
-  word-at : {j k : ℕ} → j ≡ k → getD l j 0 ≡ getD l k 0
-  word-at e = ap (λ (x : ℕ). getD l x 0) e
-
-  too-low : (n : ℕ) (r : Found) → getD l n 0 < bound → Least n r → Least (suc n) r
-  too-low n Nothing low h = λ k b. last-or-before k n b (h k) (λ e. omega (arith, low, word-at e))
-  too-low n (At b) low h =
-      (omega (arith, h .0), h .1, λ k q f. last-or-before k n q (λ z. h .2 k z f) (λ e. absurd (omega (arith, low, f, word-at e))))
-
-  one-more : (n : ℕ) (r : Found) → bound ≤ getD l n 0 → Least n r → Least (suc n) (lower l n r)
-  one-more n Nothing low h =
-      (omega arith, low, λ k q f. last-or-before k n q (λ z. absurd (omega (arith, f, h k z))) (λ e. omega (arith, word-at e)))
-  one-more n (At b) low h =
-      pick-elim (Least (suc n)) (ltb (getD l n 0) (getD l b 0)) (At n) (At b)
-      (λ t. (omega arith, low, λ k q f. last-or-before k n q (λ z. omega (arith, ltb-true (getD l n 0) (getD l b 0) t, h .2 k z f)) (λ e. omega (arith, word-at e))))
-      (λ t. (omega (arith, h .0), h .1, λ k q f. last-or-before k n q (λ z. h .2 k z f) (λ e. omega (arith, ltb-false (getD l n 0) (getD l b 0) t, word-at e))))
-
-  least : (n : ℕ) → Least n (leastBy l bound n)
-  unfolding leastBy betterOf
-  least zero = λ k b. absurd (omega arith)
-  least (suc n) =
-      pick-elim (Least (suc n)) (ltb (getD l n 0) bound) (leastBy l bound n) (lower l n (leastBy l bound n))
-      (λ t. too-low n (leastBy l bound n) (ltb-true (getD l n 0) bound t) (least n)) (λ t. one-more n (leastBy l bound n) (ltb-false (getD l n 0) bound t) (least n))
+-- the words at one place
+word-at : (l : List ℕ) {j k : ℕ} → j ≡ k → getD l j 0 ≡ getD l k 0
+word-at l e = ap (λ (x : ℕ). getD l x 0) e
 
 -- how many of the first n words are not below the bound
 unfoldable left : List ℕ → ℕ → ℕ → ℕ
@@ -73,7 +49,7 @@ module _ (l : List ℕ) where
   left-some bound zero k b h = absurd (omega arith)
   left-some bound (suc n) k b h =
       pick-elim (λ (x : ℕ). 0 < x) (ltb (getD l n 0) bound) (left l bound n) (left l bound n + 1)
-      (λ t. last-or-before k n b (λ z. left-some bound n k z h) (λ e. absurd (omega (arith, h, ltb-true (getD l n 0) bound t, word-at l bound e))))
+      (λ t. last-or-before k n b (λ z. left-some bound n k z h) (λ e. absurd (omega (arith, h, ltb-true (getD l n 0) bound t, word-at l e))))
       (λ _. omega arith)
 
   module _ (low high : ℕ) (order : low ≤ high) where
@@ -93,8 +69,8 @@ module _ (l : List ℕ) where
         (λ y. by-test (ltb (getD l n 0) low)
         (λ t. by-test (ltb (getD l n 0) high) (λ u. rw (t, u) (left-drops n b y f g)) (λ u. absurd (omega (arith, order, ltb-true (getD l n 0) low t, ltb-false (getD l n 0) high u))))
         (λ t. by-test (ltb (getD l n 0) high) (λ u. rw (t, u) (omega (arith, left-drops n b y f g))) (λ u. rw (t, u) (omega (arith, left-drops n b y f g)))))
-        (λ e. let t : ltb (getD l n 0) low ≡ false = le-ltb (getD l n 0) low (omega (arith, f, word-at l low e)) in
-        let u : ltb (getD l n 0) high ≡ true = lt-ltb (getD l n 0) high (omega (arith, g, word-at l low e)) in
+        (λ e. let t : ltb (getD l n 0) low ≡ false = le-ltb (getD l n 0) low (omega (arith, f, word-at l e)) in
+        let u : ltb (getD l n 0) high ≡ true = lt-ltb (getD l n 0) high (omega (arith, g, word-at l e)) in
         rw (t, u) (omega (arith, left-fewer n)))
 
 -- in the second of two lists

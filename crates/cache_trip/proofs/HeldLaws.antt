@@ -17,18 +17,17 @@ use Rattle.schema.proofs.BoolLaws.{left, right, both, by-test}
 use Rattle.interaction_writer.specs.Spelling.{Each}
 use Rattle.interaction_writer.specs.Block.{Block}
 use Rattle.round_trip.specs.Meant.{reportOctets}
-use Rattle.cached.specs.declared.Cached.{Cached}
-use Rattle.cached.specs.Entries.{Entry, lookup}
-use Rattle.cache_part.specs.declared.block.Item.{Item}
-use Rattle.cache_part.specs.declared.block.Fate.{Fate}
-use Rattle.cache_part.specs.declared.block.Fate.the-variants.{Taken, Long, Unusable}
-use Rattle.cache_part.specs.declared.entry.Spot.{Spot}
-use Rattle.cache_part.specs.declared.entry.Spot.the-variants as spot
-use Rattle.cache_part.specs.Entry.{spotOf, spotNumber, heldAt, heldFor, numberFor, worse, pageAt, pageFor}
-use Rattle.cache_part.specs.declared.entry.Judged.{Judged}
-use Rattle.cache_part.specs.Part.{blocksIn, fateIn, judgedNext, judgedAll, heldAll, pageAll}
-use Rattle.cache_laws.proofs.RightLaws.{ItemRight, Good, item-right, block-right}
-use Rattle.cache_laws.proofs.MapLaws.{set-same, set-other}
+use Rattle.cache_entries.specs.declared.Cached.{Cached}
+use Rattle.cache_entries.specs.Entries.{Entry, lookup}
+use Rattle.cache_report.specs.declared.block.Item.{Item}
+use Rattle.cache_report.specs.declared.block.Fate.{Fate}
+use Rattle.cache_report.specs.declared.block.Fate.the-variants.{Taken, Long, Unusable}
+use Rattle.cache_report.specs.declared.spot.Spot.{Spot}
+use Rattle.cache_report.specs.declared.spot.Spot.the-variants as spot
+use Rattle.cache_report.specs.Entry.{spotOf, spotNumber, heldAt, heldFor, numberFor, worse, pageAt, pageFor}
+use Rattle.cache_report.specs.Part.{Judged, blocksIn, fateIn, judgedNext, judgedAll, heldAll, pageAll}
+use Rattle.cache_report.proofs.RightLaws.{ItemRight, Good, item-right, block-right}
+use Rattle.cache_report.proofs.MapLaws.{set-same, set-other}
 use Rattle.cache_trip.specs.Taken.{Sent, TakenAs, InStep}
 use Rattle.cache_trip.specs.Held.{holding, samePath, after}
 use Rattle.cache_trip.proofs.ReceivedLaws.{six-first, six-last}
@@ -40,7 +39,7 @@ RoomFor s c [] = Unit {0}
 RoomFor s c (r ∷ m) = (numberFor c (fateIn s r) ≡ 0) × RoomFor s (heldFor c (fateIn s r)) m
 
 module _ (s : List ℕ) (e cl a : ℕ) (fe : e < 2 ^ 16) (fl : cl < 2 ^ 32) (fa : a < 2 ^ 32) where
-  spot-after : (c : Cached) (page : List ℕ) → Good page c → (x : Item) → ItemRight s x → (p : Spot) → spotOf c x ≡ p → spotNumber p ≡ 0 → lookup (heldAt c x p) (pageAt s page x p) e cl a ≡ pick (samePath (x .endpoint) (x .cluster) (x .attribute) e cl a) (holding (x .version) (datumIn s (x .value))) (lookup c page e cl a)
+  spot-after : (c : Cached) (page : List ℕ) → Good page c → (x : Item) → ItemRight s x → (p : Spot) → spotOf c x ≡ p → spotNumber p ≡ 0 → lookup (heldAt c x p) (pageAt s c page x p) e cl a ≡ pick (samePath (x .endpoint) (x .cluster) (x .attribute) e cl a) (holding (x .version) (datumIn s (x .value))) (lookup c page e cl a)
   spot-after c page g x item spot.Full q n = absurd (omega (arith, n))
   spot-after c page g x item (spot.At k i) q n = pick-elim (λ (o : Opt Entry). lookup held texts e cl a ≡ o) (samePath (x .endpoint) (x .cluster) (x .attribute) e cl a) (holding (x .version) (datumIn s (x .value))) (lookup c page e cl a)
       (λ t. let rest : (eqb (x .cluster) cl && eqb (x .attribute) a) ≡ true = right (eqb (x .endpoint) e) _ t in
@@ -52,7 +51,7 @@ module _ (s : List ℕ) (e cl a : ℕ) (fe : e < 2 ^ 16) (fl : cl < 2 ^ 32) (fa 
       held = heldAt c x (spot.At k i)
 
       texts : List ℕ
-      texts = pageAt s page x (spot.At k i)
+      texts = pageAt s c page x (spot.At k i)
 
   -- ONE BLOCK
   pub block-held : (c : Cached) (page : List ℕ) → Good page c → (version e′ cl′ a′ : ℕ) (d : Datum) (r : ReportOf ℕ) → TakenAs s (Block.value version e′ cl′ a′ d) r → numberFor c (fateIn s r) ≡ 0 → lookup (heldFor c (fateIn s r)) (pageFor s c page (fateIn s r)) e cl a ≡ pick (samePath e′ cl′ a′ e cl a) (holding version d) (lookup c page e cl a)

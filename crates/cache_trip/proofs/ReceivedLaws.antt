@@ -26,20 +26,19 @@ use Rattle.round_trip.specs.Meant.{reportOctets, Outcome, OutcomeFits, outcomeT
 use Rattle.exchange.specs.Rules.{reportOpcode, writeResponseOpcode, maxTurn}
 use Rattle.envelope.specs.Envelope.{maxMessage}
 use Rattle.envelope.proofs.BigLaws.{envelope-read}
-use Rattle.cached.specs.declared.Cached.{Cached}
-use Rattle.cached.specs.Valid.{heldRight}
-use Rattle.cache_part.specs.declared.block.Item.{Item}
-use Rattle.cache_part.specs.declared.block.Fate.the-variants.{Taken}
-use Rattle.cache_part.specs.declared.entry.Spot.{Spot}
-use Rattle.cache_part.specs.declared.entry.Spot.the-variants.{At, Full}
-use Rattle.cache_part.specs.declared.entry.Judged.{Judged}
-use Rattle.cache_part.specs.Entry.{spotOf, spotNumber, numberFor, worse}
-use Rattle.cache_part.specs.Part.{blocksIn, fateIn, judgedNext, judgedAll, heldAll, pageAll}
-use Rattle.cache.specs.declared.State.{State}
-use Rattle.cache.specs.State.{reading, writing, isOpen, askedRight, panelRight}
-use Rattle.cache.specs.Reaction.{Reaction, refusal, unsent}
+use Rattle.cache_entries.specs.declared.Cached.{Cached}
+use Rattle.cache_entries.specs.Valid.{heldRight}
+use Rattle.cache_report.specs.declared.block.Item.{Item}
+use Rattle.cache_report.specs.declared.block.Fate.the-variants.{Taken}
+use Rattle.cache_report.specs.declared.spot.Spot.{Spot}
+use Rattle.cache_report.specs.declared.spot.Spot.the-variants.{At, Full}
+use Rattle.cache_report.specs.Part.{Judged, blocksIn, fateIn, judgedNext, judgedAll, heldAll, pageAll}
+use Rattle.cache_report.specs.Entry.{spotOf, spotNumber, numberFor, worse}
+use Rattle.cache_state.specs.declared.State.{State}
+use Rattle.cache_state.specs.State.{reading, writing, isOpen, askedRight, panelRight}
+use Rattle.cache_state.specs.Reaction.{Reaction, refusal, unsent}
 use Rattle.cache_receive.specs.Receive.{forCache, opcodeAwaited, awaited, byAnswer, goesOn, ends, pastTurns, partTaken, takesPart, takes, received}
-use Rattle.cache_receive.proofs.ReceiveLaws.{taken-as}
+use Rattle.cache_laws.proofs.ReceiveLaws.{taken-as}
 use Rattle.cache_trip.specs.Taken.{Sent, TakenAs, InStep, anyStatus, OfPath, endedBy}
 use Rattle.cache_trip.proofs.BeginLaws.{after-envelope}
 use Rattle.cache_trip.proofs.TakenLaws.{report-taken}

@@ -29,10 +29,12 @@ use Rattle.interaction_writer.proofs.SpellingLaws.{datum-back}
 use Rattle.round_trip.specs.Meant.{reportOctets}
 use Rattle.round_trip.proofs.BackLaws.{report-back}
 use Rattle.round_trip.proofs.ReaderLaws.{through}
-use Rattle.cached.specs.Limits.{textSize}
-use Rattle.cache_part.specs.declared.block.Fate.the-variants.{Taken}
-use Rattle.cache_part.specs.Block.{concreteP, insideUsable, usableIn, longV, itemOf, fateBy, fateOf}
-use Rattle.cache_part.specs.Part.{blocksIn}
+use Rattle.cache_entries.specs.Limits.{textSize}
+use Rattle.cache_report.specs.declared.block.Fate.the-variants.{Taken}
+use Rattle.interaction_report.specs.Kept.{concreteP}
+use Rattle.cache_entries.specs.Values.{insideUsable, usableIn, longV}
+use Rattle.cache_report.specs.Block.{itemOf, fateBy, fateOf}
+use Rattle.cache_report.specs.Part.{blocksIn}
 use Rattle.cache_trip.specs.Taken.{Takable, Sent, TakenAs, InStep}
 use Rattle.cache_trip.proofs.EachLaws.{in-step}
 use Rattle.cache_trip.proofs.ByteLaws.{all-fit, report-bytes}

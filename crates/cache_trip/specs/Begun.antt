@@ -2,9 +2,9 @@
 use mathlib.Core.Path.{_≡_}
 use mathlib.Core.Bool.{Bool}
 use mathlib.Core.List.{List}
-use Prim.Native.Nat.{ℕ, _+_, _^_, _≤_, _<_}
-use lib.ListN.{getD, drop}
-use Rattle.bounds.specs.Bounds.{versionLimit, maxFilters}
+use Prim.Native.Nat.{ℕ, _+_, _≤_}
+use lib.ListN.{drop}
+use Rattle.bounds.specs.Bounds.{maxFilters}
 use Rattle.tlv.specs.Value.{Datum, valueIn, datumIn}
 use Rattle.interaction.specs.Read.{readIn, readRead}
 use Rattle.interaction_write.specs.Write.{writeIn, writeRead}
@@ -14,13 +14,12 @@ use Rattle.interaction_writer.specs.Envelope.{panelEdition}
 use Rattle.envelope.specs.declared.Envelope.{Envelope}
 use Rattle.envelope.specs.declared.Envelope.the-variants.{Whole}
 use Rattle.envelope.specs.Envelope.{envelopeIn, envelopeLength}
-use Rattle.cached.specs.declared.Cached.{Cached}
-use Rattle.cache_request.specs.Filters.{filtersOf}
-use Rattle.cache.specs.declared.State.{State}
+use Rattle.cache_entries.specs.declared.Cached.{Cached}
+use Rattle.cache_messages.specs.Filters.{filtersOf}
+use Rattle.cache_state.specs.declared.State.{State}
 
--- versions of 32 bits, and no more clusters than a read may have filters
+-- no more clusters than a read may have filters
 pub record Sendable (c : Cached) : Type 0 where
-  pub versions : (i : ℕ) → getD (c .versions) i 0 < versionLimit
   pub clusters : c .«cluster_count» ≤ maxFilters
 
 abbrev pub envelopeAs : ℕ → ℕ → ℕ → ℕ → Envelope

@@ -5,10 +5,10 @@ use Prim.Native.Nat.{ℕ, _+_, _≤_, _<_}
 use lib.ListN.{getD}
 use Rattle.tlv.specs.Decode.Opt.{just}
 use Rattle.interaction.specs.declared.Wanted.{Wanted}
-use Rattle.cached.specs.declared.Cached.{Cached}
-use Rattle.cached.specs.Entries.{clusterWord}
-use Rattle.cached.specs.Coherent.{coherentAt}
-use Rattle.cache_request.specs.Filters.{wantedAs}
+use Rattle.cache_entries.specs.declared.Cached.{Cached}
+use Rattle.cache_entries.specs.Entries.{clusterWord}
+use Rattle.cache_entries.specs.Coherent.{coherentAt}
+use Rattle.cache_messages.specs.Filters.{wantedAs}
 
 -- a filter for a cluster that the panel has entries of, at the version at which it is coherent
 pub record FilterOf (c : Cached) (f : Wanted) : Type 0 where

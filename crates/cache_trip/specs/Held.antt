@@ -7,7 +7,7 @@ use Rattle.tlv.specs.Octet.{pick}
 use Rattle.tlv.specs.Value.{Datum}
 use Rattle.tlv.specs.Decode.{Opt}
 use Rattle.tlv.specs.Decode.Opt.{just}
-use Rattle.cached.specs.Entries.{Entry}
+use Rattle.cache_entries.specs.Entries.{Entry}
 use Rattle.interaction_writer.specs.Block.{Block, value, status}
 
 -- an entry with this version and this value

@@ -10,15 +10,14 @@ use Rattle.blocks.specs.Data.{ReportOf}
 use Rattle.interaction_writer.specs.Block.{Block, value, status}
 use Rattle.interaction_writer.specs.Meaning.{Fits}
 use Rattle.round_trip.specs.Meant.{Outcome}
-use Rattle.cached.specs.Limits.{textSize}
-use Rattle.cache_part.specs.declared.block.Item.{Item}
-use Rattle.cache_part.specs.declared.block.Fate.the-variants.{Taken, Unusable}
-use Rattle.cache_part.specs.Part.{fateIn}
-use Rattle.cache.specs.declared.Request.{Request}
-use Rattle.cache.specs.declared.State.{State}
-use Rattle.cache.specs.declared.Outcome as cache
-use Rattle.cache.specs.State.{withStatus}
-use Rattle.cache.specs.Reaction.{quiet}
+use Rattle.cache_entries.specs.Limits.{textSize}
+use Rattle.cache_report.specs.declared.block.Item.{Item}
+use Rattle.cache_report.specs.declared.block.Fate.the-variants.{Taken, Unusable}
+use Rattle.cache_report.specs.Part.{fateIn}
+use Rattle.cache_state.specs.declared.Request.{Request}
+use Rattle.cache_state.specs.declared.State.{State}
+use Rattle.cache_state.specs.State.{withStatus}
+use Rattle.cache_state.specs.Reaction.{Silent, quiet}
 use Rattle.cache_receive.specs.Receive.{endedAs}
 
 -- null or of the five kinds; a text is UTF-8 and has at most 200 bytes
@@ -70,5 +69,5 @@ pub record OfPath (x : Request) (o : Outcome) : Type 0 where
   pub same-attribute : x .attribute ≡ o .attribute
 
 -- the newest request ended with this status; the panel is done with the exchange and sends nothing
-abbrev pub endedBy : State → ℕ → cache.Outcome
+abbrev pub endedBy : State → ℕ → Silent
 endedBy s code = quiet 1 (record { held = s .held; asked = endedAs (s .asked) withStatus code })

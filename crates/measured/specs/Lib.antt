@@ -1,3 +1,2 @@
 pub mod Sign
-pub mod Messages
 pub mod Calls

@@ -106,7 +106,7 @@ pub extern "C" fn sign_receive<'a>(
 }
 
 // A value by its code: 1 boolean, 2 unsigned, 3 signed, 4 float, 5 the text, any other null.
-fn given_value(code: u8, word: u64, len: usize) -> Value
+pub fn given_value(code: u8, word: u64, len: usize) -> Value
     ensures { λ r. ⌜ r ≡ givenValue code word len ⌝ }
 {
     if code == 1 {

@@ -24,7 +24,6 @@ use selection::request::ROW_WORDS;
 use values::valid::values_ok;
 
 pub mod calls; // calls.rt: the calls of a sign
-pub mod messages; // messages.rt: messages that stand one after the other
 
 // Where a part ends in the buffer, where the read goes on, and whether more is promised.
 #[repr(C)]

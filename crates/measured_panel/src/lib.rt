@@ -1,158 +1,242 @@
-// What a program in C or Rust links to measure a panel: the test of refusal 2 on what it holds, and a read begun and messages taken, each by the call that a user makes.
+// What a program in C or Rust links to measure a panel: its calls over memory that the program owns, and the test of refusal 2 alone.
 ghost use mathlib.Core.Path.{_≡_};
-ghost use Rattle.cached.specs.Valid.{heldRight};
-ghost use Rattle.measured_panel.specs.Run.{holding, idle, panelOf, run, Ran};
-use cache::Outcome;
-use cache::State;
-use cache::begin::begin_read;
-use cache::begin::fresh;
+ghost use mathlib.Core.Bool.{_&&_};
+ghost use mathlib.Core.List.{List};
+ghost use Prim.Native.Nat.{ℕ};
+ghost use lib.ListN.{length, replicate};
+ghost use Rattle.cache_state.specs.State.{panelRight};
+ghost use Rattle.cache_state.specs.Words.{askedSize, wordsRight, stateIn};
+ghost use Rattle.cache_state.specs.Begin.{fresh, beginsRead, beginsWrite, resends};
+ghost use Rattle.cache_state.specs.Reaction.{ofPanel, Reacted};
+ghost use Rattle.cache_receive.specs.Receive.{received};
+ghost use Rattle.measured.specs.Calls.{givenValue};
+ghost use Rattle.measured_panel.specs.Calls.{outcomeOf};
+use cache_entries::CLUSTERS;
+use cache_entries::ENTRIES;
+use cache_entries::ORDER_SIZE;
+use cache_entries::TEXT_PLACES;
 use cache_receive::receive;
-use cached::CLUSTERS;
-use cached::Cached;
-use cached::ENTRIES;
-use cached::valid::held_ok;
-use measured::messages::between;
+use cache_state::ASKED_WORDS;
+use cache_state::Outcome;
+use cache_state::begin::begin_read;
+use cache_state::begin::begin_write;
+use cache_state::begin::fresh;
+use cache_state::begin::resend;
+use cache_state::panel_ok;
+use cache_state::words::read_standing;
+use envelope::MAX_MESSAGE;
+use measured::calls::Last;
+use measured::calls::given_value;
 
-// What was answered last, and what the panel holds then.
-#[repr(C)]
-pub struct Panel {
-    pub number: u8,
-    pub len: usize,
-    pub primed: bool,
-    pub cluster_count: usize,
-    pub count: usize,
-    pub clusters: [u64; CLUSTERS],
-    pub keys: [u64; ENTRIES],
-    pub versions: [u32; ENTRIES],
-    pub kinds: [u8; ENTRIES],
-    pub words: [u64; ENTRIES],
-}
-
-// What a panel holds, from its columns.
-fn holding<'a>(
-    clusters: &'a [u64; CLUSTERS],
-    cluster_count: usize,
-    keys: &'a [u64; ENTRIES],
-    versions: &'a [u32; ENTRIES],
-    kinds: &'a [u8; ENTRIES],
-    words: &'a [u64; ENTRIES],
-    count: usize,
-    primed: bool,
-) -> Cached
-    ensures { λ r. ⌜ r ≡ holding (now (clusters .entry)) «cluster_count» (now (keys .entry)) (now (versions .entry)) (now (kinds .entry)) (now (words .entry)) count primed ⌝ }
+fn last(o: Outcome) -> Last
+    ensures { λ r. ⌜ outcomeOf r ≡ o ⌝ }
 {
-    Cached {
-        clusters: *clusters,
-        cluster_count,
-        keys: *keys,
-        versions: *versions,
-        kinds: *kinds,
-        words: *words,
-        count,
-        primed,
-    }
-}
-
-// Whether what a panel holds keeps the rules.
-#[no_mangle]
-pub extern "C" fn panel_valid<'a>(
-    page: &'a [u8],
-    clusters: &'a [u64; CLUSTERS],
-    cluster_count: usize,
-    keys: &'a [u64; ENTRIES],
-    versions: &'a [u32; ENTRIES],
-    kinds: &'a [u8; ENTRIES],
-    words: &'a [u64; ENTRIES],
-    count: usize,
-    primed: bool,
-) -> bool
-    ensures { λ r. ⌜ r ≡ heldRight (now (page .entry)) (holding (now (clusters .entry)) «cluster_count» (now (keys .entry)) (now (versions .entry)) (now (kinds .entry)) (now (words .entry)) count primed) ⌝ }
-{
-    let held = holding(
-        clusters,
-        cluster_count,
-        keys,
-        versions,
-        kinds,
-        words,
-        count,
-        primed,
-    );
-    held_ok(page, held)
-}
-
-// A panel that holds this and has asked nothing yet.
-fn idle(held: Cached) -> State
-    ensures { λ r. ⌜ r ≡ idle held ⌝ }
-{
-    let new = fresh();
-    let asked = new.asked;
-    State { held, asked }
-}
-
-// What was answered, beside what is held.
-fn panel_of(o: Outcome) -> Panel
-    ensures { λ r. ⌜ r ≡ panelOf o ⌝ }
-{
-    let state = o.state;
-    let held = state.held;
-    let clusters = held.clusters;
-    let keys = held.keys;
-    let versions = held.versions;
-    let kinds = held.kinds;
-    let words = held.words;
-    Panel {
+    Last {
         number: o.number,
         len: o.len,
-        primed: held.primed,
-        cluster_count: held.cluster_count,
-        count: held.count,
-        clusters,
-        keys,
-        versions,
-        kinds,
-        words,
     }
 }
 
-// Such a panel begins a read, and is given the messages one after the other.
 #[no_mangle]
-pub extern "C" fn panel_run<'a>(
-    page: &mut [u8],
-    clusters: &'a [u64; CLUSTERS],
-    cluster_count: usize,
-    keys: &'a [u64; ENTRIES],
-    versions: &'a [u32; ENTRIES],
-    kinds: &'a [u8; ENTRIES],
-    words: &'a [u64; ENTRIES],
-    count: usize,
-    primed: bool,
-    messages: &'a [u8],
-    ends: &'a [usize],
-    out: &mut [u8],
-) -> Panel
-    ensures { λ r. ⌜ Ran (run (now (page .entry)) (holding (now (clusters .entry)) «cluster_count» (now (keys .entry)) (now (versions .entry)) (now (kinds .entry)) (now (words .entry)) count primed) (now (out .entry)) (now (messages .entry)) (now (ends .entry))) r (now (page .exit)) (now (out .exit)) ⌝ }
+pub extern "C" fn panel_fresh(
+    clusters: &mut [u64; CLUSTERS],
+    keys: &mut [u64; ENTRIES],
+    versions: &mut [u64; ENTRIES],
+    kinds: &mut [u8; ENTRIES],
+    words: &mut [u64; ENTRIES],
+    order: &mut [u8; ORDER_SIZE],
+    lengths: &mut [u16; TEXT_PLACES],
+    asked: &mut [u64; ASKED_WORDS],
+    kept: &mut [u8; MAX_MESSAGE],
+)
+    ensures { λ _. ⌜ (stateIn (now (clusters .exit)) (now (keys .exit)) (now (versions .exit)) (now (kinds .exit)) (now (words .exit)) (now (order .exit)) (now (lengths .exit)) (now (asked .exit)) (now (kept .exit)) ≡ fresh) × (now (asked .exit) ≡ replicate askedSize 0) ⌝ }
 {
-    let held = holding(
+    fresh(
         clusters,
-        cluster_count,
         keys,
         versions,
         kinds,
         words,
-        count,
-        primed,
+        order,
+        lengths,
+        asked,
+        kept,
+    )
+}
+
+// Whether what is lent is a panel that keeps the rules.
+#[no_mangle]
+pub extern "C" fn panel_right<'a>(
+    page: &'a [u8],
+    clusters: &'a [u64; CLUSTERS],
+    keys: &'a [u64; ENTRIES],
+    versions: &'a [u64; ENTRIES],
+    kinds: &'a [u8; ENTRIES],
+    words: &'a [u64; ENTRIES],
+    order: &'a [u8; ORDER_SIZE],
+    lengths: &'a [u16; TEXT_PLACES],
+    asked: &'a [u64; ASKED_WORDS],
+) -> bool
+    ensures { λ r. ⌜ ((kept : List ℕ) → r ≡ (wordsRight (now (asked .entry)) && panelRight (now (page .entry)) (stateIn (now (clusters .entry)) (now (keys .entry)) (now (versions .entry)) (now (kinds .entry)) (now (words .entry)) (now (order .entry)) (now (lengths .entry)) (now (asked .entry)) kept))) ⌝ }
+{
+    let t = read_standing(asked);
+    panel_ok(
+        page,
+        clusters,
+        keys,
+        versions,
+        kinds,
+        words,
+        order,
+        lengths,
+        asked,
+        t,
+    )
+}
+
+#[no_mangle]
+pub extern "C" fn panel_begin_read<'a>(
+    page: &'a [u8],
+    clusters: &'a [u64; CLUSTERS],
+    keys: &'a [u64; ENTRIES],
+    versions: &'a [u64; ENTRIES],
+    kinds: &'a [u8; ENTRIES],
+    words: &'a [u64; ENTRIES],
+    order: &'a [u8; ORDER_SIZE],
+    lengths: &'a [u16; TEXT_PLACES],
+    asked: &mut [u64; ASKED_WORDS],
+    kept: &mut [u8; MAX_MESSAGE],
+    out: &mut [u8],
+) -> Last
+    ensures { λ r. ⌜ Reacted (ofPanel (now (asked .entry)) (now (page .entry)) (stateIn (now (clusters .entry)) (now (keys .entry)) (now (versions .entry)) (now (kinds .entry)) (now (words .entry)) (now (order .entry)) (now (lengths .entry)) (now (asked .entry)) (now (kept .entry))) (beginsRead (now (page .entry)) (stateIn (now (clusters .entry)) (now (keys .entry)) (now (versions .entry)) (now (kinds .entry)) (now (words .entry)) (now (order .entry)) (now (lengths .entry)) (now (asked .entry)) (now (kept .entry))) (length (now (out .entry))))) (outcomeOf r) (stateIn (now (clusters .entry)) (now (keys .entry)) (now (versions .entry)) (now (kinds .entry)) (now (words .entry)) (now (order .entry)) (now (lengths .entry)) (now (asked .exit)) (now (kept .exit))) (now (asked .entry)) (now (asked .exit)) (now (page .entry)) (now (out .entry)) (now (out .exit)) ⌝ }
+{
+    let o = begin_read(
+        page,
+        clusters,
+        keys,
+        versions,
+        kinds,
+        words,
+        order,
+        lengths,
+        asked,
+        kept,
+        out,
     );
-    let mut o = begin_read(page, idle(held), out);
-    let mut from = 0;
-    let mut i = 0;
-    while i < ends.len() {
-        let end = ends[i];
-        let m = between(messages, from, end);
-        let s = o.state;
-        o = receive(page, s, m, out);
-        from = end;
-        i += 1;
-    }
-    panel_of(o)
+    last(o)
+}
+
+// A write of a value by its code, as `measured::calls` has them; `given` where the version is.
+#[no_mangle]
+pub extern "C" fn panel_begin_write<'a>(
+    page: &'a [u8],
+    clusters: &'a [u64; CLUSTERS],
+    keys: &'a [u64; ENTRIES],
+    versions: &'a [u64; ENTRIES],
+    kinds: &'a [u8; ENTRIES],
+    words: &'a [u64; ENTRIES],
+    order: &'a [u8; ORDER_SIZE],
+    lengths: &'a [u16; TEXT_PLACES],
+    asked: &mut [u64; ASKED_WORDS],
+    kept: &mut [u8; MAX_MESSAGE],
+    endpoint: u16,
+    cluster: u32,
+    attribute: u32,
+    given: bool,
+    version: u32,
+    code: u8,
+    word: u64,
+    text: &'a [u8],
+    out: &mut [u8],
+) -> Last
+    ensures { λ r. ⌜ Reacted (ofPanel (now (asked .entry)) (now (page .entry)) (stateIn (now (clusters .entry)) (now (keys .entry)) (now (versions .entry)) (now (kinds .entry)) (now (words .entry)) (now (order .entry)) (now (lengths .entry)) (now (asked .entry)) (now (kept .entry))) (beginsWrite (now (page .entry)) (stateIn (now (clusters .entry)) (now (keys .entry)) (now (versions .entry)) (now (kinds .entry)) (now (words .entry)) (now (order .entry)) (now (lengths .entry)) (now (asked .entry)) (now (kept .entry))) endpoint cluster attribute given version (now (text .entry)) (givenValue code word (length (now (text .entry)))) (length (now (out .entry))))) (outcomeOf r) (stateIn (now (clusters .entry)) (now (keys .entry)) (now (versions .entry)) (now (kinds .entry)) (now (words .entry)) (now (order .entry)) (now (lengths .entry)) (now (asked .exit)) (now (kept .exit))) (now (asked .entry)) (now (asked .exit)) (now (page .entry)) (now (out .entry)) (now (out .exit)) ⌝ }
+{
+    let new = given_value(code, word, text.len());
+    let o = begin_write(
+        page,
+        clusters,
+        keys,
+        versions,
+        kinds,
+        words,
+        order,
+        lengths,
+        asked,
+        kept,
+        endpoint,
+        cluster,
+        attribute,
+        given,
+        version,
+        new,
+        text,
+        out,
+    );
+    last(o)
+}
+
+#[no_mangle]
+pub extern "C" fn panel_resend<'a>(
+    page: &'a [u8],
+    clusters: &'a [u64; CLUSTERS],
+    keys: &'a [u64; ENTRIES],
+    versions: &'a [u64; ENTRIES],
+    kinds: &'a [u8; ENTRIES],
+    words: &'a [u64; ENTRIES],
+    order: &'a [u8; ORDER_SIZE],
+    lengths: &'a [u16; TEXT_PLACES],
+    asked: &'a [u64; ASKED_WORDS],
+    kept: &'a [u8; MAX_MESSAGE],
+    out: &mut [u8],
+) -> Last
+    ensures { λ r. ⌜ Reacted (ofPanel (now (asked .entry)) (now (page .entry)) (stateIn (now (clusters .entry)) (now (keys .entry)) (now (versions .entry)) (now (kinds .entry)) (now (words .entry)) (now (order .entry)) (now (lengths .entry)) (now (asked .entry)) (now (kept .entry))) (resends (now (page .entry)) (stateIn (now (clusters .entry)) (now (keys .entry)) (now (versions .entry)) (now (kinds .entry)) (now (words .entry)) (now (order .entry)) (now (lengths .entry)) (now (asked .entry)) (now (kept .entry))) (length (now (out .entry))))) (outcomeOf r) (stateIn (now (clusters .entry)) (now (keys .entry)) (now (versions .entry)) (now (kinds .entry)) (now (words .entry)) (now (order .entry)) (now (lengths .entry)) (now (asked .entry)) (now (kept .entry))) (now (asked .entry)) (now (asked .entry)) (now (page .entry)) (now (out .entry)) (now (out .exit)) ⌝ }
+{
+    let o = resend(
+        page,
+        clusters,
+        keys,
+        versions,
+        kinds,
+        words,
+        order,
+        lengths,
+        asked,
+        kept,
+        out,
+    );
+    last(o)
+}
+
+#[no_mangle]
+pub extern "C" fn panel_receive<'a>(
+    page: &mut [u8],
+    clusters: &mut [u64; CLUSTERS],
+    keys: &mut [u64; ENTRIES],
+    versions: &mut [u64; ENTRIES],
+    kinds: &mut [u8; ENTRIES],
+    words: &mut [u64; ENTRIES],
+    order: &mut [u8; ORDER_SIZE],
+    lengths: &mut [u16; TEXT_PLACES],
+    asked: &mut [u64; ASKED_WORDS],
+    kept: &mut [u8; MAX_MESSAGE],
+    message: &'a [u8],
+    out: &mut [u8],
+) -> Last
+    ensures { λ r. ⌜ Reacted (ofPanel (now (asked .entry)) (now (page .entry)) (stateIn (now (clusters .entry)) (now (keys .entry)) (now (versions .entry)) (now (kinds .entry)) (now (words .entry)) (now (order .entry)) (now (lengths .entry)) (now (asked .entry)) (now (kept .entry))) (received (now (page .entry)) (stateIn (now (clusters .entry)) (now (keys .entry)) (now (versions .entry)) (now (kinds .entry)) (now (words .entry)) (now (order .entry)) (now (lengths .entry)) (now (asked .entry)) (now (kept .entry))) (now (message .entry)) (length (now (out .entry))))) (outcomeOf r) (stateIn (now (clusters .exit)) (now (keys .exit)) (now (versions .exit)) (now (kinds .exit)) (now (words .exit)) (now (order .exit)) (now (lengths .exit)) (now (asked .exit)) (now (kept .exit))) (now (asked .entry)) (now (asked .exit)) (now (page .exit)) (now (out .entry)) (now (out .exit)) ⌝ }
+{
+    let o = receive(
+        page,
+        clusters,
+        keys,
+        versions,
+        kinds,
+        words,
+        order,
+        lengths,
+        asked,
+        kept,
+        message,
+        out,
+    );
+    last(o)
 }

@@ -11,10 +11,10 @@ use Rattle.schema.specs.declared.Found.{Found}
 use Rattle.schema.specs.declared.Found.the-variants as found
 use Rattle.schema.proofs.SearchLaws as Search
 use Rattle.schema.proofs.BoolLaws.{by-test}
-use Rattle.cached.specs.declared.set.Placed.the-variants.{Here}
-use Rattle.cached.specs.Entries.{wordAt}
-use Rattle.cached.specs.Set.{placeFor, countWith}
-use Rattle.cached.proofs.SetLaws.{placed-below, placed-next, counted-other}
+use Rattle.cache_entries.specs.declared.set.Placed.the-variants.{Here}
+use Rattle.ordered.specs.Order.{wordAt}
+use Rattle.cache_entries.specs.Set.{placeFor, countWith}
+use Rattle.cache_entries.proofs.SetLaws.{placed-below, placed-next, counted-other}
 
 abbrev pub Once : List ℕ → ℕ → Type 0
 Once l n = (i j : ℕ) → i < n → j < n → getD l i 0 ≡ getD l j 0 → i ≡ j

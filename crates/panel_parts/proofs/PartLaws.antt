@@ -17,14 +17,14 @@ use Rattle.schema.proofs.BoolLaws.{left, right, both, by-test}
 use Rattle.schema.proofs.PathLaws.{one-path}
 use Rattle.interaction_writer.specs.Spelling.{Each}
 use Rattle.interaction_writer.specs.Meaning.{Fits}
-use Rattle.cached.specs.declared.Cached.{Cached}
-use Rattle.cached.specs.Entries as cached
-use Rattle.cached.specs.Entries.{lookup}
-use Rattle.cache_part.specs.declared.block.Item.{Item}
-use Rattle.cache_part.specs.declared.block.Fate.{Fate}
-use Rattle.cache_part.specs.Entry.{spotOf, heldFor, numberFor, pageFor, worse}
-use Rattle.cache_part.specs.Part.{blocksIn, fateIn, judgedAll, heldAll, pageAll}
-use Rattle.cache_laws.proofs.RightLaws.{Good, block-right}
+use Rattle.cache_entries.specs.declared.Cached.{Cached}
+use Rattle.cache_entries.specs.Entries as cached
+use Rattle.cache_entries.specs.Entries.{lookup}
+use Rattle.cache_report.specs.declared.block.Item.{Item}
+use Rattle.cache_report.specs.declared.block.Fate.{Fate}
+use Rattle.cache_report.specs.Entry.{spotOf, heldFor, numberFor, pageFor, worse}
+use Rattle.cache_report.specs.Part.{blocksIn, fateIn, judgedAll, heldAll, pageAll}
+use Rattle.cache_report.proofs.RightLaws.{Good, block-right}
 use Rattle.cache_trip.specs.Exact.{Distinct}
 use Rattle.cache_trip.specs.Taken.{Sent, TakenAs, Says, InStep}
 use Rattle.cache_trip.specs.Held.{holding, samePath}
@@ -138,7 +138,6 @@ module _ (w : List ℕ) (rules : Rules w) (s : List ℕ) where
       clusters-once = block-once .0;
       keys-once = block-once .1;
       cluster-rows = block-once .2;
-      versions-fit = block-right s page c good (reportStruct r) .whole .small;
       right = right-next;
       has = has-next;
       only = only-next;

@@ -3,7 +3,7 @@ use mathlib.Core.Path.{_≡_, refl, sym, ap, subst, _∙_}
 use mathlib.Core.List.{List}
 use Prim.Native.Nat.{ℕ, _/_, _%_, _<_}
 use native.Mathlib.Omega.{arith}
-use borrow.Author.Tests.{eqb-true, eqb-false, ltb-true, lt-ltb}
+use borrow.Author.Tests.{eqb-true, eqb-false, lt-ltb}
 use lib.Dec.{eqb}
 use lib.ListN.{getD, set}
 use lib.Seq.{getD-set-same, getD-set-other}
@@ -13,23 +13,23 @@ use Rattle.schema.specs.declared.Found.{Found}
 use Rattle.schema.specs.declared.Found.the-variants as found
 use Rattle.schema.specs.Rows.{clusterRow, attributeRow, clusterCount, attributeCount}
 use Rattle.schema.specs.Rules.{Path, path, pathAt, Rules}
-use Rattle.schema.proofs.BoolLaws.{left, by-test}
+use Rattle.schema.proofs.BoolLaws.{by-test}
 use Rattle.schema.proofs.RulesLaws.{path-word, cluster-rules, attribute-rules}
 use Rattle.schema.proofs.PathLaws.{cluster-there}
 use Rattle.interaction_writer.specs.Meaning.{PathFits}
-use Rattle.cached.specs.declared.Cached.{Cached}
-use Rattle.cached.specs.Limits.{maxEntries, maxClusters, half}
-use Rattle.cached.specs.Entries as cached
-use Rattle.cached.specs.Entries.{clusterWord, keyWord, clusterAt, entryAt, entryOf, lookup}
-use Rattle.cached.specs.Set.{clusterPlace, entryPlace, withCluster, withEntry}
-use Rattle.cached.specs.Valid.{entryRight}
-use Rattle.cached.proofs.SetLaws.{placed-next, placed-below, counted-other}
-use Rattle.cached.proofs.ValidLaws.{cluster-below, entry-right, right-held}
-use Rattle.cache_part.specs.declared.block.Item.{Item}
-use Rattle.cache_part.specs.declared.entry.Spot.{Spot}
-use Rattle.cache_part.specs.declared.entry.Spot.the-variants as spot
-use Rattle.cache_part.specs.Entry.{entrySpot, spotOf, spotNumber, withItem, heldAt}
-use Rattle.cache_laws.proofs.RightLaws.{Good, Goes, spot-goes}
+use Rattle.cache_entries.specs.declared.Cached.{Cached}
+use Rattle.cache_entries.specs.Limits.{maxEntries, maxClusters, half}
+use Rattle.cache_entries.specs.Entries as cached
+use Rattle.cache_entries.specs.Entries.{clusterWord, keyWord, clusterAt, entryAt, entryOf, lookup}
+use Rattle.cache_entries.specs.Set.{clusterPlace, entryPlace, withCluster, withEntry}
+use Rattle.cache_entries.proofs.SetLaws.{placed-next, placed-below, counted-other}
+use Rattle.cache_entries.proofs.ValidLaws.{cluster-below, key-below}
+use Rattle.cache_report.specs.declared.block.Item.{Item}
+use Rattle.cache_report.specs.declared.spot.Spot.{Spot}
+use Rattle.cache_report.specs.declared.spot.Spot.the-variants as spot
+use Rattle.cache_report.specs.Entry.{entrySpot, spotOf, spotNumber, withItem, heldAt}
+use Rattle.cache_report.proofs.RightLaws.{Good}
+use Rattle.cache_report.proofs.EntryLaws.{Goes, spot-goes}
 use Rattle.cache_trip.specs.Exact.{Distinct}
 use Rattle.protocol.specs.Model.{Entry}
 use Rattle.refinement.proofs.Panel.{DistinctKeys, ClusterRows, HeldAs}
@@ -62,8 +62,7 @@ module _ (w : List ℕ) (rules : Rules w) (page : List ℕ) (c : Cached) (good :
   heldPath j = path (word j / half) (word j % half) (key j % half)
 
   in-cluster : (j : ℕ) → j < c .count → key j / half < n
-  unfolding entryRight
-  in-cluster j b = ltb-true _ _ (left _ _ (entry-right page c (good .right .entries) j b))
+  in-cluster j b = key-below c (good .right .entries) j b
 
   -- it is found by its path
   stands : (j : ℕ) → j < c .count → lookup c page (word j / half) (word j % half) (key j % half) ≡ just (entryOf c page j)
@@ -75,7 +74,7 @@ module _ (w : List ℕ) (rules : Rules w) (page : List ℕ) (c : Cached) (good :
   -- so it has a row
   entry-row : (j : ℕ) → j < c .count → (r : ℕ) × (r < attributeCount w) × (pathAt w r ≡ heldPath j)
   entry-row j b =
-      let low = cluster-below page c (right-held page c (good .right)) (key j / half) (in-cluster j b) in
+      let low = cluster-below page c (good .right) (key j / half) (in-cluster j b) in
       let f = held .only (word j / half) (word j % half) (key j % half) (omega (arith, low)) (omega arith) (omega arith) (entryOf c page j) (stands j b) in
       (f .entry .place .attribute, held .right (f .entry) (f .there) .row, f .same)
 

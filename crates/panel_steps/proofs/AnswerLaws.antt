@@ -18,11 +18,11 @@ use Rattle.round_trip.specs.Meant.{Outcome, OutcomeFits, outcomesOctets}
 use Rattle.exchange.specs.Rules.{writeResponseOpcode}
 use Rattle.envelope.specs.Envelope.{maxMessage}
 use Rattle.envelope.proofs.BigLaws.{envelope-read}
-use Rattle.cache.specs.declared.State.{State}
-use Rattle.cache.specs.State.{reading, writing, isOpen}
-use Rattle.cache.specs.Reaction.{Reaction, refusal, unsent}
+use Rattle.cache_state.specs.declared.State.{State}
+use Rattle.cache_state.specs.State.{reading, writing, isOpen}
+use Rattle.cache_state.specs.Reaction.{Reaction, refusal, unsent}
 use Rattle.cache_receive.specs.Receive.{forCache, opcodeAwaited, awaited, endedAs, received}
-use Rattle.cache_receive.proofs.ReceiveLaws.{small}
+use Rattle.cache_laws.proofs.ReceiveLaws.{small}
 use Rattle.cache_laws.proofs.BegunLaws.{Holds, valid-right}
 use Rattle.cache_laws.proofs.KeptLaws.{received-kept}
 use Rattle.cache_trip.specs.Taken.{endedBy}

@@ -17,13 +17,13 @@ use Rattle.schema.specs.Rules.{Rules}
 use Rattle.interaction_writer.specs.Spelling.{primitiveD}
 use Rattle.interaction_writer.specs.Meaning.{PathFits}
 use Rattle.envelope.specs.Envelope.{maxMessage}
-use Rattle.cache_request.specs.Filters.{filtersOf}
-use Rattle.cache_request.specs.Messages.{readMessage, writeMessage}
-use Rattle.cache.specs.declared.Request.{Request}
-use Rattle.cache.specs.declared.State.{State}
-use Rattle.cache.specs.State.{reading, writing, isOpen, panelRight}
-use Rattle.cache.specs.Reaction.{Reaction, refusal}
-use Rattle.cache.specs.Begin.{keptMessage, keeping, nextRequest, askedAs, sent, beginning, beginsRead, sendable, beginsWrite, resends}
+use Rattle.cache_messages.specs.Filters.{filtersOf}
+use Rattle.cache_messages.specs.Messages.{readMessage, writeMessage}
+use Rattle.cache_state.specs.declared.Request.{Request}
+use Rattle.cache_state.specs.declared.State.{State}
+use Rattle.cache_state.specs.State.{reading, writing, isOpen, panelRight}
+use Rattle.cache_state.specs.Reaction.{Reaction, refusal}
+use Rattle.cache_state.specs.Begin.{keptMessage, keeping, nextRequest, askedAs, sent, beginning, beginsRead, sendable, beginsWrite, resends}
 use Rattle.cache_laws.proofs.BegunLaws.{Holds, read-kept, write-kept}
 use Rattle.cache_trip.proofs.BeginLaws.{filters-fit, filters-few}
 use Rattle.cache_trip.proofs.BegunLaws.{takable}
@@ -109,7 +109,7 @@ module _ (w : List ℕ) (rules : Rules w) where
       record {
         number = refl;
         panel = asked-panel reading 0 0 0 (readMessage panelEdition (s .asked .used + 1) (filtersOf (s .held))) fs v (λ e. absurd (omega (arith, e)));
-        message = reads (s .asked .used + 1) (filtersOf (s .held)) refl (ap (λ (x : ℕ). read x fs) next-exchange) u (filters-fit (s .held) (panel .held .versions-fit)) (omega (arith, filters-few (s .held), panel .valid .held .right .few-clusters));
+        message = reads (s .asked .used + 1) (filtersOf (s .held)) refl (ap (λ (x : ℕ). read x fs) next-exchange) u (filters-fit (s .held)) (omega (arith, filters-few (s .held), panel .valid .held .right .few-clusters));
       },
       filters-for w rules old page s (sys .cache) panel,
     )

@@ -12,12 +12,12 @@ use Rattle.schema.specs.Rows.{clusterRow, attributeRow, clusterCount}
 use Rattle.schema.specs.Rules.{Path, pathAt, Rules}
 use Rattle.schema.proofs.RulesLaws.{path-word, cluster-rules}
 use Rattle.schema.proofs.PathLaws.{one-cluster, cluster-there}
-use Rattle.cached.specs.declared.Cached.{Cached}
-use Rattle.cached.specs.Limits.{half}
-use Rattle.cached.specs.Entries as cached
-use Rattle.cached.specs.Entries.{clusterWord, clusterAt, entryOf, lookup}
-use Rattle.cached.proofs.CoherentLaws.{Of, coherent-exactly}
-use Rattle.cache.specs.declared.State.{State}
+use Rattle.cache_entries.specs.declared.Cached.{Cached}
+use Rattle.cache_entries.specs.Limits.{half}
+use Rattle.cache_entries.specs.Entries as cached
+use Rattle.cache_entries.specs.Entries.{clusterWord, clusterAt, entryOf, lookup}
+use Rattle.cache_entries.proofs.CoherentLaws.{Of, coherent-exactly}
+use Rattle.cache_state.specs.declared.State.{State}
 use Rattle.cache_ask.specs.Ask.{coherentOf}
 use Rattle.protocol.specs.Model.{Place, Entry, Cache, CoherentIn}
 use Rattle.refinement.proofs.Bytes.{EntryRight}
@@ -91,11 +91,11 @@ module _ (w : List ℕ) (rules : Rules w) where
       to : (v : ℕ) → coherentOf held word ≡ just v → CoherentIn c k v
       to v h =
           let (j, at, q) = coherent-held held word v h in
-          let r = coherent-exactly held j v .0 q in
-          let some = shown j (r .1 .0) at (omega (arith, r .1 .2)) (r .1 .3) in
+          let (primed, low, (i, a, b, o), all) = coherent-exactly held j v .0 q in
+          let some = shown j i at (omega (arith, b)) o in
           record {
-            primed-is = panel .primed ∙ r .0;
-            same = λ d m e. let (i, b, o, version) = placed j at d m e in sym version ∙ r .2 i (omega arith) (omega (arith, b)) o;
+            primed-is = panel .primed ∙ primed;
+            same = λ d m e. let (i, b, o, version) = placed j at d m e in sym version ∙ all i (omega arith) (omega (arith, b)) o;
             some = (some .0, some .1, some .3);
           }
 
@@ -107,6 +107,7 @@ module _ (w : List ℕ) (rules : Rules w) where
           coherent-there held word j at
           ∙ coherent-exactly held j v .1 (
             sym (panel .primed) ∙ h .primed-is,
+            omega (arith, panel .held .right d m .version, h .same d m e),
             (i, omega arith, omega (arith, b), o),
             λ n low high o. let (x, mx, vx, ex) = shown j n at (omega (arith, high)) o in sym vx ∙ h .same x mx ex,
           )

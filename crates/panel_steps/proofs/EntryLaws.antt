@@ -11,11 +11,12 @@ use Rattle.blocks.proofs.BlockLaws.{never}
 use Rattle.schema.specs.declared.Found.{Found}
 use Rattle.schema.specs.declared.Found.the-variants.{At, Nothing}
 use Rattle.schema.proofs.SearchLaws.{found}
-use Rattle.cached.specs.declared.Cached.{Cached}
-use Rattle.cached.specs.Limits.{half}
-use Rattle.cached.specs.Entries.{Entry, clusterWord, keyWord, wordAt, clusterAt, entryAt, entryOf, atEntry, inCluster, pathAt, lookup}
-use Rattle.cached.specs.Coherent.{coherentAt}
-use Rattle.cached.proofs.CoherentLaws.{Of}
+use Rattle.cache_entries.specs.declared.Cached.{Cached}
+use Rattle.cache_entries.specs.Limits.{half}
+use Rattle.cache_entries.specs.Entries.{Entry, clusterWord, keyWord, clusterAt, entryAt, entryOf, atEntry, inCluster, pathAt, lookup}
+use Rattle.ordered.specs.Order.{wordAt}
+use Rattle.cache_entries.specs.Coherent.{coherentAt}
+use Rattle.cache_entries.proofs.CoherentLaws.{Of}
 use Rattle.cache_ask.specs.Ask.{coherentThere, coherentOf}
 use Rattle.panel_parts.proofs.OnceLaws.{Once, found-once}
 

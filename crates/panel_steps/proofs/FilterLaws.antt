@@ -16,12 +16,12 @@ use Rattle.schema.proofs.FindLaws.{cluster-found, cluster-none}
 use Rattle.schema.proofs.PathLaws.{one-cluster}
 use Rattle.interaction.specs.declared.Wanted.{Wanted}
 use Rattle.interaction_writer.specs.Spelling.{Each}
-use Rattle.cached.specs.declared.Cached.{Cached}
-use Rattle.cached.specs.Limits.{half}
-use Rattle.cached.specs.Entries.{clusterWord, clusterAt}
-use Rattle.cached.proofs.ValidLaws.{right-held, cluster-below}
-use Rattle.cache_request.specs.Filters.{filtersOf}
-use Rattle.cache.specs.declared.State.{State}
+use Rattle.cache_entries.specs.declared.Cached.{Cached}
+use Rattle.cache_entries.specs.Limits.{half}
+use Rattle.cache_entries.specs.Entries.{clusterWord, clusterAt}
+use Rattle.cache_entries.proofs.ValidLaws.{cluster-below}
+use Rattle.cache_messages.specs.Filters.{filtersOf}
+use Rattle.cache_state.specs.declared.State.{State}
 use Rattle.cache_ask.specs.Ask.{coherentOf}
 use Rattle.cache_trip.specs.Exact.{FilterOf}
 use Rattle.cache_trip.proofs.ExactLaws.{filters-exact, filters-complete}
@@ -55,7 +55,7 @@ module _ (w : List ℕ) (rules : Rules w) where
     held = s .held
 
     narrow : (j : ℕ) → j < held .«cluster_count» → getD (held .clusters) j 0 < 2 ^ 48
-    narrow j b = cluster-below page held (right-held page held (panel .valid .held .right)) j b
+    narrow j b = cluster-below page held (panel .valid .held .right) j b
 
     -- a cluster that is coherent at the panel is so under its number
     numbered : (e cl v : ℕ) → e < 2 ^ 16 → cl < 2 ^ 32 → coherentOf held (clusterWord e cl) ≡ just v → CoherentIn c (clusterNumber w e cl) v

@@ -7,9 +7,9 @@ use lib.ListN.{length}
 use Rattle.tlv.specs.Value.{Datum}
 use Rattle.schema.specs.Rules.{Rules}
 use Rattle.blocks.proofs.BlockLaws.{never}
-use Rattle.cached.specs.Limits.{pageSize}
-use Rattle.cache.specs.State.{isOpen}
-use Rattle.cache.specs.Begin.{fresh}
+use Rattle.cache_entries.specs.Limits.{pageSize}
+use Rattle.cache_state.specs.State.{isOpen}
+use Rattle.cache_state.specs.Begin.{fresh}
 use Rattle.cache_laws.proofs.BegunLaws.{fresh-valid}
 use Rattle.protocol.specs.Model.{Node, start}
 use Rattle.refinement.proofs.Panel.{PanelAs}
@@ -24,7 +24,6 @@ module _ (w : List ℕ) (rules : Rules w) where
       clusters-once = λ j k bj. absurd (omega (arith, bj));
       keys-once = λ j k bj. absurd (omega (arith, bj));
       cluster-rows = λ k b. absurd (omega (arith, b));
-      versions-fit = fresh-valid page size .held .whole .small;
       right = λ e m. absurd (List·Memᴰ·not-nil m);
       has = λ e m. absurd (List·Memᴰ·not-nil m);
       only = λ e c a fe fc fa x h. let (j, at) = cluster-held (fresh .held) page e c a h in absurd (omega (arith, word-at _ 0 _ j at .0));

@@ -17,13 +17,13 @@ use Rattle.interaction_writer.specs.Envelope.{envelopeOctets, panelEdition}
 use Rattle.exchange.specs.Rules.{reportOpcode, maxTurn}
 use Rattle.envelope.specs.declared.Fields.{Fields}
 use Rattle.envelope.specs.Envelope.{maxMessage}
-use Rattle.cached.specs.declared.Cached.{Cached}
-use Rattle.cache_part.specs.Part.{blocksIn, judgedAll, heldAll, pageAll}
-use Rattle.cache_request.specs.Messages.{successMessage}
-use Rattle.cache.specs.declared.State.{State}
-use Rattle.cache.specs.State.{reading, isOpen}
-use Rattle.cache.specs.Reaction.{Reaction}
-use Rattle.cache.specs.Begin.{keeping}
+use Rattle.cache_entries.specs.declared.Cached.{Cached}
+use Rattle.cache_report.specs.Part.{blocksIn, judgedAll, heldAll, pageAll}
+use Rattle.cache_messages.specs.Messages.{successMessage}
+use Rattle.cache_state.specs.declared.State.{State}
+use Rattle.cache_state.specs.State.{reading, isOpen}
+use Rattle.cache_state.specs.Reaction.{Reaction}
+use Rattle.cache_state.specs.Begin.{keeping}
 use Rattle.cache_receive.specs.Receive.{opcodeAwaited, endedAs, primedAs, nextAwaited, goesOn, ends, received}
 use Rattle.cache_receive.specs.Receive
 use Rattle.cache_laws.proofs.BoundLaws.{Sized, success-sized}

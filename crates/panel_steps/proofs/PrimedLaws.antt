@@ -7,16 +7,16 @@ use Rattle.blocks.specs.Data.{ReportOf}
 use Rattle.schema.specs.declared.Found.{Found}
 use Rattle.schema.specs.declared.Found.the-variants as found
 use Rattle.schema.proofs.BoolLaws.{right}
-use Rattle.cached.specs.declared.Cached.{Cached}
-use Rattle.cached.specs.Entries as cached
-use Rattle.cached.specs.Entries.{lookup}
-use Rattle.cached.specs.Set.{withCluster, withEntry}
-use Rattle.cache_part.specs.declared.block.Fate.{Fate}
-use Rattle.cache_part.specs.declared.block.Fate.the-variants.{Taken, Long, Unusable}
-use Rattle.cache_part.specs.declared.entry.Spot.{Spot}
-use Rattle.cache_part.specs.declared.entry.Spot.the-variants.{At, Full}
-use Rattle.cache_part.specs.Entry.{spotOf, withItem, heldAt, heldFor}
-use Rattle.cache_part.specs.Part.{fateIn, heldAll}
+use Rattle.cache_entries.specs.declared.Cached.{Cached}
+use Rattle.cache_entries.specs.Entries as cached
+use Rattle.cache_entries.specs.Entries.{lookup}
+use Rattle.cache_entries.specs.Set.{withCluster, withEntry}
+use Rattle.cache_report.specs.declared.block.Fate.{Fate}
+use Rattle.cache_report.specs.declared.block.Fate.the-variants.{Taken, Long, Unusable}
+use Rattle.cache_report.specs.declared.spot.Spot.{Spot}
+use Rattle.cache_report.specs.declared.spot.Spot.the-variants.{At, Full}
+use Rattle.cache_report.specs.Entry.{spotOf, withItem, heldAt, heldFor}
+use Rattle.cache_report.specs.Part.{fateIn, heldAll}
 use Rattle.cache_receive.specs.Receive.{primedAs}
 use Rattle.cache_receive.specs.Receive
 use Rattle.cache_trip.proofs.ReceivedLaws
@@ -58,7 +58,6 @@ primed-held w page c entries h = record {
   clusters-once = h .clusters-once;
   keys-once = h .keys-once;
   cluster-rows = h .cluster-rows;
-  versions-fit = h .versions-fit;
   right = h .right;
   has = λ d m. sym (primed-lookup page c _ _ _) ∙ h .has d m;
   only = λ e cl a fe fl fa x q. h .only e cl a fe fl fa x (primed-lookup page c e cl a ∙ q);

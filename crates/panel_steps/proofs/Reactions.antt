@@ -4,8 +4,8 @@ use mathlib.Core.Logic.{_⊎_}
 use mathlib.Core.List.{List, [], _∷_}
 use Prim.Native.Nat.{ℕ}
 use Rattle.tlv.specs.Value.{Datum}
-use Rattle.cache.specs.declared.State.{State}
-use Rattle.cache.specs.Reaction.{Reaction}
+use Rattle.cache_state.specs.declared.State.{State}
+use Rattle.cache_state.specs.Reaction.{Reaction}
 use Rattle.protocol.specs.Model.{Message, Cache, System}
 use Rattle.refinement.proofs.Bytes.{MessageAs}
 use Rattle.refinement.proofs.Panel.{PanelAs}

@@ -16,7 +16,7 @@ use Rattle.round_trip.specs.Meant.{writeMeans}
 use Rattle.envelope.specs.declared.Envelope.{Envelope}
 use Rattle.envelope.specs.declared.Envelope.the-variants.{Whole, Short}
 use Rattle.envelope.specs.Envelope.{envelopeIn}
-use Rattle.cache_request.specs.Messages.{writeMessage}
+use Rattle.cache_messages.specs.Messages.{writeMessage}
 use Rattle.cache_trip.proofs.BeginLaws.{read-envelope, write-envelope, success-envelope, write-meant}
 use Rattle.protocol.specs.Model.{Message, exchangeOf}
 use Rattle.refinement.proofs.Bytes.{MessageAs, reads, writes, succeeds, WriteFits, Wrote}

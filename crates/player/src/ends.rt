@@ -4,6 +4,7 @@ use schema::WORDS;
 use script_answer::Said;
 use script_answer::message::Message;
 use script_answer::message::no_message;
+use script_panel::Panel;
 use script_setup::PAGE;
 use script_setup::access::Table;
 use script_setup::access::no_entries;
@@ -19,7 +20,7 @@ pub struct Player {
     // The length of the buffer that is lent.
     pub room: usize,
     pub sign: Sign,
-    pub panel: cache::State,
+    pub panel: Panel,
     // The newest message of the panel, and the newest reply of the sign.
     pub sent: Message,
     pub replied: Message,
@@ -38,7 +39,7 @@ pub fn fresh() -> Player {
         table: no_entries(),
         room: MAX_MESSAGE,
         sign: no_sign(),
-        panel: cache::begin::fresh(),
+        panel: script_panel::fresh(),
         sent: no_message(),
         replied: no_message(),
     }
@@ -57,7 +58,7 @@ pub fn started<'a>(p: Player, words: &'a [u64; WORDS], defaults: &'a [u8; PAGE])
         table: given,
         room: p.room,
         sign,
-        panel: cache::begin::fresh(),
+        panel: script_panel::fresh(),
         sent: no_message(),
         replied: no_message(),
     };

@@ -1,5 +1,5 @@
 // One line of a script played, by its first word. No input and no output.
-use cached::PAGE_SIZE;
+use cache_entries::PAGE_SIZE;
 use ends::Played;
 use ends::Player;
 use ends::started;

@@ -1,7 +1,7 @@
 // What a line leaves behind: the ends after it, and the newest messages.
 use super::ends::Played;
 use super::ends::Player;
-use cache::begin::LAST_EXCHANGE;
+use cache_state::begin::LAST_EXCHANGE;
 use envelope::MAX_MESSAGE;
 use script::Scan;
 use script::is_done;
@@ -10,6 +10,7 @@ use script_answer::Said;
 use script_answer::message::newer;
 use script_answer::quietly;
 use script_panel::Acted;
+use script_panel::used_up;
 use script_setup::access::Given;
 use script_sign::Replied;
 
@@ -53,8 +54,9 @@ pub fn acted(p: Player, a: Acted, out: &[u8; MAX_MESSAGE]) -> Played {
     if a.fault != 0 {
         return wrong(p, a.fault);
     }
-    let o = a.outcome;
-    let panel = o.state;
+    let done = a.answered;
+    let o = done.outcome;
+    let panel = done.panel;
     let number = o.number;
     let len = o.len;
     let message = newer(p.sent, out, len);
@@ -81,17 +83,6 @@ pub fn buffer_line(line: &[u8], s: Scan, p: Player) -> Played {
     let mut player = p;
     player.room = n.value as usize;
     quiet(player, is_done(n.next))
-}
-
-// The panel's exchange numbers up to n count as used; that never lowers them.
-fn used_up(panel: cache::State, n: u64) -> cache::State {
-    let mut asked = panel.asked;
-    if n <= asked.used {
-        return panel;
-    }
-    asked.used = n;
-    let held = panel.held;
-    cache::State { held, asked }
 }
 
 // `used`

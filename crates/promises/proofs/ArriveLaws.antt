@@ -12,9 +12,9 @@ use Rattle.tlv.specs.Decode.Opt.{just}
 use Rattle.envelope.specs.declared.Envelope.{Envelope}
 use Rattle.envelope.specs.declared.Envelope.the-variants.{Whole, Short}
 use Rattle.envelope.specs.Envelope.{envelopeIn, maxMessage}
-use Rattle.cache.specs.Reaction.{Reaction}
-use Rattle.cache.specs.Begin as begin
-use Rattle.cache_request.specs.Filters.{filtersOf}
+use Rattle.cache_state.specs.Reaction.{Reaction}
+use Rattle.cache_state.specs.Begin as begin
+use Rattle.cache_messages.specs.Filters.{filtersOf}
 use Rattle.cache_receive.specs.Receive as panel
 use Rattle.replies.specs.Sign as sign
 use Rattle.cache_trip.proofs.BeginLaws.{write-envelope}

@@ -4,6 +4,7 @@ use mathlib.Core.Bool.{Bool, true, false, not, true≢false}
 use mathlib.Core.List.{List, [], _∷_}
 use Prim.Native.Nat.{ℕ, _<_}
 use native.Mathlib.Omega.{arith}
+use borrow.Author.Tests.{lt-ltb}
 use lib.Dec.{eqb}
 use lib.ListN.{getD}
 use Rattle.tlv.specs.Decode.{Opt}
@@ -28,10 +29,11 @@ use Rattle.selection.proofs.LocateLaws.{located-here, located-refused}
 use Rattle.selection.proofs.ItemLaws.{read-tests, concrete-here, concrete-refused}
 use Rattle.values.specs.Values.{datumAt, versionAt}
 use Rattle.report.specs.Blocks.{valueBlock, blockOf}
-use Rattle.cached.specs.Entries.{clusterWord, lookup}
-use Rattle.cache.specs.declared.State as cache
+use Rattle.cache_entries.specs.Limits.{noVersion}
+use Rattle.cache_entries.specs.Entries.{Entry, clusterWord, lookup}
+use Rattle.cache_state.specs.declared.State as cache
 use Rattle.cache_laws.proofs.BegunLaws.{ValidPanel, valid-right}
-use Rattle.cache_ask.specs.Ask.{Said, said, coherentOf, versionSaid, saysWhole, entrySaid, saysEntry}
+use Rattle.cache_ask.specs.Ask.{Said, said, coherentOf, versionSaid, saysWhole, versioned, entrySaid, saysEntry}
 use Rattle.refinement.proofs.Terms.{mayRead}
 use Rattle.promises.specs.World.{Plan, World, granted}
 use Rattle.promises.specs.Claims.{onRow, versionOf, changesOf, asked, shown, entryFor}
@@ -40,6 +42,11 @@ use Rattle.promises.specs.Claims.{onRow, versionOf, changesOf, asked, sh
 version-said : (o : Opt ℕ) (v : ℕ) → versionSaid o ≡ said 0 (v ∷ []) → o ≡ just v
 version-said nothing v h = let z : _≡_ {A = ℕ} 1 0 = ap (λ (x : Said). x .number) h in absurd (omega (arith, z))
 version-said (just x) v h = ap just (ap (λ (y : Said). getD (y .values) 0 0) h)
+
+-- what has a version is shown
+versioned-all : (o : Opt Entry) → ((x : Entry) → o ≡ just x → x .version < noVersion) → versioned o ≡ o
+versioned-all nothing h = refl
+versioned-all (just x) h = rw (lt-ltb (x .version) noVersion (h x refl)) refl
 
 module _ (page : List ℕ) (s : cache.State) (valid : ValidPanel page s) where
   says-version : (e c : ℕ) → saysWhole page s e c ≡ versionSaid (coherentOf (s .held) (clusterWord e c))
@@ -51,8 +58,8 @@ module _ (page : List ℕ) (s : cache.State) (valid : ValidPanel page s) where
   pub coherent-whole : (e c v : ℕ) → coherentOf (s .held) (clusterWord e c) ≡ just v → saysWhole page s e c ≡ said 0 (v ∷ [])
   coherent-whole e c v h = says-version e c ∙ ap versionSaid h
 
-  pub says-held : (e c a : ℕ) → saysEntry page s e c a ≡ entrySaid (lookup (s .held) page e c a)
-  says-held e c a = rw (valid-right page s valid) refl
+  pub says-held : (e c a : ℕ) → ((x : Entry) → lookup (s .held) page e c a ≡ just x → x .version < noVersion) → saysEntry page s e c a ≡ entrySaid (lookup (s .held) page e c a)
+  says-held e c a h = rw (valid-right page s valid) (ap entrySaid (versioned-all (lookup (s .held) page e c a) h))
 
 module _ (p : Plan) (rules : Rules (p .words)) where
   abbrev w : List ℕ

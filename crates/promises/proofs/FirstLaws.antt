@@ -12,8 +12,8 @@ use Rattle.schema.specs.Rows.{clusterRow, attributeRow, clusterCount}
 use Rattle.schema.specs.Rules.{Path, path, pathAt}
 use Rattle.schema.specs.Find.{findCluster}
 use Rattle.values.specs.Values.{datumAt, versionAt}
-use Rattle.cached.specs.Entries as cached
-use Rattle.cached.specs.Entries.{clusterWord, lookup}
+use Rattle.cache_entries.specs.Entries as cached
+use Rattle.cache_entries.specs.Entries.{clusterWord, lookup}
 use Rattle.cache_ask.specs.Ask.{coherentOf, entrySaid, saysEntry}
 use Rattle.protocol.specs.Model as model
 use Rattle.protocol.specs.Model.{Place, System, CoherentIn}
@@ -137,9 +137,15 @@ first-half p b u run e c v fe fc few whole = (held, exactly)
         let x = f .origin (t .0) (t .1) in
         (x .0, x .1, version-at p (rules p b) k e c row (x .0) ∙ ap just (sym (x .2 .sign .held .versions k (at .1)) ∙ t .2))
 
+    -- what is held is of the sign, and so has a version
+    has-version : (a : ℕ) → a < 2 ^ 32 → (y : cached.Entry) → lookup (u .panel .held) (u .page) e c a ≡ just y → y .version < 2 ^ 32
+    has-version a fa y h =
+        let i = f .stands .panel .held .only e c a fe fc fa y h in
+        omega (arith, i .version, f .stands .panel .held .right (i .entry) (i .there) .version)
+
     exactly : (x : World) → Visits run x → versionOf p x e c ≡ just v → (a : ℕ) → a < 2 ^ 32 → saysEntry (u .page) (u .panel) e c a ≡ entrySaid (entryFor (shown p x e c a))
     exactly x i version a fa =
         let t = f .visited x i in
         let same : t .0 .clusters k .version ≡ v = t .2 .sign .held .versions k (at .1) ∙ just-same _ _ (sym (version-at p (rules p b) k e c row x) ∙ version) in
-        says-held (u .page) (u .panel) (f .stands .panel .valid) e c a
+        says-held (u .page) (u .panel) (f .stands .panel .valid) e c a (has-version a fa)
         ∙ ap entrySaid (agree p b u s (f .stands) (f .follows) x (t .0) (t .2) k e c v row fe fc version (law .1 (t .0) (t .1) same) a fa)

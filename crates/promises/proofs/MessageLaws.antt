@@ -18,7 +18,7 @@ use Rattle.envelope.specs.declared.Envelope.the-variants.{Whole, Short}
 use Rattle.envelope.specs.Envelope.{envelopeIn}
 use Rattle.envelope.proofs.BigLaws.{envelope-read}
 use Rattle.exchange.specs.Rules.{readOpcode, reportOpcode, writeOpcode, writeResponseOpcode, firstReply}
-use Rattle.cache_request.specs.Messages.{readMessage}
+use Rattle.cache_messages.specs.Messages.{readMessage}
 use Rattle.cache_trip.specs.Begun.{envelopeAs}
 use Rattle.cache_trip.proofs.BeginLaws.{after-envelope, read-envelope, write-envelope, success-envelope}
 use Rattle.protocol.specs.Model.{Message, read, write, success, Part, exchangeOf}

@@ -26,14 +26,14 @@ use Rattle.replies.specs.Sign as sign
 use Rattle.replies.specs.Sign.{heldBy}
 use Rattle.server.proofs.StartLaws.{altered-right}
 use Rattle.server.proofs.ReceivedLaws.{never-2}
-use Rattle.cache.specs.State.{isOpen}
-use Rattle.cache.specs.declared.State as cache
-use Rattle.cache.specs.Reaction.{Reaction}
-use Rattle.cache.specs.Begin as begin
+use Rattle.cache_state.specs.State.{isOpen}
+use Rattle.cache_state.specs.declared.State as cache
+use Rattle.cache_state.specs.Reaction.{Reaction}
+use Rattle.cache_state.specs.Begin as begin
 use Rattle.cache_receive.specs.Receive as receive
 use Rattle.cache_laws.proofs.BegunLaws.{ValidPanel, valid-right}
 use Rattle.cache_laws.proofs.NeverLaws as panel
-use Rattle.cache_receive.proofs.ReceiveLaws.{small}
+use Rattle.cache_laws.proofs.ReceiveLaws.{small}
 use Rattle.protocol.specs.Model as Model
 use Rattle.protocol.specs.Model.{System}
 use Rattle.panel_steps.proofs.Reactions.{Takes}

@@ -13,7 +13,7 @@ use Rattle.envelope.specs.declared.Envelope.{Envelope}
 use Rattle.envelope.specs.declared.Envelope.the-variants.{Whole, Short}
 use Rattle.envelope.specs.Envelope.{envelopeIn}
 use Rattle.exchange.specs.Rules.{reportOpcode}
-use Rattle.cache.specs.State.{reading, lastPart}
+use Rattle.cache_state.specs.State.{reading, lastPart}
 use Rattle.protocol.specs.Model.{System, start}
 use Rattle.protocol.specs.Steps as model
 use Rattle.protocol.proofs.CacheLaws.{awaited-is}

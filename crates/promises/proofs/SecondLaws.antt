@@ -22,8 +22,8 @@ use Rattle.exchange.specs.Rules.{reportOpcode}
 use Rattle.envelope.specs.declared.Envelope.{Envelope}
 use Rattle.envelope.specs.declared.Envelope.the-variants.{Whole, Short}
 use Rattle.envelope.specs.Envelope.{envelopeIn}
-use Rattle.cached.specs.Entries.{clusterWord}
-use Rattle.cache.specs.State.{reading, lastPart}
+use Rattle.cache_entries.specs.Entries.{clusterWord}
+use Rattle.cache_state.specs.State.{reading, lastPart}
 use Rattle.cache_ask.specs.Ask.{coherentOf}
 use Rattle.cache_receive.specs.Receive.{received}
 use Rattle.cache_trip.proofs.BeginLaws.{after-envelope}

@@ -20,11 +20,11 @@ use Rattle.envelope.specs.declared.Envelope.{Envelope}
 use Rattle.envelope.specs.declared.Envelope.the-variants.{Whole, Short}
 use Rattle.envelope.specs.Envelope.{envelopeIn, envelopeLength, maxMessage}
 use Rattle.exchange.specs.Rules.{statusOpcode, reportOpcode}
-use Rattle.cache_part.specs.Part.{blocksIn, judgedAll}
-use Rattle.cache.specs.declared.State.{State}
-use Rattle.cache.specs.State.{reading, writing, lastPart, isOpen, panelRight}
-use Rattle.cache.specs.Reaction.{Reaction}
-use Rattle.cache.specs.Begin as begin
+use Rattle.cache_report.specs.Part.{blocksIn, judgedAll}
+use Rattle.cache_state.specs.declared.State.{State}
+use Rattle.cache_state.specs.State.{reading, writing, lastPart, isOpen, panelRight}
+use Rattle.cache_state.specs.Reaction.{Reaction}
+use Rattle.cache_state.specs.Begin as begin
 use Rattle.cache_receive.specs.Receive.{forCache, opcodeAwaited, awaited, endedAs, goesOn, pastTurns, partTaken, takesPart, takes, inEnvelope, received}
 use Rattle.protocol.specs.Model.{System}
 use Rattle.protocol.specs.Steps as model

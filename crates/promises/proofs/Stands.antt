@@ -11,8 +11,8 @@ use Rattle.envelope.specs.declared.Envelope.{Envelope}
 use Rattle.envelope.specs.declared.Envelope.the-variants.{Whole, Short}
 use Rattle.envelope.specs.Envelope.{envelopeIn}
 use Rattle.replies.specs.Sign as sign
-use Rattle.cache.specs.declared.State as cache
-use Rattle.cache.specs.Reaction.{Reaction}
+use Rattle.cache_state.specs.declared.State as cache
+use Rattle.cache_state.specs.Reaction.{Reaction}
 use Rattle.protocol.specs.Model.{Message, Part, Cache, System}
 use Rattle.refinement.proofs.Bytes.{MessageAs, PartRight, partBytes, answerBytes, Wrote, ReplyAs, silent, reports, answers}
 use Rattle.refinement.proofs.Sign.{SignAs, Serves}

@@ -28,12 +28,12 @@ use Rattle.replies.specs.Sign as sign
 use Rattle.server.specs.Receive.{received}
 use Rattle.server.proofs.ReceivedLaws.{Untouched}
 use Rattle.server.proofs.StartLaws.{accepted-schema}
-use Rattle.cache.specs.declared.State as cache
-use Rattle.cache.specs.State.{panelRight}
-use Rattle.cache.specs.Reaction.{Reaction, refusal}
-use Rattle.cache.specs.Begin as begin
-use Rattle.cache_part.specs.Block.{usableIn}
-use Rattle.cache_request.specs.Filters.{filtersOf}
+use Rattle.cache_state.specs.declared.State as cache
+use Rattle.cache_state.specs.State.{panelRight}
+use Rattle.cache_state.specs.Reaction.{Reaction, refusal}
+use Rattle.cache_state.specs.Begin as begin
+use Rattle.cache_entries.specs.Values.{usableIn}
+use Rattle.cache_messages.specs.Filters.{filtersOf}
 use Rattle.cache_receive.specs.Receive as panel
 use Rattle.protocol.specs.Model as Model
 use Rattle.protocol.specs.Model.{Filter, Node, Message, read, write, Part, Row, Cluster, System, Store, FiltersFor, exchangeOf, storeAll, beginRead, beginWrite, serve, accept, awaited, receive}

@@ -22,9 +22,9 @@ use Rattle.selection.specs.declared.asked.Asked.{Asked}
 use Rattle.selection.specs.Items.{concreteItem}
 use Rattle.report.specs.Blocks.{blockOf}
 use Rattle.exchange.specs.Rules.{reportOpcode}
-use Rattle.cached.specs.Entries.{Entry}
-use Rattle.cache.specs.State.{reading, lastPart}
-use Rattle.cache.specs.Begin as begin
+use Rattle.cache_entries.specs.Entries.{Entry}
+use Rattle.cache_state.specs.State.{reading, lastPart}
+use Rattle.cache_state.specs.Begin as begin
 use Rattle.cache_receive.specs.Receive.{received}
 use Rattle.cache_ask.specs.Ask.{said, saysWhole, entrySaid, saysEntry}
 use Rattle.promises.specs.World.{Plan, World, Start, granted, afterPanel}

@@ -4,7 +4,7 @@ use mathlib.Core.Bool.{Bool}
 use mathlib.Core.List.{List, List·Memᴰ}
 use Prim.Native.Nat.{ℕ}
 use Rattle.tlv.specs.declared.Value.{Value}
-use Rattle.cache.specs.Begin as begin
+use Rattle.cache_state.specs.Begin as begin
 use Rattle.cache_receive.specs.Receive as receive
 use Rattle.promises.specs.World.{Plan, World, Start, answered, altered}
 use Rattle.promises.specs.Runs.{Reach}

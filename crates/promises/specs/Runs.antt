@@ -8,7 +8,7 @@ use Rattle.bounds.specs.Bounds.{versionLimit}
 use Rattle.tlv.specs.declared.Value.{Value}
 use Rattle.envelope.specs.Envelope.{maxMessage}
 use Rattle.interaction_writer.specs.Meaning.{PathFits}
-use Rattle.cache.specs.Begin as begin
+use Rattle.cache_state.specs.Begin as begin
 use Rattle.cache_receive.specs.Receive as receive
 use Rattle.promises.specs.World.{Plan, subjectOf, World, Start, begin, afterSign, afterPanel, answered, altered, Typed}
 

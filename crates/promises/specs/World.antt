@@ -18,10 +18,10 @@ use Rattle.acl.specs.Access.{grantsOf, tableOk}
 use Rattle.replies.specs.Sign.{State, Sign, Caller, Reaction}
 use Rattle.server.specs.Receive.{received}
 use Rattle.server.specs.Start.{started, alteredBy}
-use Rattle.cached.specs.Limits.{pageSize}
-use Rattle.cache.specs.declared.State as cache
-use Rattle.cache.specs.Reaction as panel
-use Rattle.cache.specs.Begin.{fresh}
+use Rattle.cache_entries.specs.Limits.{pageSize}
+use Rattle.cache_state.specs.declared.State as cache
+use Rattle.cache_state.specs.Reaction as panel
+use Rattle.cache_state.specs.Begin.{fresh}
 
 -- what stays the same throughout: the schema's words, the factory page and the access table
 pub record Plan : Type 0 where

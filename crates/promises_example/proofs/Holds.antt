@@ -3,8 +3,8 @@ use mathlib.Core.Path.{_≡_, refl}
 use mathlib.Core.List.{List}
 use Prim.Native.Nat.{ℕ}
 use Rattle.replies.specs.Sign as sign
-use Rattle.cache.specs.declared.State as cache
-use Rattle.cache.specs.Reaction as panel
+use Rattle.cache_state.specs.declared.State as cache
+use Rattle.cache_state.specs.Reaction as panel
 use Rattle.envelope.specs.Envelope.{maxMessage}
 use Rattle.promises.specs.World.{World, subjectOf, with, afterSign, afterPanel, answered}
 use Rattle.promises_example.specs.Plan.{plan}

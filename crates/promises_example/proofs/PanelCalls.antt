@@ -25,19 +25,22 @@ use Rattle.interaction_writer.specs.Spelling.{members, primitiveD, spelling, sp
 use Rattle.envelope.specs.Envelope.{envelopeIn, fieldsOf}
 use Rattle.request_writer.specs.Request.{filterMembers, pathsTree, readMembers, wildcardTree}
 use Rattle.kinds.specs.Stored.{wordOf}
-use Rattle.schema.specs.Check.{every}
+use Rattle.schema.specs.Check.{count, every}
 use Rattle.schema.specs.Search.{first}
-use Rattle.cached.specs.Coherent.{allAre, coherentAt, versionsOf}
-use Rattle.cached.specs.Entries.{wordAt}
-use Rattle.cached.specs.Set.{clusterPlace, entryPlace, withCluster, withEntry}
-use Rattle.cached.specs.Valid.{clustersRight, entriesRight, entryRight, heldRight, wordRight}
-use Rattle.cache_request.specs.Filters.{filtersFrom, filtersOf}
-use Rattle.cache_request.specs.Messages.{readMessage, successMessage}
-use Rattle.cache_part.specs.Block.{concreteP, fateBy, fateOf, insideUsable, longV, usableIn}
-use Rattle.cache_part.specs.Entry.{entrySpot, heldFor, kindV, numberFor, pageFor, spotOf, textStored, withItem, worse}
-use Rattle.cache_part.specs.Part.{blocksIn, heldAll, judgedAll, pageAll}
-use Rattle.cache.specs.Begin.{askedAs, beginsRead, fresh, keeping, resends, unknownAfter}
-use Rattle.cache.specs.State.{askedRight, isOpen, openRight, panelRight}
+use Rattle.cache_entries.specs.Coherent.{allAre, coherentAt, versionsFrom}
+use Rattle.ordered.specs.Order.{inserted, orderRight, placeIn, placesRight, rising, wordAt}
+use Rattle.cache_entries.specs.Texts.{freePlace, placeGiven, placeUsed}
+use Rattle.cache_entries.specs.Set.{clusterPlace, entryPlace, orderWith, withCluster, withEntry}
+use Rattle.cache_entries.specs.Valid.{clustersRight, entriesRight, entryRight, heldRight, textRight, textRightAt, textsRight, wordRight}
+use Rattle.cache_messages.specs.Filters.{filtersFrom, filtersOf}
+use Rattle.cache_messages.specs.Messages.{readMessage, successMessage}
+use Rattle.interaction_report.specs.Kept.{concreteP}
+use Rattle.cache_report.specs.Block.{fateBy, fateOf}
+use Rattle.cache_entries.specs.Values.{insideUsable, longV, usableIn}
+use Rattle.cache_report.specs.Entry.{entrySpot, heldFor, kindV, numberFor, pageFor, spotOf, textStored, withItem, wordAs, worse}
+use Rattle.cache_report.specs.Part.{blocksIn, heldAll, judgedAll, pageAll}
+use Rattle.cache_state.specs.Begin.{askedAs, beginsRead, fresh, keeping, resends, unknownAfter}
+use Rattle.cache_state.specs.State.{askedRight, isOpen, openRight, panelRight}
 use Rattle.cache_receive.specs.Receive.{awaited, endedAs, forCache, goesOn, opcodeAwaited, pastTurns, primedAs, received, takes, takesPart}
 use Rattle.cache_ask.specs.Ask.{coherentOf}
 use Rattle.promises_example.specs.Plan.{page}
@@ -46,5 +49,5 @@ use Rattle.promises_example.specs.Panel.{panel1, panel2, panel3, page2, 
 use Rattle.promises_example.specs.Calls.{PanelCalls}
 
 pub panel-calls : PanelCalls
-unfolding bytesOf Number.numberOf store after completes table trailing wellFormed within closedAt headAt headOctets numberWidth tagWidth valueIn valueOf allowedIn elementBy elementEnd foldAt foldBy booleanOctets datumOctets formOf headFor labelOf openOctets textOctets unsignedOctets leastOf leastWidth widthCode eachStep optionalIn requiredIn fieldStep fieldsAt fieldsFrom insideAt placeOf putAt slotOf flagIn flagOf numberIn wideIn Scalar.numberOf anyIn dataAt dataFrom maybeIn reportAt reportFrom banned exactP pathAt pathFrom soundPath listAt messageAt untagged firstIn partFrom partIn blockTree dataBlockTree dataMembers pathTree bigNumber bigOctets envelopeOctets envelopeWord reportEnding reportMembers revision statusMembers members primitiveD spelling spellings writerTag envelopeIn fieldsOf filterMembers pathsTree readMembers wildcardTree wordOf every first allAre coherentAt versionsOf wordAt clusterPlace entryPlace withCluster withEntry clustersRight entriesRight entryRight heldRight wordRight filtersFrom filtersOf readMessage successMessage concreteP fateBy fateOf insideUsable longV usableIn entrySpot heldFor kindV numberFor pageFor spotOf textStored withItem worse blocksIn heldAll judgedAll pageAll askedAs beginsRead fresh keeping resends unknownAfter askedRight openRight isOpen panelRight awaited endedAs forCache goesOn opcodeAwaited pastTurns primedAs received takes takesPart coherentOf page keptRequest keptSuccess page2 page3 panel1 panel2 panel3 part1 part2 request success
+unfolding bytesOf Number.numberOf store after completes table trailing wellFormed within closedAt headAt headOctets numberWidth tagWidth valueIn valueOf allowedIn elementBy elementEnd foldAt foldBy booleanOctets datumOctets formOf headFor labelOf openOctets textOctets unsignedOctets leastOf leastWidth widthCode eachStep optionalIn requiredIn fieldStep fieldsAt fieldsFrom insideAt placeOf putAt slotOf flagIn flagOf numberIn wideIn Scalar.numberOf anyIn dataAt dataFrom maybeIn reportAt reportFrom banned exactP pathAt pathFrom soundPath listAt messageAt untagged firstIn partFrom partIn blockTree dataBlockTree dataMembers pathTree bigNumber bigOctets envelopeOctets envelopeWord reportEnding reportMembers revision statusMembers members primitiveD spelling spellings writerTag envelopeIn fieldsOf filterMembers pathsTree readMembers wildcardTree wordOf count every first inserted orderRight placeIn placesRight rising wordAt allAre coherentAt versionsFrom freePlace placeGiven placeUsed clusterPlace entryPlace orderWith withCluster withEntry clustersRight entriesRight entryRight heldRight textRight textRightAt textsRight wordRight filtersFrom filtersOf readMessage successMessage concreteP fateBy fateOf insideUsable longV usableIn entrySpot heldFor kindV numberFor pageFor spotOf textStored withItem wordAs worse blocksIn heldAll judgedAll pageAll askedAs beginsRead fresh keeping resends unknownAfter askedRight openRight isOpen panelRight awaited endedAs forCache goesOn opcodeAwaited pastTurns primedAs received takes takesPart coherentOf page keptRequest keptSuccess page2 page3 panel1 panel2 panel3 part1 part2 request success
 panel-calls = record { page-size = refl; begins = refl; resends = refl; takes = refl; refuses = refl; ends = refl; request-sent = λ l. refl; success-sent = λ l. refl; whole = refl; not-whole = refl }

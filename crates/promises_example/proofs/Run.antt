@@ -4,8 +4,8 @@ use mathlib.Core.List.{List, [], _∷_}
 use Prim.Native.Nat.{ℕ}
 use Rattle.tlv.specs.declared.Value.the-variants.{Text}
 use Rattle.envelope.specs.Envelope.{maxMessage}
-use Rattle.cache.specs.Begin as begin
-use Rattle.cache.specs.Begin.{fresh}
+use Rattle.cache_state.specs.Begin as begin
+use Rattle.cache_state.specs.Begin.{fresh}
 use Rattle.cache_receive.specs.Receive as receive
 use Rattle.promises.specs.World.{World, afterSign, afterPanel, altered}
 use Rattle.promises.specs.World as world

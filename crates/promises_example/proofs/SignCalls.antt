@@ -59,7 +59,7 @@ use Rattle.replies.specs.Row.{keeping, nextPart, rowRight, standingIn}
 use Rattle.server.specs.Receive.{forServer, reacted, received, stepOf}
 use Rattle.server.specs.Start.{alteredBy, freshRow, started}
 use Rattle.server.specs.State.{signRight}
-use Rattle.cache_request.specs.Messages.{readMessage, successMessage}
+use Rattle.cache_messages.specs.Messages.{readMessage, successMessage}
 use Rattle.promises_example.specs.Plan.{access, defaults, edits, plan, words}
 use Rattle.promises_example.specs.Messages.{request, success, part1, part2}
 use Rattle.promises_example.specs.Sign.{sign0, sign1, sign2, sign3, changedEdits, changedValues, row1, row2}

@@ -19,12 +19,12 @@ use Rattle.report.specs.Blocks.{blockOf}
 use Rattle.replies.specs.Sign.{State, Reaction}
 use Rattle.server.specs.Receive.{received}
 use Rattle.server.specs.Start.{started, alteredBy}
-use Rattle.cached.specs.Limits.{pageSize}
-use Rattle.cached.specs.Entries.{Entry}
-use Rattle.cache.specs.declared.State as cache
-use Rattle.cache.specs.Reaction as panel
-use Rattle.cache.specs.Begin as begin
-use Rattle.cache.specs.Begin.{fresh}
+use Rattle.cache_entries.specs.Limits.{pageSize}
+use Rattle.cache_entries.specs.Entries.{Entry}
+use Rattle.cache_state.specs.declared.State as cache
+use Rattle.cache_state.specs.Reaction as panel
+use Rattle.cache_state.specs.Begin as begin
+use Rattle.cache_state.specs.Begin.{fresh}
 use Rattle.cache_receive.specs.Receive as receive
 use Rattle.cache_ask.specs.Ask.{said, saysWhole}
 use Rattle.promises.specs.World.{subjectOf, granted, signOf, callerOf, with}

@@ -9,7 +9,7 @@ use Rattle.interaction_writer.specs.Spelling.{spelling}
 use Rattle.interaction_writer.specs.Block.{Block, blockTree}
 use Rattle.interaction_writer.specs.Message.{messageTree, reportMembers}
 use Rattle.exchange.specs.Rules.{reportOpcode}
-use Rattle.cache_request.specs.Messages.{readMessage, successMessage}
+use Rattle.cache_messages.specs.Messages.{readMessage, successMessage}
 use Rattle.promises_example.specs.Plan.{text}
 
 -- of exchange 1: the request, and the success for reply 1

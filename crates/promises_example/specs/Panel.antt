@@ -5,12 +5,12 @@ use Prim.Native.Nat.{ℕ, _-_, _*_}
 use lib.ListN.{length, replicate}
 use Rattle.envelope.specs.Envelope.{maxMessage}
 use Rattle.schema.specs.Layout.{textSize}
-use Rattle.cached.specs.declared.Cached.{Cached}
-use Rattle.cached.specs.Limits.{maxEntries, maxClusters, textKind, pageSize}
-use Rattle.cache.specs.declared.State.{State}
-use Rattle.cache.specs.declared.Request.{Request}
-use Rattle.cache.specs.State.{reading, lastPart}
-use Rattle.cache.specs.Begin.{fresh}
+use Rattle.cache_entries.specs.declared.Cached.{Cached}
+use Rattle.cache_entries.specs.Limits.{maxEntries, maxClusters, textPlaces, textKind, pageSize}
+use Rattle.cache_state.specs.declared.State.{State}
+use Rattle.cache_state.specs.declared.Request.{Request}
+use Rattle.cache_state.specs.State.{reading, lastPart}
+use Rattle.cache_state.specs.Begin.{fresh}
 use Rattle.promises_example.specs.Plan.{key, path, text}
 use Rattle.promises_example.specs.Messages.{request, success, new, keptOver}
 
@@ -37,17 +37,24 @@ keptRequest = keptOver request (replicate maxMessage 0)
 unfoldable pub keptSuccess : List ℕ
 keptSuccess = keptOver success keptRequest
 
--- entries of both clusters, all texts: keys, versions and lengths
-abbrev holding : List ℕ → List ℕ → List ℕ → Bool → Cached
-holding keys versions lengths primed =
+-- a list in a column of so many words
+abbrev within : ℕ → List ℕ → List ℕ
+within size l = l ++ replicate (size - length l) 0
+
+-- entries of both clusters, all texts: keys, versions and lengths. Keys and clusters came in rising order, and each text got the next place of the page: what
+-- is in order is as many numbers from 0 on
+abbrev holding : List ℕ → List ℕ → List ℕ → List ℕ → Bool → Cached
+holding places keys versions lengths primed =
     record {
-      clusters = path 6 ∷ path 8 ∷ replicate (maxClusters - 2) 0;
+      clusters = within maxClusters (path 6 ∷ path 8 ∷ []);
       «cluster_count» = 2;
-      keys = keys ++ replicate (maxEntries - length keys) 0;
-      versions = versions ++ replicate (maxEntries - length keys) 0;
-      kinds = replicate (length keys) textKind ++ replicate (maxEntries - length keys) 0;
-      words = lengths ++ replicate (maxEntries - length keys) 0;
+      keys = within maxEntries keys;
+      versions = within maxEntries versions;
+      kinds = within maxEntries (replicate (length keys) textKind);
+      words = within maxEntries places;
       count = length keys;
+      order = within maxEntries places ++ within maxClusters (0 ∷ 1 ∷ []);
+      lengths = within textPlaces lengths;
       primed = primed;
     }
 
@@ -58,7 +65,9 @@ panel1 = record { held = fresh .held; asked = asking reading 1 keptRequest (leng
 unfoldable pub panel2 : State
 panel2 =
     record {
-      held = holding (key 0 0 ∷ key 0 1 ∷ key 1 0 ∷ key 1 1 ∷ []) (5 ∷ 5 ∷ 0xFFFF_FFFF ∷ 0xFFFF_FFFF ∷ []) (200 ∷ 200 ∷ 200 ∷ 200 ∷ []) false;
+      held =
+          holding (0 ∷ 1 ∷ 2 ∷ 3 ∷ []) (key 0 0 ∷ key 0 1 ∷ key 1 0 ∷ key 1 1 ∷ []) (5 ∷ 5 ∷ 0xFFFF_FFFF ∷ 0xFFFF_FFFF ∷ [])
+          (200 ∷ 200 ∷ 200 ∷ 200 ∷ []) false;
       asked = asking reading 2 keptSuccess (length success);
     }
 
@@ -66,7 +75,7 @@ unfoldable pub panel3 : State
 panel3 =
     record {
       held =
-          holding (key 0 0 ∷ key 0 1 ∷ key 1 0 ∷ key 1 1 ∷ key 1 2 ∷ []) (5 ∷ 5 ∷ 0xFFFF_FFFF ∷ 0xFFFF_FFFF ∷ 0 ∷ [])
+          holding (0 ∷ 1 ∷ 2 ∷ 3 ∷ 4 ∷ []) (key 0 0 ∷ key 0 1 ∷ key 1 0 ∷ key 1 1 ∷ key 1 2 ∷ []) (5 ∷ 5 ∷ 0xFFFF_FFFF ∷ 0xFFFF_FFFF ∷ 0 ∷ [])
           (200 ∷ 200 ∷ 200 ∷ 200 ∷ 3 ∷ []) true;
       asked = asking lastPart 2 keptSuccess (length success);
     }

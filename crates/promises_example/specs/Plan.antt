@@ -7,7 +7,7 @@ use Rattle.bounds.specs.Bounds.{clusterLimit, attributeLimit}
 use Rattle.schema.specs.Layout.{headerSize, half, textLimit, textSize}
 use Rattle.schema.specs.Rows.{column}
 use Rattle.acl.specs.declared.Entry.{Entry}
-use Rattle.cached.specs.Limits.{pageSize}
+use Rattle.cache_entries.specs.Limits.{pageSize}
 use Rattle.promises.specs.World.{Plan}
 
 -- attribute `id` of the cluster at a place of the list of clusters

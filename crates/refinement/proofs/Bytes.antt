@@ -16,7 +16,7 @@ use Rattle.round_trip.specs.Meant.{WantedFits, reportOctets, Outcome, OutcomeFi
 use Rattle.schema.specs.Rows.{attributeCount}
 use Rattle.schema.specs.Rules.{pathAt}
 use Rattle.exchange.specs.Rules.{reportOpcode, writeResponseOpcode, firstReply}
-use Rattle.cache_request.specs.Messages.{readMessage, writeMessage, successMessage}
+use Rattle.cache_messages.specs.Messages.{readMessage, writeMessage, successMessage}
 use Rattle.cache_trip.specs.Taken.{Takable}
 use Rattle.protocol.specs.Model.{Entry, Message, read, write, success, Part}
 use Rattle.refinement.proofs.Terms.{placeAt, filtersAs}

@@ -5,17 +5,16 @@ use mathlib.Core.List.{List, List·Memᴰ}
 use Prim.Native.Nat.{ℕ, _^_, _<_}
 use lib.Dec.{eqb}
 use lib.ListN.{getD}
-use Rattle.bounds.specs.Bounds.{versionLimit}
 use Rattle.tlv.specs.Value.{Datum}
 use Rattle.tlv.specs.Decode.Opt.{just}
 use Rattle.schema.specs.Rows.{clusterRow, clusterCount}
 use Rattle.schema.specs.Rules.{path, pathAt}
-use Rattle.cached.specs.declared.Cached.{Cached}
-use Rattle.cached.specs.Entries as cached
-use Rattle.cached.specs.Entries.{clusterWord, lookup}
-use Rattle.cache.specs.declared.State.{State}
-use Rattle.cache.specs.State.{reading, writing, isOpen}
-use Rattle.cache.specs.Begin.{keptMessage}
+use Rattle.cache_entries.specs.declared.Cached.{Cached}
+use Rattle.cache_entries.specs.Entries as cached
+use Rattle.cache_entries.specs.Entries.{clusterWord, lookup}
+use Rattle.cache_state.specs.declared.State.{State}
+use Rattle.cache_state.specs.State.{reading, writing, isOpen}
+use Rattle.cache_state.specs.Begin.{keptMessage}
 use Rattle.cache_laws.proofs.BegunLaws.{ValidPanel}
 use Rattle.cache_trip.specs.Exact.{Distinct}
 use Rattle.protocol.specs.Model.{Entry, Cache}
@@ -43,7 +42,6 @@ pub record HeldAs (w page : List ℕ) (c : Cached) (entries : List (Entry Datum)
   pub clusters-once : Distinct c
   pub keys-once : DistinctKeys c
   pub cluster-rows : ClusterRows w c
-  pub versions-fit : (i : ℕ) → getD (c .versions) i 0 < versionLimit
   pub right : (e : Entry Datum) → List·Memᴰ e entries → EntryRight w e
   pub has : (e : Entry Datum) → List·Memᴰ e entries → let q = pathAt w (e .place .attribute) in lookup c page (q .endpoint) (q .cluster) (q .attribute) ≡ just (record { version = e .version; value = e .value })
   pub only : (endpoint cluster attribute : ℕ) → endpoint < 2 ^ 16 → cluster < 2 ^ 32 → attribute < 2 ^ 32 → (x : cached.Entry) → lookup c page endpoint cluster attribute ≡ just x → Found w entries endpoint cluster attribute x

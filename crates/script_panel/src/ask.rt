@@ -5,12 +5,12 @@ ghost use Rattle.interaction_writer.specs.Envelope.{bigOctets};
 ghost use Rattle.tlv_writer.specs.Element.{InPage};
 ghost use Rattle.script_answer.specs.declared.Said.the-variants as says;
 ghost use Rattle.script_panel.specs.Shown.{wholeShown, outcomeShown, unknownShown, Shows};
-use cache::State;
+use super::Panel;
 use cache_ask::Abandoned;
 use cache_ask::Ended;
 use cache_ask::Held;
 use cache_ask::Whole;
-use cached::PAGE_SIZE;
+use cache_entries::PAGE_SIZE;
 use envelope::MAX_MESSAGE;
 use kinds::stored::same_bytes;
 use script::Scan;
@@ -86,11 +86,11 @@ fn say_whole(w: Whole, out: &mut [u8; MAX_MESSAGE]) -> Said
     ensures { λ r. ⌜ Shows (wholeShown w) (now (out .entry)) (now (out .exit)) r ⌝ }
 {
     match w {
-        Whole::Broken => said(cache::BROKEN, 0),
-        Whole::No => said(cache::NOTHING, 0),
+        Whole::Broken => said(cache_state::BROKEN, 0),
+        Whole::No => said(cache_state::NOTHING, 0),
         Whole::At(v) => {
             put_version(out, v);
-            said(cache::DONE, VERSION_SIZE)
+            said(cache_state::DONE, VERSION_SIZE)
         }
     }
 }
@@ -99,16 +99,16 @@ fn say_outcome(e: Ended, out: &mut [u8; MAX_MESSAGE]) -> Said
     ensures { λ r. ⌜ Shows (outcomeShown e) (now (out .entry)) (now (out .exit)) r ⌝ }
 {
     match e {
-        Ended::Broken => said(cache::BROKEN, 0),
-        Ended::NoneYet => said(cache::NOTHING, 0),
+        Ended::Broken => said(cache_state::BROKEN, 0),
+        Ended::NoneYet => said(cache_state::NOTHING, 0),
         Ended::Open => {
             out[0] = 0;
-            said(cache::NOTHING, 1)
+            said(cache_state::NOTHING, 1)
         }
-        Ended::LastPart => said(cache::DONE, 0),
+        Ended::LastPart => said(cache_state::DONE, 0),
         Ended::Status(code) => {
             out[0] = code;
-            said(cache::DONE, 1)
+            said(cache_state::DONE, 1)
         }
     }
 }
@@ -117,11 +117,11 @@ fn say_unknown(a: Abandoned, out: &mut [u8; MAX_MESSAGE]) -> Said
     ensures { λ r. ⌜ Shows (unknownShown a) (now (out .entry)) (now (out .exit)) r ⌝ }
 {
     match a {
-        Abandoned::Broken => said(cache::BROKEN, 0),
-        Abandoned::Nothing => said(cache::NOTHING, 0),
+        Abandoned::Broken => said(cache_state::BROKEN, 0),
+        Abandoned::Nothing => said(cache_state::NOTHING, 0),
         Abandoned::Exchange(n) => {
             put_exchange(out, n);
-            said(cache::DONE, EXCHANGE_SIZE)
+            said(cache_state::DONE, EXCHANGE_SIZE)
         }
     }
 }
@@ -129,7 +129,7 @@ fn say_unknown(a: Abandoned, out: &mut [u8; MAX_MESSAGE]) -> Said
 fn whole_line(
     line: &[u8],
     s: Scan,
-    panel: State,
+    panel: Panel,
     page: &[u8; PAGE_SIZE],
     out: &mut [u8; MAX_MESSAGE],
 ) -> Said {
@@ -137,13 +137,27 @@ fn whole_line(
     if !is_done(a.next) {
         return Said::Wrong(UNREADABLE);
     }
-    say_whole(cache_ask::coherent(page, panel, a.endpoint, a.cluster), out)
+    let p = panel;
+    let w = cache_ask::coherent(
+        page,
+        &p.clusters,
+        &p.keys,
+        &p.versions,
+        &p.kinds,
+        &p.words,
+        &p.order,
+        &p.lengths,
+        &p.asked,
+        a.endpoint,
+        a.cluster,
+    );
+    say_whole(w, out)
 }
 
 fn entry_line(
     line: &[u8],
     s: Scan,
-    panel: State,
+    panel: Panel,
     page: &[u8; PAGE_SIZE],
     out: &mut [u8; MAX_MESSAGE],
 ) -> Said {
@@ -151,38 +165,77 @@ fn entry_line(
     if !is_done(a.next) {
         return Said::Wrong(UNREADABLE);
     }
-    match cache_ask::entry(page, panel, a.endpoint, a.cluster, a.attribute) {
-        Held::Broken => said(cache::BROKEN, 0),
-        Held::Nothing => said(cache::NOTHING, 0),
+    let p = panel;
+    let h = cache_ask::entry(
+        page,
+        &p.clusters,
+        &p.keys,
+        &p.versions,
+        &p.kinds,
+        &p.words,
+        &p.order,
+        &p.lengths,
+        &p.asked,
+        a.endpoint,
+        a.cluster,
+        a.attribute,
+    );
+    match h {
+        Held::Broken => said(cache_state::BROKEN, 0),
+        Held::Nothing => said(cache_state::NOTHING, 0),
         Held::Here(version, v) => {
             put_version(out, version);
-            said(cache::DONE, put_value(out, v, page))
+            said(cache_state::DONE, put_value(out, v, page))
         }
     }
 }
 
 fn outcome_line(
     s: Scan,
-    panel: State,
+    panel: Panel,
     page: &[u8; PAGE_SIZE],
     out: &mut [u8; MAX_MESSAGE],
 ) -> Said {
     if !is_done(s) {
         return Said::Wrong(UNREADABLE);
     }
-    say_outcome(cache_ask::outcome(page, panel), out)
+    let p = panel;
+    let e = cache_ask::outcome(
+        page,
+        &p.clusters,
+        &p.keys,
+        &p.versions,
+        &p.kinds,
+        &p.words,
+        &p.order,
+        &p.lengths,
+        &p.asked,
+    );
+    say_outcome(e, out)
 }
 
 fn unknown_line(
     s: Scan,
-    panel: State,
+    panel: Panel,
     page: &[u8; PAGE_SIZE],
     out: &mut [u8; MAX_MESSAGE],
 ) -> Said {
     if !is_done(s) {
         return Said::Wrong(UNREADABLE);
     }
-    say_unknown(cache_ask::unknown(page, panel), out)
+    let p = panel;
+    let a = cache_ask::unknown(
+        page,
+        &p.clusters,
+        &p.keys,
+        &p.versions,
+        &p.kinds,
+        &p.words,
+        &p.order,
+        &p.lengths,
+        &p.asked,
+    );
+    say_unknown(a, out)
 }
 
 // A line that is none of the others, if it is one at all.
@@ -190,7 +243,7 @@ pub fn ask_line(
     name: &[u8],
     line: &[u8],
     s: Scan,
-    panel: State,
+    panel: Panel,
     page: &[u8; PAGE_SIZE],
     out: &mut [u8; MAX_MESSAGE],
 ) -> Said {

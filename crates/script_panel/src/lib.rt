@@ -1,12 +1,19 @@
 // Lines for the panel: requests that it begins or sends again, messages handed to it, and what it holds. No input and no output.
 ghost use Prim.Native.Nat.{_<_};
-use cache::Outcome;
-use cache::State;
-use cache::begin::begin_read;
-use cache::begin::begin_write;
-use cache::begin::resend;
+use cache_entries::CLUSTERS;
+use cache_entries::ENTRIES;
+use cache_entries::ORDER_SIZE;
+use cache_entries::PAGE_SIZE;
+use cache_entries::TEXT_PLACES;
 use cache_receive::receive;
-use cached::PAGE_SIZE;
+use cache_state::ASKED_WORDS;
+use cache_state::Outcome;
+use cache_state::begin;
+use cache_state::begin::begin_read;
+use cache_state::begin::begin_write;
+use cache_state::begin::resend;
+use cache_state::words::put_standing;
+use cache_state::words::read_standing;
 use envelope::MAX_MESSAGE;
 use kinds::stored::same_bytes;
 use script::Scan;
@@ -29,25 +36,92 @@ use tlv::Value;
 
 pub mod ask; // ask.rt: what the panel holds
 
-// What the panel answered, or what is wrong with the line.
-pub struct Acted {
+// What a panel is lent but for its page of texts, kept by value between the lines of a script.
+pub struct Panel {
+    pub clusters: [u64; CLUSTERS],
+    pub keys: [u64; ENTRIES],
+    pub versions: [u64; ENTRIES],
+    pub kinds: [u8; ENTRIES],
+    pub words: [u64; ENTRIES],
+    pub order: [u8; ORDER_SIZE],
+    pub lengths: [u16; TEXT_PLACES],
+    pub asked: [u64; ASKED_WORDS],
+    pub kept: [u8; MAX_MESSAGE],
+}
+
+// The panel after a line, and what it answered.
+pub struct Answered {
+    pub panel: Panel,
     pub outcome: Outcome,
+}
+
+// That, or what is wrong with the line.
+pub struct Acted {
+    pub answered: Answered,
     pub fault: u8,
 }
 
-fn unplayed(state: State, fault: u8) -> Acted {
+// A fresh panel.
+pub fn fresh() -> Panel {
+    let mut clusters = [0u64; CLUSTERS];
+    let mut keys = [0u64; ENTRIES];
+    let mut versions = [0u64; ENTRIES];
+    let mut kinds = [0u8; ENTRIES];
+    let mut words = [0u64; ENTRIES];
+    let mut order = [0u8; ORDER_SIZE];
+    let mut lengths = [0u16; TEXT_PLACES];
+    let mut asked = [0u64; ASKED_WORDS];
+    let mut kept = [0u8; MAX_MESSAGE];
+    begin::fresh(
+        &mut clusters,
+        &mut keys,
+        &mut versions,
+        &mut kinds,
+        &mut words,
+        &mut order,
+        &mut lengths,
+        &mut asked,
+        &mut kept,
+    );
+    Panel {
+        clusters,
+        keys,
+        versions,
+        kinds,
+        words,
+        order,
+        lengths,
+        asked,
+        kept,
+    }
+}
+
+fn unplayed(panel: Panel, fault: u8) -> Acted {
     Acted {
-        outcome: Outcome {
-            state,
-            number: 0,
-            len: 0,
+        answered: Answered {
+            panel,
+            outcome: Outcome { number: 0, len: 0 },
         },
         fault,
     }
 }
 
-fn played(outcome: Outcome) -> Acted {
-    Acted { outcome, fault: 0 }
+fn played(answered: Answered) -> Acted {
+    Acted { answered, fault: 0 }
+}
+
+// The panel's exchange numbers up to n count as used; that never lowers them.
+pub fn used_up(panel: Panel, n: u64) -> Panel {
+    let mut asked = panel.asked;
+    let mut t = read_standing(&asked);
+    if n <= t.used {
+        return panel;
+    }
+    t.used = n;
+    put_standing(&mut asked, t);
+    let mut next = panel;
+    next.asked = asked;
+    next
 }
 
 // `panel`, or `back`: the sign's newest reply.
@@ -58,40 +132,137 @@ fn handed(name: &[u8], line: &[u8], s: Scan, replied: Message) -> Handed {
     spelled(line, s)
 }
 
-// The panel is handed a message, with a buffer as long as the script says, or ours where that is longer: from 1,032 bytes on, its length makes no
-// difference to any answer.
-fn hand(page: &mut [u8], panel: State, m: Message, out: &mut [u8], room: usize) -> Outcome {
+// The panel is handed a message.
+fn take(page: &mut [u8], panel: Panel, message: &[u8], out: &mut [u8]) -> Answered {
+    let mut clusters = panel.clusters;
+    let mut keys = panel.keys;
+    let mut versions = panel.versions;
+    let mut kinds = panel.kinds;
+    let mut words = panel.words;
+    let mut order = panel.order;
+    let mut lengths = panel.lengths;
+    let mut asked = panel.asked;
+    let mut kept = panel.kept;
+    let outcome = receive(
+        page,
+        &mut clusters,
+        &mut keys,
+        &mut versions,
+        &mut kinds,
+        &mut words,
+        &mut order,
+        &mut lengths,
+        &mut asked,
+        &mut kept,
+        message,
+        out,
+    );
+    let next = Panel {
+        clusters,
+        keys,
+        versions,
+        kinds,
+        words,
+        order,
+        lengths,
+        asked,
+        kept,
+    };
+    Answered {
+        panel: next,
+        outcome,
+    }
+}
+
+// With a buffer as long as the script says, or ours where that is longer: from 1,032 bytes on, its length makes no difference to any answer.
+fn hand(page: &mut [u8], panel: Panel, m: Message, out: &mut [u8], room: usize) -> Answered {
     let n = clip(room, out);
     let bytes = m.bytes;
     let k = clip(m.len, &bytes);
-    receive(page, panel, &bytes[..k], &mut out[..n])
+    take(page, panel, &bytes[..k], &mut out[..n])
 }
 
-// `read`, or `resend`.
-fn ask_again(resending: bool, page: &[u8], panel: State, out: &mut [u8], room: usize) -> Outcome {
+// `resend`
+fn again(page: &[u8], panel: Panel, out: &mut [u8]) -> Answered {
+    let p = panel;
+    let outcome = resend(
+        page,
+        &p.clusters,
+        &p.keys,
+        &p.versions,
+        &p.kinds,
+        &p.words,
+        &p.order,
+        &p.lengths,
+        &p.asked,
+        &p.kept,
+        out,
+    );
+    Answered { panel, outcome }
+}
+
+// `read`
+fn read(page: &[u8], panel: Panel, out: &mut [u8]) -> Answered {
+    let mut next = panel;
+    let mut asked = panel.asked;
+    let mut kept = panel.kept;
+    let outcome = begin_read(
+        page,
+        &next.clusters,
+        &next.keys,
+        &next.versions,
+        &next.kinds,
+        &next.words,
+        &next.order,
+        &next.lengths,
+        &mut asked,
+        &mut kept,
+        out,
+    );
+    next.asked = asked;
+    next.kept = kept;
+    Answered {
+        panel: next,
+        outcome,
+    }
+}
+
+// `read`, or `resend`, with a buffer as long as the script says.
+fn ask_again(resending: bool, page: &[u8], panel: Panel, out: &mut [u8], room: usize) -> Answered {
     let n = clip(room, out);
     if resending {
-        return resend(page, panel, &mut out[..n]);
+        return again(page, panel, &mut out[..n]);
     }
-    begin_read(page, panel, &mut out[..n])
+    read(page, panel, &mut out[..n])
 }
 
 fn change<'a>(
     page: &'a [u8],
-    panel: State,
+    panel: Panel,
     a: Path,
     version: Marked,
     new: Value,
     src: &'a [u8],
     out: &mut [u8],
     room: usize,
-) -> Outcome
+) -> Answered
     requires { ⌜ version .value < 4294967296 ⌝ }
 {
     let n = clip(room, out);
-    begin_write(
+    let mut next = panel;
+    let mut asked = panel.asked;
+    let mut kept = panel.kept;
+    let outcome = begin_write(
         page,
-        panel,
+        &next.clusters,
+        &next.keys,
+        &next.versions,
+        &next.kinds,
+        &next.words,
+        &next.order,
+        &next.lengths,
+        &mut asked,
+        &mut kept,
         a.endpoint,
         a.cluster,
         a.attribute,
@@ -100,13 +271,19 @@ fn change<'a>(
         new,
         src,
         &mut out[..n],
-    )
+    );
+    next.asked = asked;
+    next.kept = kept;
+    Answered {
+        panel: next,
+        outcome,
+    }
 }
 
 fn write_line(
     line: &[u8],
     s: Scan,
-    panel: State,
+    panel: Panel,
     page: &[u8; PAGE_SIZE],
     out: &mut [u8; MAX_MESSAGE],
     room: usize,
@@ -149,7 +326,7 @@ fn begin_line(
     name: &[u8],
     line: &[u8],
     s: Scan,
-    panel: State,
+    panel: Panel,
     page: &[u8; PAGE_SIZE],
     out: &mut [u8; MAX_MESSAGE],
     room: usize,
@@ -167,7 +344,7 @@ pub fn panel_line(
     name: &[u8],
     line: &[u8],
     s: Scan,
-    panel: State,
+    panel: Panel,
     replied: Message,
     page: &mut [u8; PAGE_SIZE],
     out: &mut [u8; MAX_MESSAGE],

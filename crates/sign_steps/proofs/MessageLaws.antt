@@ -16,7 +16,7 @@ use Rattle.exchange.specs.Rules.{readOpcode, writeOpcode, maxTurn}
 use Rattle.exchange.proofs.ActionLaws.{read-action, write-action}
 use Rattle.round_trip.specs.Meant.{WantedFits, readAnswer, readOctets}
 use Rattle.round_trip.proofs.ReaderLaws.{read-answered}
-use Rattle.cache_request.specs.Messages.{readMessage, writeMessage, successMessage}
+use Rattle.cache_messages.specs.Messages.{readMessage, writeMessage, successMessage}
 use Rattle.cache_laws.proofs.BoundLaws.{success-sized}
 use Rattle.cache_trip.proofs.BeginLaws.{after-envelope, read-envelope, write-envelope, write-taken, success-meant, success-envelope}
 use Rattle.replies.specs.Messages.{maxMessage}

@@ -8,8 +8,8 @@ use Rattle.interaction.specs.declared.Wanted.{Wanted}
 use Rattle.interaction_writer.specs.Spelling.{Each}
 use Rattle.interaction_writer.specs.Block.{ShortText}
 use Rattle.round_trip.specs.Meant.{WantedFits}
-use Rattle.cached.specs.Limits.{maxClusters}
-use Rattle.cache_request.specs.Messages.{readMessage, writeMessage}
+use Rattle.cache_entries.specs.Limits.{maxClusters}
+use Rattle.cache_messages.specs.Messages.{readMessage, writeMessage}
 use Rattle.cache_laws.proofs.BoundLaws.{Narrow, read-sized, write-sized}
 use Rattle.cache_trip.specs.Taken.{Takable}
 use Rattle.replies.specs.Messages.{maxMessage}

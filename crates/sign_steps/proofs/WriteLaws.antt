@@ -22,7 +22,7 @@ use Rattle.writes.specs.Entry.{mayWrite, entryWritten, heldAfter, codesOf}
 use Rattle.writes.specs.Response.{answerTrees, responsePayload}
 use Rattle.writes.proofs.EntryLaws.{may-index}
 use Rattle.writes.proofs.StatusLaws.{codes-octets}
-use Rattle.cache_request.specs.Messages.{writeMessage}
+use Rattle.cache_messages.specs.Messages.{writeMessage}
 use Rattle.exchange.specs.declared.Progress.{Progress}
 use Rattle.replies.specs.Messages.{envelopeLength, maxMessage, responseMessage}
 use Rattle.replies.specs.Sign.{State, heldBy}

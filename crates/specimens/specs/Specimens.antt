@@ -13,7 +13,7 @@ use Rattle.envelope.specs.Envelope.{envelopeLength, maxMessage}
 use Rattle.schema.specs.Layout.{textSize}
 use Rattle.acl.specs.Access.{tableOk}
 use Rattle.exchange.specs.Rules.{firstReply, maxTurn}
-use Rattle.cached.specs.Limits as Panel
+use Rattle.cache_entries.specs.Limits as Panel
 use Rattle.replies.specs.Sign.{State, Reaction}
 use Rattle.server.specs.State.{signRight}
 use Rattle.server.specs.Receive.{received}

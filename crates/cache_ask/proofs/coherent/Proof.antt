@@ -1,37 +1,61 @@
-use Rattle.cache_ask.proofs.SaidLaws.{whole-says}
-use Rattle.cache.proofs.StateLaws.{right-within}
-use Rattle.cache_ask.specs.Ask.{wholeOf}
+use Rattle.cache_state.specs.declared.Standing.{Standing}
+use Rattle.cache_state.specs.declared.State.{State}
+use Rattle.cache_state.specs.Words.{wordsRight, standingIn, stateWith}
+use Rattle.cache_state.specs.State.{panelRight}
+use Rattle.schema.proofs.BoolLaws.{left, right}
 use borrow.Author.Tests.{not-true, not-false}
-use mathlib.Core.Path.{refl, sym, _∙_}
+use mathlib.Core.List.{List, []}
+use mathlib.Core.Bool.{true, _&&_}
+use Prim.Native.Nat.{ℕ}
+use mathlib.Core.Path.{_≡_, sym, subst, _∙_}
+use Rattle.cache_ask.proofs.SaidLaws.{whole-right, whole-broken}
+use Rattle.cache_ask.specs.Ask.{AnswersWhole}
+use Rattle.cache_ask.specs.declared.Whole.{Whole}
+use Rattle.cache_state.proofs.StateLaws.{right-bounded}
 use borrow.Author.Needs.{needs}
 use Rattle.cache_ask.proofs.coherent.Statement.{statement}
 use Rattle.cache_ask.proofs.coherent.Tie as tie
-use Rattle.cache_ask.proofs.coherent.Reads as reads
-use Rattle.cache_ask.proofs.coherent.Lts as lts
-use Rattle.cache_ask.proofs.whole_of.Reads as whole-of-reads
-use Rattle.cache.proofs.panel_ok.Reads as panel-ok-reads
+
+-- the state that is lent, where t was read from its words
+abbrev lent : tie.Start → Standing → List ℕ → State
+lent s t kept = stateWith (s .args .clusters .now) (s .args .keys .now) (s .args .versions .now) (s .args .kinds .now) (s .args .words .now) (s .args .order .now) (s .args .lengths .now) t kept
+
+as-read : (c : tie.After-panel-ok) (kept : List ℕ) {r : Whole} → let s = c .before .before .before in AnswersWhole (s .args .asked .now) (s .args .page .now) (lent s (c .before .read-standing .result) kept) (s .args .endpoint) (s .args .cluster) r → AnswersWhole (s .args .asked .now) (s .args .page .now) (lent s (standingIn (s .args .asked .now)) kept) (s .args .endpoint) (s .args .cluster) r
+as-read c kept {r} k = let s = c .before .before .before in subst (λ (t : Standing). AnswersWhole (s .args .asked .now) (s .args .page .now) (lent s t kept) (s .args .endpoint) (s .args .cluster) r) (c .before .read-standing .ensures .0) k
+
+-- it keeps the rules
+kept-rules : (c : tie.Else1) (kept : List ℕ) → let s = c .before .before .before .before in (wordsRight (s .args .asked .now) && panelRight (s .args .page .now) (lent s (c .before .before .read-standing .result) kept)) ≡ true
+kept-rules c kept = sym (c .before .panel-ok .ensures kept) ∙ not-false _ (c .if1 .left)
+
+read-standing-requires : tie.Need-read-standing-requires
+read-standing-requires c κs = search needs
 
 panel-ok-requires : tie.Need-panel-ok-requires
 panel-ok-requires c κs = search needs
 
 returns : tie.Need-returns
-unfolding wholeOf
-returns c = let a = c .before .before .before .args in whole-says (a .page .now) (a .state) (a .endpoint) (a .cluster) (rw (sym (c .before .panel-ok .ensures) ∙ not-true _ (c .if1 .taken)) refl)
+returns c = let s = c .before .before .before .before in let a = s .args in λ kept. as-read (c .before) kept (whole-broken (a .asked .now) (a .page .now) (lent s (c .before .before .read-standing .result) kept) (a .endpoint) (a .cluster) (sym (c .before .panel-ok .ensures kept) ∙ not-true _ (c .if1 .taken)))
 
-mul-whole-of : tie.Need-mul-whole-of
-mul-whole-of c = search needs
+mul-word : tie.Need-mul-word
+mul-word c = search needs
 
-add-whole-of : tie.Need-add-whole-of
-add-whole-of c = search needs
+add-word : tie.Need-add-word
+add-word c = search needs
 
 whole-of-requires : tie.Need-whole-of-requires
-whole-of-requires c κs = right-within (c .before .before .before .args .page .now) (c .before .before .before .args .state) (sym (c .before .panel-ok .ensures) ∙ not-false _ (c .if1 .left))
+whole-of-requires c κs = let s = c .before .before .before .before in let a = s .args in right-bounded (a .page .now) (lent s (c .before .before .read-standing .result) []) (right (wordsRight (a .asked .now)) _ (kept-rules (c) []))
 
 returns-2 : tie.Need-returns-2
-unfolding wholeOf
-returns-2 c = let a = c .before .before .before .before .args in whole-says (a .page .now) (a .state) (a .endpoint) (a .cluster) (c .whole-of .ensures ∙ rw (sym (c .before .before .panel-ok .ensures) ∙ not-false _ (c .before .if1 .left)) refl)
+returns-2 c = let s = c .before .before .before .before .before in let a = s .args in λ kept. as-read (c .before .before) kept (whole-right (a .asked .now) (a .page .now) (lent s (c .before .before .before .read-standing .result) kept) (a .endpoint) (a .cluster) (kept-rules (c .before) kept) (c .whole-of .ensures (a .kinds .now) (a .words .now) (a .lengths .now)))
 
 pub coherent-spec : {M : Type 1} → statement M
 coherent-spec =
     tie.close
-    (tie.spec panel-ok-requires returns mul-whole-of add-whole-of whole-of-requires returns-2)
+    (tie.spec
+    read-standing-requires
+    panel-ok-requires
+    returns
+    mul-word
+    add-word
+    whole-of-requires
+    returns-2)

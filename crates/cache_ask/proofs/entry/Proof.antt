@@ -1,37 +1,62 @@
-use Rattle.cache_ask.proofs.SaidLaws.{entry-says}
-use Rattle.cache_ask.proofs.AskLaws.{entry-found}
-use Rattle.cache.proofs.StateLaws.{right-within}
-use Rattle.cache_ask.specs.Ask.{entryRead, entryOf}
-use Rattle.cache_ask.specs.declared.Held.the-variants as held
-use Rattle.tlv.specs.declared.Value.{Value}
-use Rattle.cached.specs.Limits.{maxEntries}
+use Rattle.cache_state.specs.declared.Standing.{Standing}
+use Rattle.cache_state.specs.declared.State.{State}
+use Rattle.cache_state.specs.Words.{wordsRight, standingIn, stateWith}
+use Rattle.cache_state.specs.State.{panelRight}
+use Rattle.schema.proofs.BoolLaws.{left, right}
 use borrow.Author.Tests.{not-true, not-false}
+use mathlib.Core.List.{List, []}
+use mathlib.Core.Bool.{true, _&&_}
+use Prim.Native.Nat.{ℕ}
+use mathlib.Core.Path.{_≡_, refl, sym, ap, subst, _∙_}
+use Rattle.cache_ask.proofs.SaidLaws.{entry-right, entry-broken}
+use Rattle.cache_ask.proofs.AskLaws.{right-ordered, entry-found, found-word, found-place}
+use Rattle.cache_ask.specs.Ask.{entryRead, AnswersEntry}
+use Rattle.cache_ask.specs.declared.Held.{Held}
+use Rattle.cache_ask.specs.declared.Held.the-variants as held
+use Rattle.cache_entries.specs.Limits.{maxEntries, noVersion}
+use Rattle.cache_entries.specs.Entries.{pathAt}
+use Rattle.tlv.specs.declared.Value.{Value}
+use Rattle.schema.specs.declared.Found.the-variants as found
 use lib.ListN.{getD}
-use Prim.Native.Nat.{_<_}
+use borrow.Author.Tests.{lt-ltb, le-ltb}
 use native.Mathlib.Omega.{arith}
-use mathlib.Core.Path.{refl, sym, ap, _∙_}
+use Prim.Native.Nat.{_<_}
 use borrow.Author.Needs.{needs}
 use Rattle.cache_ask.proofs.entry.Statement.{statement}
 use Rattle.cache_ask.proofs.entry.Tie as tie
-use Rattle.cache_ask.proofs.entry.Reads as reads
-use Rattle.cache_ask.proofs.entry.Lts as lts
-use Rattle.cache_ask.proofs.path_at.Reads as path-at-reads
-use Rattle.cache_ask.proofs.value_by.Reads as value-by-reads
-use Rattle.cache.proofs.panel_ok.Reads as panel-ok-reads
 
--- the entry that was found is one of those held
-found-below : (c : tie.After-i) → c .i .given .0 .0 < maxEntries
-found-below c = entry-found (c .before .before .before .before .before .before .before .args .state .held) (right-within (c .before .before .before .before .before .before .before .args .page .now) (c .before .before .before .before .before .before .before .args .state) (sym (c .before .before .before .before .before .panel-ok .ensures) ∙ not-false _ (c .before .before .before .before .if1 .left))) _ _ _ _ (sym (c .before .before .path-at .ensures) ∙ c .i .given .1)
+-- the state that is lent, where t was read from its words
+abbrev lent : tie.Start → Standing → List ℕ → State
+lent s t kept = stateWith (s .args .clusters .now) (s .args .keys .now) (s .args .versions .now) (s .args .kinds .now) (s .args .words .now) (s .args .order .now) (s .args .lengths .now) t kept
+
+as-read : (c : tie.After-panel-ok) (kept : List ℕ) {r : Held} → let s = c .before .before .before in AnswersEntry (s .args .asked .now) (s .args .page .now) (lent s (c .before .read-standing .result) kept) (s .args .endpoint) (s .args .cluster) (s .args .attribute) r → AnswersEntry (s .args .asked .now) (s .args .page .now) (lent s (standingIn (s .args .asked .now)) kept) (s .args .endpoint) (s .args .cluster) (s .args .attribute) r
+as-read c kept {r} k = let s = c .before .before .before in subst (λ (t : Standing). AnswersEntry (s .args .asked .now) (s .args .page .now) (lent s t kept) (s .args .endpoint) (s .args .cluster) (s .args .attribute) r) (c .before .read-standing .ensures .0) k
+
+-- it keeps the rules
+kept-rules : (c : tie.Else1) (kept : List ℕ) → let s = c .before .before .before .before in (wordsRight (s .args .asked .now) && panelRight (s .args .page .now) (lent s (c .before .before .read-standing .result) kept)) ≡ true
+kept-rules c kept = sym (c .before .panel-ok .ensures kept) ∙ not-false _ (c .if1 .left)
+
+ruled : (c : tie.Else1) (kept : List ℕ) → let s = c .before .before .before .before in panelRight (s .args .page .now) (lent s (c .before .before .read-standing .result) kept) ≡ true
+ruled c kept = right (wordsRight (c .before .before .before .before .args .asked .now)) _ (kept-rules c kept)
+
+-- the entry that was found
+there : (c : tie.After-i) → let e = c .before .before .before in let s = e .before .before .before .before in pathAt (lent s (e .before .before .read-standing .result) [] .held) (s .args .endpoint) (s .args .cluster) (s .args .attribute) ≡ found.At (c .i .given .0 .0)
+there c = let s = c .before .before .before .before .before .before .before in sym (c .before .before .path-at .ensures (s .args .versions .now) (s .args .kinds .now) (s .args .words .now) (s .args .lengths .now)) ∙ c .i .given .1
+
+below : (c : tie.After-i) → c .i .given .0 .0 < maxEntries
+below c = let e = c .before .before .before in let s = e .before .before .before .before in entry-found (s .args .page .now) (lent s (e .before .before .read-standing .result) []) (ruled e []) (s .args .endpoint) (s .args .cluster) (s .args .attribute) (c .i .given .0 .0) (there c)
+
+read-standing-requires : tie.Need-read-standing-requires
+read-standing-requires c κs = search needs
 
 panel-ok-requires : tie.Need-panel-ok-requires
 panel-ok-requires c κs = search needs
 
 returns : tie.Need-returns
-unfolding entryOf
-returns c = let a = c .before .before .before .args in entry-says (a .page .now) (a .state) (a .endpoint) (a .cluster) (a .attribute) (rw (sym (c .before .panel-ok .ensures) ∙ not-true _ (c .if1 .taken)) refl)
+returns c = let s = c .before .before .before .before in let a = s .args in λ kept. as-read (c .before) kept (entry-broken (a .asked .now) (a .page .now) (lent s (c .before .before .read-standing .result) kept) (a .endpoint) (a .cluster) (a .attribute) (sym (c .before .panel-ok .ensures kept) ∙ not-true _ (c .if1 .taken)))
 
 path-at-requires : tie.Need-path-at-requires
-path-at-requires c κs = right-within (c .before .before .before .before .args .page .now) (c .before .before .before .before .args .state) (sym (c .before .before .panel-ok .ensures) ∙ not-false _ (c .before .if1 .left))
+path-at-requires c κs = right-ordered (c .before .before .before .before .args .page .now) (lent (c .before .before .before .before) (c .before .before .read-standing .result) []) (ruled (c) [])
 
 enum-known-i : tie.Need-enum-known-i
 enum-known-i c = search needs
@@ -40,45 +65,52 @@ enum-told : tie.Need-enum-told
 enum-told c = search needs
 
 returns-2 : tie.Need-returns-2
-unfolding entryOf
-returns-2 c = let a = c .before .before .before .before .before .before .before .args in entry-says (a .page .now) (a .state) (a .endpoint) (a .cluster) (a .attribute) (rw (sym (c .before .before .before .before .before .panel-ok .ensures) ∙ not-false _ (c .before .before .before .before .if1 .left)) (sym (ap (entryRead (c .before .before .before .before .before .before .before .args .state .held)) (sym (c .before .before .path-at .ensures) ∙ c .enum-told .given .1))))
+returns-2 c = let s = c .before .before .before .before .before .before .before in let a = s .args in λ kept. as-read (c .before .before .before .before) kept (entry-right (a .asked .now) (a .page .now) (lent s (c .before .before .before .before .before .read-standing .result) kept) (a .endpoint) (a .cluster) (a .attribute) (kept-rules (c .before .before .before) kept) (sym (ap (entryRead (lent s (c .before .before .before .before .before .read-standing .result) kept .held)) (sym (c .before .before .path-at .ensures (a .versions .now) (a .kinds .now) (a .words .now) (a .lengths .now)) ∙ c .enum-told .given .1))))
 
-mul-t12 : tie.Need-mul-t12
-mul-t12 c = omega (arith, found-below (c .before))
+mul-version : tie.Need-mul-version
+mul-version c = omega (arith, below (c .before))
 
-element-copy-out-t15 : tie.Need-element-copy-out-t15
-element-copy-out-t15 c = omega (arith, found-below (c .before))
-
-element-copy-out-value-by : tie.Need-element-copy-out-value-by
-element-copy-out-value-by c = omega (arith, found-below (c .before .before))
-
-mul-value-by : tie.Need-mul-value-by
-mul-value-by c = omega (arith, found-below (c .before .before .before))
-
-element-copy-out-value-by-2 : tie.Need-element-copy-out-value-by-2
-element-copy-out-value-by-2 c = omega (arith, found-below (c .before .before .before))
-
-value-by-requires : tie.Need-value-by-requires
-value-by-requires c κs = omega (arith, found-below (c .before .before .before .before))
+element-copy-out-version : tie.Need-element-copy-out-version
+element-copy-out-version c = omega (arith, below (c .before))
 
 returns-3 : tie.Need-returns-3
-unfolding entryOf
-returns-3 c = let a = c .before .before .before .before .before .before .before .before .before .before .before .before .args in entry-says (a .page .now) (a .state) (a .endpoint) (a .cluster) (a .attribute) (rw (sym (c .before .before .before .before .before .before .before .before .before .before .panel-ok .ensures) ∙ not-false _ (c .before .before .before .before .before .before .before .before .before .if1 .left)) (ap (λ (v : Value). held.Here (getD (c .before .before .before .before .before .before .before .before .before .before .before .before .args .state .held .versions) (c .before .before .before .before .before .i .given .0 .0) 0) v) (c .value-by .ensures) ∙ sym (ap (entryRead (c .before .before .before .before .before .before .before .before .before .before .before .before .args .state .held)) (sym (c .before .before .before .before .before .before .before .path-at .ensures) ∙ c .before .before .before .before .before .i .given .1))))
+returns-3 c = let s = c .before .before .before .before .before .before .before .before .before .before in let a = s .args in λ kept. as-read (c .before .before .before .before .before .before .before) kept (entry-right (a .asked .now) (a .page .now) (lent s (c .before .before .before .before .before .before .before .before .read-standing .result) kept) (a .endpoint) (a .cluster) (a .attribute) (kept-rules (c .before .before .before .before .before .before) kept) (rw (there (c .before .before .before), le-ltb _ noVersion (c .if2 .taken)) refl))
+
+cast-t23 : tie.Need-cast-t23
+cast-t23 c = search needs
+
+element-copy-out-value-by : tie.Need-element-copy-out-value-by
+element-copy-out-value-by c = omega (arith, below (c .before .before .before))
+
+mul-value-by : tie.Need-mul-value-by
+mul-value-by c = omega (arith, below (c .before .before .before .before))
+
+element-copy-out-value-by-2 : tie.Need-element-copy-out-value-by-2
+element-copy-out-value-by-2 c = omega (arith, below (c .before .before .before .before))
+
+value-by-requires : tie.Need-value-by-requires
+value-by-requires c κs = let s = c .before .before .before .before .before .before .before .before .before .before .before .before in let a = s .args in let st = lent s (c .before .before .before .before .before .before .before .before .before .before .read-standing .result) [] in (found-word (a .page .now) st (ruled (c .before .before .before .before .before .before .before .before) []) (a .endpoint) (a .cluster) (a .attribute) (c .before .before .before .before .before .i .given .0 .0) (there (c .before .before .before .before .before)), found-place (a .page .now) st (ruled (c .before .before .before .before .before .before .before .before) []) (a .endpoint) (a .cluster) (a .attribute) (c .before .before .before .before .before .i .given .0 .0) (there (c .before .before .before .before .before)))
+
+returns-4 : tie.Need-returns-4
+returns-4 c = let s = c .before .before .before .before .before .before .before .before .before .before .before .before .before in let a = s .args in λ kept. as-read (c .before .before .before .before .before .before .before .before .before .before) kept (entry-right (a .asked .now) (a .page .now) (lent s (c .before .before .before .before .before .before .before .before .before .before .before .read-standing .result) kept) (a .endpoint) (a .cluster) (a .attribute) (kept-rules (c .before .before .before .before .before .before .before .before .before) kept) (ap (λ (v : Value). held.Here (getD (a .versions .now) (c .before .before .before .before .before .before .i .given .0 .0) 0) v) (c .value-by .ensures) ∙ rw (there (c .before .before .before .before .before .before), lt-ltb _ noVersion (c .before .before .before .if2 .left)) refl))
 
 pub entry-spec : {M : Type 1} → statement M
 entry-spec =
     tie.close
     (tie.spec
+    read-standing-requires
     panel-ok-requires
     returns
     path-at-requires
     enum-known-i
     enum-told
     returns-2
-    mul-t12
-    element-copy-out-t15
+    mul-version
+    element-copy-out-version
+    returns-3
+    cast-t23
     element-copy-out-value-by
     mul-value-by
     element-copy-out-value-by-2
     value-by-requires
-    returns-3)
+    returns-4)

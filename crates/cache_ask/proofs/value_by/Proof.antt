@@ -1,15 +1,19 @@
+use Rattle.cache_ask.proofs.AskLaws.{last-kind}
+use Rattle.cache_ask.specs.Ask.{valueBy}
+use Rattle.cache_entries.specs.Limits.{textPlaces}
+use native.Mathlib.Omega.{arith}
+use Prim.Native.Nat.{_<_}
 use mir.ValLaws.{ofZ-toZ}
 use mir.Syntax.{w64}
-use Rattle.cache_ask.specs.Ask.{valueBy}
-use Rattle.tlv.specs.declared.Value.the-variants as value
 use borrow.Author.Tests.{eq-eqb, ne-eqb}
-use mathlib.Core.Path.{refl, sym, ap, _∙_}
+use mathlib.Core.Path.{refl, _∙_}
 use borrow.Author.Needs.{needs}
 use Rattle.cache_ask.proofs.value_by.Statement.{statement}
 use Rattle.cache_ask.proofs.value_by.Tie as tie
-use Rattle.cache_ask.proofs.value_by.Reads as reads
-use Rattle.cache_ask.proofs.value_by.Lts as lts
-use Rattle.kinds.proofs.stored.signed_of.Reads as signed-of-reads
+
+-- the place of a text is there
+place-below : (c : tie.Else5) → c .before .before .before .before .before .args .word < textPlaces
+place-below c = let s = c .before .before .before .before .before in s .pre .1 (last-kind _ (s .args .word) (s .pre .0) (c .before .before .before .before .if1 .left) (c .before .before .before .if2 .left) (c .before .before .if3 .left) (c .before .if4 .left) (c .if5 .left))
 
 returns : tie.Need-returns
 unfolding valueBy
@@ -30,19 +34,25 @@ returns-4 : tie.Need-returns-4
 unfolding valueBy
 returns-4 c = rw (c .signed-of .ensures, ofZ-toZ w64 (c .before .before .before .before .before .args .word) (c .before .before .before .before .before .fits .word), ne-eqb _ _ (c .before .before .before .before .if1 .left), ne-eqb _ _ (c .before .before .before .if2 .left), ne-eqb _ _ (c .before .before .if3 .left), eq-eqb _ _ (c .before .if4 .taken)) refl
 
-cast-t8 : tie.Need-cast-t8
-cast-t8 c = search needs
+cast-t9 : tie.Need-cast-t9
+cast-t9 c = search needs
 
 returns-5 : tie.Need-returns-5
 unfolding valueBy
 returns-5 c = rw (ne-eqb _ _ (c .before .before .before .before .if1 .left), ne-eqb _ _ (c .before .before .before .if2 .left), ne-eqb _ _ (c .before .before .if3 .left), ne-eqb _ _ (c .before .if4 .left), eq-eqb _ _ (c .if5 .taken)) refl
 
-mul-t9 : tie.Need-mul-t9
-mul-t9 c = search needs
+mul-text-at : tie.Need-mul-text-at
+mul-text-at c = omega (arith, place-below c)
+
+element-copy-out-text-at : tie.Need-element-copy-out-text-at
+element-copy-out-text-at c = omega (arith, place-below c)
+
+text-at-requires : tie.Need-text-at-requires
+text-at-requires c κs = place-below (c .before)
 
 returns-6 : tie.Need-returns-6
 unfolding valueBy
-returns-6 c = rw (ne-eqb _ _ (c .before .before .before .before .if1 .left), ne-eqb _ _ (c .before .before .before .if2 .left), ne-eqb _ _ (c .before .before .if3 .left), ne-eqb _ _ (c .before .if4 .left), ne-eqb _ _ (c .if5 .left)) refl
+returns-6 c = c .text-at .ensures ∙ rw (ne-eqb _ _ (c .before .before .before .before .before .before .if1 .left), ne-eqb _ _ (c .before .before .before .before .before .if2 .left), ne-eqb _ _ (c .before .before .before .before .if3 .left), ne-eqb _ _ (c .before .before .before .if4 .left), ne-eqb _ _ (c .before .before .if5 .left)) refl
 
 pub value-by-spec : {M : Type 1} → statement M
 value-by-spec =
@@ -53,7 +63,9 @@ value-by-spec =
     returns-3
     signed-of-requires
     returns-4
-    cast-t8
+    cast-t9
     returns-5
-    mul-t9
+    mul-text-at
+    element-copy-out-text-at
+    text-at-requires
     returns-6)

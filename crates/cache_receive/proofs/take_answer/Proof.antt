@@ -1,17 +1,12 @@
 use Rattle.cache_receive.proofs.AnswerLaws.{one-none, one-some}
-use Rattle.cache_receive.specs.Receive.{answerTaken, byAnswer}
+use Rattle.cache_receive.proofs.LeaveLaws.{refused-by}
+use Rattle.cache_receive.specs.Receive.{byAnswer}
 use Rattle.interaction_answer.specs.Answered.{answeredIn}
 use borrow.Author.Tests.{not-true, not-false}
-use mathlib.Core.Path.{refl, sym, ap, _∙_}
+use mathlib.Core.Path.{sym, _∙_}
 use borrow.Author.Needs.{needs}
 use Rattle.cache_receive.proofs.take_answer.Statement.{statement}
 use Rattle.cache_receive.proofs.take_answer.Tie as tie
-use Rattle.cache_receive.proofs.take_answer.Reads as reads
-use Rattle.cache_receive.proofs.take_answer.Lts as lts
-use Rattle.cache_receive.proofs.ended_with.Reads as ended-with-reads
-use Rattle.cache_receive.proofs.is_of_write.Reads as is-of-write-reads
-use Rattle.cache.proofs.refuse.Reads as refuse-reads
-use Rattle.interaction_answer.proofs.write_response.Reads as write-response-reads
 
 write-response-requires : tie.Need-write-response-requires
 write-response-requires c κs = search needs
@@ -27,7 +22,7 @@ refuse-requires c κs = search needs
 
 returns : tie.Need-returns
 unfolding byAnswer
-returns c = c .refuse .ensures ∙ sym (ap (answerTaken (c .before .before .before .before .before .args .state)) (one-none (answeredIn (c .before .before .before .before .before .args .payload .now)) (sym (c .before .before .before .write-response .ensures) ∙ c .before .enum-told .given .1)))
+returns c = λ clusters keys versions kinds words order lengths kept page old. rw (one-none (answeredIn (c .before .before .before .before .before .args .payload .now)) (sym (c .before .before .before .write-response .ensures) ∙ c .before .enum-told .given .1)) (refused-by clusters keys versions kinds words order lengths (c .before .before .before .before .before .pre .0) (c .refuse .ensures))
 
 is-of-write-requires : tie.Need-is-of-write-requires
 is-of-write-requires c κs = search needs
@@ -37,14 +32,14 @@ refuse-requires-2 c κs = search needs
 
 returns-2 : tie.Need-returns-2
 unfolding byAnswer
-returns-2 c = c .refuse2 .ensures ∙ sym (ap (answerTaken (c .before .before .before .before .before .before .before .before .args .state)) (one-some (answeredIn (c .before .before .before .before .before .before .before .before .args .payload .now)) (sym (c .before .before .before .before .before .before .write-response .ensures) ∙ c .before .before .before .before .x .given .1)) ∙ rw (sym (c .before .before .is-of-write .ensures) ∙ not-true _ (c .before .if1 .taken)) refl)
+returns-2 c = λ clusters keys versions kinds words order lengths kept page old. rw (one-some (answeredIn (c .before .before .before .before .before .before .before .before .args .payload .now)) (sym (c .before .before .before .before .before .before .write-response .ensures) ∙ c .before .before .before .before .x .given .1), sym (c .before .before .is-of-write .ensures kept) ∙ not-true _ (c .before .if1 .taken)) (refused-by clusters keys versions kinds words order lengths (c .before .before .before .before .before .before .before .before .pre .0) (c .refuse2 .ensures))
 
-ended-with-requires : tie.Need-ended-with-requires
-ended-with-requires c κs = search needs
+end-with-requires : tie.Need-end-with-requires
+end-with-requires c κs = search needs
 
 returns-3 : tie.Need-returns-3
 unfolding byAnswer
-returns-3 c = c .ended-with .ensures ∙ sym (ap (answerTaken (c .before .before .before .before .before .before .before .before .before .args .state)) (one-some (answeredIn (c .before .before .before .before .before .before .before .before .before .args .payload .now)) (sym (c .before .before .before .before .before .before .before .write-response .ensures) ∙ c .before .before .before .before .before .x .given .1)) ∙ rw (sym (c .before .before .before .is-of-write .ensures) ∙ not-false _ (c .before .before .if1 .left)) refl)
+returns-3 c = λ clusters keys versions kinds words order lengths kept page old. rw (one-some (answeredIn (c .before .before .before .before .before .before .before .before .before .before .args .payload .now)) (sym (c .before .before .before .before .before .before .before .before .write-response .ensures) ∙ c .before .before .before .before .before .before .x .given .1), sym (c .before .before .before .before .is-of-write .ensures kept) ∙ not-false _ (c .before .before .before .if1 .left)) (c .end-with .ensures clusters keys versions kinds words order lengths kept page old)
 
 pub take-answer-spec : {M : Type 1} → statement M
 take-answer-spec =
@@ -58,5 +53,5 @@ take-answer-spec =
     is-of-write-requires
     refuse-requires-2
     returns-2
-    ended-with-requires
+    end-with-requires
     returns-3)

@@ -1,15 +1,11 @@
 use Rattle.cache_receive.proofs.AnswerLaws.{code-none, code-some}
-use Rattle.cache_receive.specs.Receive.{statusTaken, byStatus}
+use Rattle.cache_receive.proofs.LeaveLaws.{refused-by}
+use Rattle.cache_receive.specs.Receive.{byStatus}
 use Rattle.interaction.specs.Status.{responseIn}
-use mathlib.Core.Path.{refl, sym, ap, _∙_}
+use mathlib.Core.Path.{sym, _∙_}
 use borrow.Author.Needs.{needs}
 use Rattle.cache_receive.proofs.take_status.Statement.{statement}
 use Rattle.cache_receive.proofs.take_status.Tie as tie
-use Rattle.cache_receive.proofs.take_status.Reads as reads
-use Rattle.cache_receive.proofs.take_status.Lts as lts
-use Rattle.cache_receive.proofs.ended_with.Reads as ended-with-reads
-use Rattle.cache.proofs.refuse.Reads as refuse-reads
-use Rattle.interaction.proofs.status_response.Reads as status-response-reads
 
 status-response-requires : tie.Need-status-response-requires
 status-response-requires c κs = search needs
@@ -25,14 +21,14 @@ refuse-requires c κs = search needs
 
 returns : tie.Need-returns
 unfolding byStatus
-returns c = c .refuse .ensures ∙ sym (ap (statusTaken (c .before .before .before .before .before .args .state)) (code-none (responseIn (c .before .before .before .before .before .args .payload .now)) (sym (c .before .before .before .status-response .ensures) ∙ c .before .enum-told .given .1)))
+returns c = λ clusters keys versions kinds words order lengths kept page old. rw (code-none (responseIn (c .before .before .before .before .before .args .payload .now)) (sym (c .before .before .before .status-response .ensures) ∙ c .before .enum-told .given .1)) (refused-by clusters keys versions kinds words order lengths (c .before .before .before .before .before .pre .0) (c .refuse .ensures))
 
-ended-with-requires : tie.Need-ended-with-requires
-ended-with-requires c κs = search needs
+end-with-requires : tie.Need-end-with-requires
+end-with-requires c κs = search needs
 
 returns-2 : tie.Need-returns-2
 unfolding byStatus
-returns-2 c = c .ended-with .ensures ∙ sym (ap (statusTaken (c .before .before .before .before .before .before .args .state)) (code-some (responseIn (c .before .before .before .before .before .before .args .payload .now)) (sym (c .before .before .before .before .status-response .ensures) ∙ c .before .before .code .given .1)))
+returns-2 c = λ clusters keys versions kinds words order lengths kept page old. rw (code-some (responseIn (c .before .before .before .before .before .before .before .args .payload .now)) (sym (c .before .before .before .before .before .status-response .ensures) ∙ c .before .before .before .code .given .1)) (c .end-with .ensures clusters keys versions kinds words order lengths kept page old)
 
 pub take-status-spec : {M : Type 1} → statement M
 take-status-spec =
@@ -43,5 +39,5 @@ take-status-spec =
     enum-told
     refuse-requires
     returns
-    ended-with-requires
+    end-with-requires
     returns-2)

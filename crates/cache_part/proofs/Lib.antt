@@ -1,3 +1,0 @@
-pub mod BlockLaws
-pub mod EntryLaws
-pub mod WalkLaws

@@ -1,4 +1,0 @@
-pub mod SharedLaws
-pub mod CoherentLaws
-pub mod SetLaws
-pub mod ValidLaws

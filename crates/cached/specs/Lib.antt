@@ -1,5 +1,0 @@
-pub mod Limits
-pub mod Entries
-pub mod Set
-pub mod Coherent
-pub mod Valid
