@@ -1,8 +1,11 @@
-//! A sign that can be called: ours, and both in ordinary Rust.
+//! A sign and a panel that can be called: ours, and both in ordinary Rust.
+
+use std::collections::BTreeMap;
 
 use reference::paths::Path;
 use reference::value::Value;
 
+use crate::panel::Panel;
 use crate::setup::Setup;
 
 /// What a call answers: document 01's number, and the reply's length in the buffer.
@@ -28,4 +31,40 @@ pub trait Called: Sized {
 
     /// A change made at the sign itself: a number or a status.
     fn change(&mut self, path: &Path, value: &Value) -> u8;
+}
+
+pub trait CalledPanel: Sized {
+    /// A panel that has asked nothing and holds nothing.
+    fn fresh() -> Self;
+
+    /// What our panel holds, with nothing asked yet.
+    fn holding(panel: &Panel) -> Self;
+
+    /// Made fresh again: that call alone.
+    fn restart(&mut self);
+
+    /// The exchange numbers up to this one count as used.
+    fn use_up_to(&mut self, number: u64);
+
+    /// The test of refusal 2 alone.
+    fn valid(&self) -> bool;
+
+    fn begin_read(&mut self, out: &mut [u8]) -> Last;
+
+    fn begin_write(
+        &mut self,
+        path: &Path,
+        version: Option<u32>,
+        value: &Value,
+        out: &mut [u8],
+    ) -> Last;
+
+    /// The newest message again.
+    fn resend(&self, out: &mut [u8]) -> Last;
+
+    /// A message from the sign.
+    fn receive(&mut self, message: &[u8], out: &mut [u8]) -> Last;
+
+    /// Everything that it holds, by path; what breaks the rules is not asked.
+    fn entries(&self) -> BTreeMap<Path, (u32, Value)>;
 }

@@ -1,4 +1,4 @@
-//! The proved sign: the functions of the static library as C sees them, the memory that they are lent, and safe calls of them. All that the benchmark knows
+//! The proved sign: the functions of its static library as C sees them, the memory that they are lent, and safe calls of them. All that the benchmark knows
 //! of the library's interface stands here.
 
 use std::cell::RefCell;
@@ -249,8 +249,8 @@ impl Held {
     }
 }
 
-/// The code that `sign_change` knows a value by.
-fn code(value: &Value) -> u8 {
+/// The code that `sign_change` and `panel_begin_write` know a value by.
+pub fn code(value: &Value) -> u8 {
     match value {
         Value::Null => 0,
         Value::Bool(_) => 1,

@@ -3,11 +3,11 @@
 use std::hint::black_box;
 
 use crate::beside::{self, Line};
-use crate::called::{Called, Last};
+use crate::called::{Called, CalledPanel};
 use crate::library::{Sign, PAYLOAD};
 use crate::messages::{filtered_reads, whole_read, Messages};
 use crate::ordinary_panel::{Checked, Unchecked};
-use crate::panel::{self, Held};
+use crate::panel::{Held, Panel};
 use crate::setup::{Setup, ATTRIBUTES, MESSAGE};
 use crate::signs::{accented, mixed, numbers, scripts, texts};
 
@@ -18,35 +18,35 @@ const FEWER_SAMPLES: usize = 101;
 struct Case {
     name: String,
     messages: Messages,
-    page: Vec<u8>,
-    /// What ours holds at each of its calls, and at the end.
-    states: Vec<Held>,
+    /// As they begin.
+    ours: Panel,
     unchecked: Unchecked,
     checked: Checked,
+    /// What ours holds at each of its calls.
+    states: Vec<Held>,
+    /// Ours at the end.
+    end: Panel,
 }
 
 impl Case {
-    fn new(name: String, page: &[u8], held: &Held, messages: Messages) -> Case {
-        let (mut page, mut states) = (page.to_vec(), vec![*held]);
-        let (mut unchecked, mut checked) =
-            (Unchecked::holding(&page, held), Checked::holding(&page, held));
-        for k in 0..=messages.ends.len() {
-            let some = messages.first(k);
-            let (mut a, mut b, mut c) = ([7; MESSAGE], [7; MESSAGE], [7; MESSAGE]);
-            let ours = panel::taken(&mut page, held, &some, &mut a);
-            let last = Last { number: ours.number, len: ours.len };
-            assert_eq!(last, unchecked.run(&some, &mut b), "{name}: message {k}");
-            assert_eq!(a, b, "{name}: the answer to message {k}");
-            assert_eq!(last, checked.run(&some, &mut c), "{name}: message {k}, checked");
-            assert_eq!(a, c, "{name}: the answer to message {k}, checked");
-            assert!(last.number <= 1 && panel::valid(&page, &ours), "{name}: message {k} is taken");
-            states.push(ours);
+    fn new(name: String, panel: &Panel, messages: Messages) -> Case {
+        let ours = Panel::holding(panel);
+        let (mut end, mut states) = (ours.clone(), vec![ours.held.clone()]);
+        let (mut b, mut c) = (Unchecked::holding(panel), Checked::holding(panel));
+        let parts = messages.iter().map(Some);
+        for (k, part) in std::iter::once(None).chain(parts).enumerate() {
+            let answers = (taken(&mut end, part), taken(&mut b, part), taken(&mut c, part));
+            assert_eq!(answers.0, answers.1, "{name}: message {k}");
+            assert_eq!(answers.0, answers.2, "{name}: message {k}, checked");
+            assert!(answers.0 .0 <= 1 && end.valid(), "{name}: message {k} is taken");
+            states.push(end.held.clone());
         }
-        let end = states.last().expect("a read was begun");
-        let entries = panel::entries(&page, end);
-        let ends = [unchecked.entries_after(&messages), checked.entries_after(&messages)];
-        assert!(ends.iter().all(|other| *other == entries), "{name}: the entries afterwards");
-        Case { name, messages, page, states, unchecked, checked }
+        states.pop();
+        let entries = end.entries();
+        let same = entries == b.entries() && entries == c.entries();
+        assert!(same, "{name}: the entries afterwards");
+        let (unchecked, checked) = (Unchecked::holding(panel), Checked::holding(panel));
+        Case { name, messages, ours, unchecked, checked, states, end }
     }
 
     /// The report of a sign fills a fresh panel.
@@ -54,8 +54,8 @@ impl Case {
         let sign = Sign::new(setup);
         let read = whole_read(sign.parts(&mut [0; PAYLOAD]));
         let name = format!("{} {what}, {} parts", setup.schema.attributes.len(), read.ends.len());
-        let case = Case::new(name, &panel::page(), &panel::fresh(), sign.replies(&read));
-        assert!(case.end().primed, "the last part fills it");
+        let case = Case::new(name, &Panel::fresh(), sign.replies(&read));
+        assert!(case.end.primed(), "the last part fills it");
         case
     }
 
@@ -63,29 +63,21 @@ impl Case {
     fn again(filled: &Case) -> Case {
         let request = filtered_reads(1, ATTRIBUTES);
         let replies = Sign::new(&mixed(ATTRIBUTES)).replies(&request);
-        let mut out = [0; MESSAGE];
-        let begun =
-            panel::taken(&mut filled.page.clone(), filled.end(), &Messages::default(), &mut out);
-        assert_eq!(out[..begun.len], request.bytes, "a filter for each cluster");
-        Case::new("again, 32 filters, no change".into(), &filled.page, filled.end(), replies)
-    }
-
-    /// What ours holds at the end.
-    fn end(&self) -> &Held {
-        self.states.last().expect("a read was begun")
+        let (_, begun) = taken(&mut Panel::holding(&filled.end), None);
+        assert_eq!(begun, request.bytes, "a filter for each cluster");
+        Case::new("again, 32 filters, no change".into(), &filled.end, replies)
     }
 
     fn line(&mut self) -> Line<'_> {
-        let Case { name, messages, page, states, unchecked, checked } = self;
-        let (messages, page, states) = (&*messages, &*page, &states[..]);
+        let Case { name, messages, ours, unchecked, checked, states, end } = self;
+        let (messages, states, page) = (&*messages, &*states, &end.page[..]);
         let (mut a, mut b, mut c) = ([0; MESSAGE], [0; MESSAGE], [0; MESSAGE]);
-        let mut lent = page.clone();
         Line {
             name,
             calls: 1.0,
             runs: [
                 Box::new(move || {
-                    black_box(panel::taken(&mut lent, &states[0], black_box(messages), &mut a));
+                    black_box(black_box(&mut *ours).run(black_box(messages), &mut a));
                 }),
                 Box::new(move || {
                     black_box(black_box(&mut *unchecked).run(black_box(messages), &mut b));
@@ -94,13 +86,24 @@ impl Case {
                     black_box(black_box(&mut *checked).run(black_box(messages), &mut c));
                 }),
                 Box::new(move || {
-                    for state in &states[..states.len() - 1] {
-                        black_box(panel::valid(page, black_box(state)));
+                    for state in states {
+                        black_box(black_box(state).valid(page));
                     }
                 }),
             ],
         }
     }
+}
+
+/// The answer to a message, or to beginning a read, and what is sent.
+fn taken<P: CalledPanel>(panel: &mut P, message: Option<&[u8]>) -> (u8, Vec<u8>) {
+    let mut out = [7; MESSAGE];
+    let last = match message {
+        None => panel.begin_read(&mut out),
+        Some(message) => panel.receive(message, &mut out),
+    };
+    assert!(out[last.len..].iter().all(|byte| *byte == 7), "the rest of the buffer is untouched");
+    (last.number, out[..last.len].to_vec())
 }
 
 fn print(heading: &str, samples: usize, mut cases: Vec<Case>) {
@@ -112,12 +115,8 @@ pub fn reports() {
     let filled = Case::fill("mixed kinds", &mixed(ATTRIBUTES));
     let again = Case::again(&filled);
     // What a run adds to the parts that it takes.
-    let begun = Case::new(
-        "a read begun by a fresh panel".into(),
-        &panel::page(),
-        &panel::fresh(),
-        Messages::default(),
-    );
+    let begun =
+        Case::new("a read begun by a fresh panel".into(), &Panel::fresh(), Messages::default());
     let cases = vec![
         filled,
         Case::fill("booleans, unsigned", &numbers(ATTRIBUTES)),

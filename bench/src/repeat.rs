@@ -4,12 +4,12 @@ use std::hint::black_box;
 
 use reference::value::Value;
 
-use crate::called::Called;
+use crate::called::{Called, CalledPanel};
 use crate::library::{Sign, PAYLOAD};
 use crate::messages::{filtered_reads, single_reads, single_writes, whole_read, Messages};
 use crate::ordinary::{Checked, Unchecked};
 use crate::ordinary_panel;
-use crate::panel;
+use crate::panel::Panel;
 use crate::setup::MESSAGE;
 use crate::signs::{mixed, number_of, path};
 
@@ -47,14 +47,13 @@ pub fn repeat(name: &str, attributes: usize, times: usize) {
 
 /// A fresh panel begins a read and takes a report.
 fn repeat_report(whose: &str, parts: &Messages, times: usize) {
-    let (mut page, mut out) = (panel::page(), [0; MESSAGE]);
-    let fresh = panel::fresh();
+    let (mut ours, mut out) = (Panel::fresh(), [0; MESSAGE]);
     let mut unchecked = ordinary_panel::Unchecked::fresh();
     let mut checked = ordinary_panel::Checked::fresh();
     for _ in 0..times {
         let parts = black_box(parts);
         match whose {
-            "ours" => _ = black_box(panel::taken(&mut page, &fresh, parts, &mut out)),
+            "ours" => _ = black_box(ours.run(parts, &mut out)),
             "rust" => _ = black_box(unchecked.run(parts, &mut out)),
             _ => _ = black_box(checked.run(parts, &mut out)),
         }

@@ -1,22 +1,23 @@
-//! The panel in ordinary Rust held to the proved one: over generated scripts for the panel, as they are and with damaged messages, and over states that break
+//! The panel in ordinary Rust held to the proved one: over generated scripts for the panel, as they are and with damaged messages, and over panels that break
 //! the rules of refusal 2.
 
 mod broken;
+mod library;
 mod play;
-mod runs;
 mod steps;
 
 use reference::player::Printed;
 use reference::rng::Rng;
 use reference::script::Line;
 
+use self::broken::Judged;
 use self::play::play;
 use super::play::proved;
 use super::reached::Group;
 use super::same;
 use super::steps::Step;
 
-/// How many states are made of what a script leaves.
+/// How many panels are made of what a script leaves.
 const TOUCHED: usize = 10;
 
 /// How many answers there were of each number.
@@ -50,9 +51,8 @@ impl Reached {
 
 /// Holds the scripts of so many seeds from one on, and prints what they reached. Stops at the first difference.
 pub fn hold(seeds: u64, first: u64) {
-    let mut player = Reached::new();
-    let mut linked = Group::new("reads begun, and messages", false, &[0, 1, 4, 5, 6, 7]);
-    let mut judged = [0, 0];
+    let (mut player, mut linked) = (Reached::new(), Reached::new());
+    let mut judged = Judged::default();
     for seed in first..first + seeds {
         let mut rng = Rng::new(seed);
         let made = steps::of_seed(seed);
@@ -63,20 +63,30 @@ pub fn hold(seeds: u64, first: u64) {
             let answers = hold_rust(&name, &steps);
             player.add(&steps, &answers);
             let name = format!("{name}, the library");
-            let state = runs::hold(&name, &steps, &answers, &mut linked);
+            let (panel, answers) = library::hold(&name, &steps);
+            let calls: Vec<Step> =
+                steps.into_iter().filter(|step| library::is_call(&step.line)).collect();
+            linked.add(&calls, &answers);
             for k in 0..TOUCHED {
-                let right = broken::hold(&format!("{name}, state {k}"), &state, &mut rng);
-                judged[usize::from(right)] += 1;
+                broken::hold(&format!("{name}, panel {k}"), &panel, &mut rng, &mut judged);
             }
         }
     }
-    hold_rust("to the last turn", &steps::to_last_turn());
+    let steps = steps::to_last_turn();
+    hold_rust("to the last turn", &steps);
+    library::hold("to the last turn, the library", &steps);
     println!("The proved player and the Rust panels answer alike, {seeds} seeds from {first}:");
     [player.begun, player.messages, player.asked].iter().for_each(Group::print);
     println!("The linked library and the Rust panels answer alike:");
-    linked.print();
-    let [broken, kept] = judged;
-    println!("Refusal 2: {kept} states keep the rules, {broken} break one; the library and the checked Rust agree");
+    [linked.begun, linked.messages].iter().for_each(Group::print);
+    println!(
+        "Refusal 2: {} panels keep the rules, {} break one; the library and the checked Rust agree",
+        judged.kept, judged.broken
+    );
+    println!(
+        "Refusal 2: {} newest requests keep the rules, {} break one",
+        judged.requests, judged.broken_requests
+    );
 }
 
 /// Both Rust panels answer what the proved player does, which is given back.

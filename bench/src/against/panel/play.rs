@@ -5,7 +5,7 @@ use reference::script::Line;
 use reference::tlv::{write, Element};
 
 use crate::against::steps::Step;
-use crate::called::Last;
+use crate::called::{CalledPanel, Last};
 use crate::ordinary_panel::Ordinary;
 use crate::plain::{Broken, Stage};
 use crate::setup::MESSAGE;
@@ -22,9 +22,7 @@ pub fn play<const CHECKED: bool>(steps: &[Step]) -> Vec<Printed> {
                 panel = Ordinary::fresh();
                 answers.push((0, Vec::new()));
             }
-            Line::Buffer(length) => {
-                room = usize::try_from(*length).map_or(MESSAGE, |n| n.min(2 * MESSAGE))
-            }
+            Line::Buffer(length) => room = room_of(*length),
             Line::Used(number) => panel.use_up_to(*number),
             Line::Whole(_) | Line::Entry(_) | Line::Outcome | Line::Unknown => {
                 answers.push(asked(&panel, &step.line).unwrap_or((2, Vec::new())))
@@ -35,8 +33,13 @@ pub fn play<const CHECKED: bool>(steps: &[Step]) -> Vec<Printed> {
     answers
 }
 
+/// The buffer that a script asks for.
+pub fn room_of(length: u64) -> usize {
+    usize::try_from(length).map_or(MESSAGE, |n| n.min(2 * MESSAGE))
+}
+
 /// A message that is made, and that nothing else was written.
-fn sent<const CHECKED: bool>(panel: &mut Ordinary<CHECKED>, line: &Line, room: usize) -> Printed {
+pub fn sent<P: CalledPanel>(panel: &mut P, line: &Line, room: usize) -> Printed {
     let mut out = vec![UNWRITTEN; room];
     let Last { number, len } = match line {
         Line::Read => panel.begin_read(&mut out),
