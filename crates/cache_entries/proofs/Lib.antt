@@ -7,5 +7,6 @@ pub mod JoinLaws
 pub mod SharedLaws
 pub mod CoherentLaws
 pub mod PartLaws
+pub mod FormLaws
 pub mod MarkLaws
 pub mod MoveLaws

@@ -4,10 +4,11 @@
 use mathlib.Core.Bool.{Bool, true, false, not, _&&_}
 use mathlib.Core.Path.{_≡_}
 use mathlib.Core.List.{List}
-use Prim.Native.Nat.{ℕ, _/_, _^_}
+use Prim.Native.Nat.{ℕ, zero, suc, _+_, _/_, _^_}
 use lib.Dec.{eqb, ltb, leb}
 use lib.ListN.{length, getD}
 use Rattle.tlv.specs.Octet.{pick}
+use Rattle.utf8.specs.Bytewise.{allBelow}
 use Rattle.utf8.specs.WellFormed.{wellFormed}
 use Rattle.schema.specs.Check.{every}
 use Rattle.ordered.specs.Order.{orderRight}
@@ -60,6 +61,20 @@ heldRight page c =
     && (clustersRight (c .clusters) (c .«cluster_count»)
     && (orderRight (c .clusters) (clusterOrder (c .order)) (c .«cluster_count»)
     && (orderRight (c .keys) (c .order) (c .count) && (entriesRight c && textsRight page c))))))
+
+-- ---- AS THE CODE HAS IT
+
+-- how many places there are up to the last that a text has
+abbrev pub endWith : ℕ → ℕ → ℕ → ℕ
+endWith end kind word = pick (eqb kind textKind && ltb word textPlaces) (pick (ltb word end) end (word + 1)) end
+
+unfoldable pub placesEnd : List ℕ → List ℕ → ℕ → ℕ
+placesEnd kinds words zero = 0
+placesEnd kinds words (suc n) = endWith (placesEnd kinds words n) (getD kinds n 0) (getD words n 0)
+
+-- a stretch of the page: all of it ASCII, or valid as a whole, or neither
+unfoldable pub formOf : List ℕ → ℕ
+formOf l = pick (allBelow 128 l) 2 (pick (wellFormed l) 1 0)
 
 -- what the types of the columns say: how long each is
 pub record Whole (c : Cached) : Type 0 where

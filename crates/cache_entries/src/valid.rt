@@ -2,12 +2,13 @@
 ghost use mathlib.Core.Path.{_≡_};
 ghost use mathlib.Core.Bool.{Bool};
 ghost use mathlib.Core.List.{List};
-ghost use Prim.Native.Nat.{ℕ, _≤_, _<_};
-ghost use lib.ListN.{length};
+ghost use Prim.Native.Nat.{ℕ, _+_, _≤_, _<_};
+ghost use lib.ListN.{length, take, drop};
+ghost use Rattle.utf8.specs.WellFormed.{wellFormed};
 ghost use Rattle.schema.specs.Check.{every};
 ghost use Rattle.cache_entries.specs.Limits.{maxEntries, maxClusters, textPlaces, pageSize};
 ghost use Rattle.cache_entries.specs.Entries.{heldOf};
-ghost use Rattle.cache_entries.specs.Valid.{wordRight, entryRight, textRight, textRightAt, clustersRight, entriesRight, heldRight, Whole};
+ghost use Rattle.cache_entries.specs.Valid.{wordRight, entryRight, endWith, placesEnd, formOf, textRight, textRightAt, clustersRight, entriesRight, heldRight, Whole};
 use super::CLUSTERS;
 use super::ENTRIES;
 use super::HALF;
@@ -96,18 +97,82 @@ fn size_of(len: u16) -> usize
     len as usize
 }
 
+// How a stretch of the page can be judged: it is ASCII, or valid UTF-8 as a whole, or each text is judged by itself.
+const PLAIN: u8 = 2;
+
+const WHOLE: u8 = 1;
+
+fn form_of(part: &[u8]) -> u8
+    ensures { λ r. ⌜ r ≡ formOf (now (part .entry)) ⌝ }
+{
+    if utf8::ascii(part) {
+        return PLAIN;
+    }
+    if utf8::valid(part) {
+        return WHOLE;
+    }
+    0
+}
+
+// One place more, if the entry is a text: how many places there are up to the last that a text has.
+fn end_with(end: usize, kind: u8, word: u64) -> usize
+    ensures { λ r. ⌜ r ≡ endWith end kind word ⌝ }
+    ensures few { λ r. ⌜ (end ≤ textPlaces → r ≤ textPlaces) ⌝ }
+{
+    if (kind == TEXT) & (word < TEXT_PLACES as u64) {
+        let p = word as usize;
+        return if p < end { end } else { p + 1 };
+    }
+    end
+}
+
+fn places_end(kinds: &[u8; ENTRIES], words: &[u64; ENTRIES], n: usize) -> usize
+    requires { ⌜ n ≤ maxEntries ⌝ }
+    ensures { λ r. ⌜ r ≡ placesEnd (now (kinds .entry)) (now (words .entry)) n ⌝ }
+    ensures few { λ r. ⌜ r ≤ textPlaces ⌝ }
+{
+    let mut end: usize = 0;
+    let mut i = 0;
+    while i < n {
+        end = end_with(end, kinds[i], words[i]);
+        i += 1;
+    }
+    end
+}
+
+// Whether a part of the page is valid UTF-8, where `whole` is the page's first stretch, of this form.
+fn is_formed<'a>(page: &'a [u8], whole: &'a [u8], form: u8, start: usize, len: usize) -> bool
+    requires { ⌜ (start + len ≤ length (now page)) × ((length (now page) ≤ pageSize) × ((now whole ≡ take (length (now whole)) (now page)) × (form ≡ formOf (now whole)))) ⌝ }
+    ensures { λ r. ⌜ r ≡ wellFormed (take len (drop start (now (page .entry)))) ⌝ }
+{
+    let end = start + len;
+    if end <= whole.len() {
+        if form == PLAIN {
+            return true;
+        }
+        if form == WHOLE {
+            return utf8::is_cut_well(whole, start, len);
+        }
+    }
+    utf8::valid(&page[start..end])
+}
+
 // A text of at most TEXT_SIZE bytes at place p, which is UTF-8.
-fn text_ok(page: &[u8], lengths: &[u16; TEXT_PLACES], p: usize) -> bool
-    requires { ⌜ (p < textPlaces) × (length (now page) ≡ pageSize) ⌝ }
+fn text_ok<'a>(
+    page: &'a [u8],
+    whole: &'a [u8],
+    form: u8,
+    lengths: &[u16; TEXT_PLACES],
+    p: usize,
+) -> bool
+    requires { ⌜ (p < textPlaces) × ((length (now page) ≡ pageSize) × ((now whole ≡ take (length (now whole)) (now page)) × (form ≡ formOf (now whole)))) ⌝ }
     ensures { λ r. ⌜ r ≡ textRight (now (page .entry)) (now (lengths .entry)) p ⌝ }
 {
     let len = size_of(lengths[p]);
     if TEXT_SIZE < len {
         return false;
     }
-    let start = TEXT_SIZE * p;
-    let end = start + len;
-    utf8::valid(&page[start..end])
+    is_formed(page, whole, form, TEXT_SIZE * p, len)
 }
 
 // Every text has a place of its own.
@@ -121,6 +186,9 @@ fn texts_ok(
     requires { ⌜ (n ≤ maxEntries) × (length (now page) ≡ pageSize) ⌝ }
     ensures { λ r. ⌜ r ≡ every (textRightAt (now (page .entry)) (now (kinds .entry)) (now (words .entry)) (now (lengths .entry))) n ⌝ }
 {
+    let end = TEXT_SIZE * places_end(kinds, words, n);
+    let whole = &page[0..end];
+    let form = form_of(whole);
     let mut marks = [0u8; TEXT_PLACES];
     let mut i = 0;
     while i < n {
@@ -132,7 +200,7 @@ fn texts_ok(
             if marks[p] != 0 {
                 return false;
             }
-            if !text_ok(page, lengths, p) {
+            if !text_ok(page, whole, form, lengths, p) {
                 return false;
             }
             marks[p] = 1;

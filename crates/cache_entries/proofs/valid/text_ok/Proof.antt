@@ -1,5 +1,5 @@
 use mathlib.Core.Path.{_≡_, refl, sym, ap, _∙_}
-use Prim.Native.Nat.{ℕ, _+_, _-_, _*_}
+use Prim.Native.Nat.{ℕ, _*_}
 use native.Mathlib.Omega.{arith}
 use borrow.Author.Tests.{le-leb, lt-leb}
 use lib.ListN.{take, drop}
@@ -10,8 +10,8 @@ use Rattle.cache_entries.proofs.valid.text_ok.Statement.{statement}
 use Rattle.cache_entries.proofs.valid.text_ok.Tie as tie
 use Rattle.cache_entries.proofs.valid.text_ok.Reads as reads
 use Rattle.cache_entries.proofs.valid.text_ok.Lts as lts
+use Rattle.cache_entries.proofs.valid.is_formed.Reads as is-formed-reads
 use Rattle.cache_entries.proofs.valid.size_of.Reads as size-of-reads
-use Rattle.utf8.proofs.valid.Reads as valid-reads
 
 mul-size-of : tie.Need-mul-size-of
 mul-size-of c = search needs
@@ -24,29 +24,17 @@ size-of-requires c κs = search needs
 
 returns : tie.Need-returns
 unfolding textRight
-returns c = let a = c .before .before .before .before .args in rw (sym (c .before .size-of .ensures), lt-leb _ _ (c .if1 .taken)) refl
+returns c = rw (sym (c .before .size-of .ensures), lt-leb _ _ (c .if1 .taken)) refl
 
-mul-start : tie.Need-mul-start
-mul-start c = search needs
+mul-is-formed : tie.Need-mul-is-formed
+mul-is-formed c = search needs
 
-add-end : tie.Need-add-end
-add-end c = omega (arith, c .if1 .left, c .before .before .before .before .pre .0)
-
-sub-valid : tie.Need-sub-valid
-sub-valid c = search needs
-
-part-valid-start : tie.Need-part-valid-start
-part-valid-start c = search needs
-
-part-valid-end : tie.Need-part-valid-end
-part-valid-end c = omega (arith, c .if1 .left, c .before .before .before .before .pre .0, c .before .before .before .before .pre .1)
-
-valid-requires : tie.Need-valid-requires
-valid-requires c κs = search needs
+is-formed-requires : tie.Need-is-formed-requires
+is-formed-requires c κs = let p = c .before .before .before .before .before .pre in (omega (arith, c .if1 .left, p .0, p .1 .0), (omega (arith, p .1 .0), (p .1 .1 .0, p .1 .1 .1)))
 
 returns-2 : tie.Need-returns-2
 unfolding textRight
-returns-2 c = let a = c .before .before .before .before .before .before .args in let n = c .before .before .before .size-of .result in let q : (200 * a .p + n) - 200 * a .p ≡ n = omega arith in rw (sym (c .before .before .before .size-of .ensures), le-leb n 200 (c .before .before .if1 .left)) (c .valid .ensures ∙ ap (λ (m : ℕ). wellFormed (take m (drop (200 * a .p) (a .page .now)))) q)
+returns-2 c = let n = c .before .before .size-of .result in rw (sym (c .before .before .size-of .ensures), le-leb n 200 (c .before .if1 .left)) (c .is-formed .ensures)
 
 pub text-ok-spec : {M : Type 1} → statement M
 text-ok-spec =
@@ -56,10 +44,6 @@ text-ok-spec =
     element-copy-out-size-of
     size-of-requires
     returns
-    mul-start
-    add-end
-    sub-valid
-    part-valid-start
-    part-valid-end
-    valid-requires
+    mul-is-formed
+    is-formed-requires
     returns-2)
