@@ -2,5 +2,5 @@ pub mod Pigeonhole
 pub mod CutLaws
 pub mod InsertLaws
 pub mod OrderLaws
-pub mod WalkLaws
+pub mod MostLaws
 pub mod Examples
