@@ -64,14 +64,6 @@ heldRight page c =
 
 -- ---- AS THE CODE HAS IT
 
--- how many places there are up to the last that a text has
-abbrev pub endWith : ℕ → ℕ → ℕ → ℕ
-endWith end kind word = pick (eqb kind textKind && ltb word textPlaces) (pick (ltb word end) end (word + 1)) end
-
-unfoldable pub placesEnd : List ℕ → List ℕ → ℕ → ℕ
-placesEnd kinds words zero = 0
-placesEnd kinds words (suc n) = endWith (placesEnd kinds words n) (getD kinds n 0) (getD words n 0)
-
 -- a stretch of the page: all of it ASCII, or valid as a whole, or neither
 unfoldable pub formOf : List ℕ → ℕ
 formOf l = pick (allBelow 128 l) 2 (pick (wellFormed l) 1 0)

@@ -8,7 +8,7 @@ ghost use Rattle.utf8.specs.WellFormed.{wellFormed};
 ghost use Rattle.schema.specs.Check.{every};
 ghost use Rattle.cache_entries.specs.Limits.{maxEntries, maxClusters, textPlaces, pageSize};
 ghost use Rattle.cache_entries.specs.Entries.{heldOf};
-ghost use Rattle.cache_entries.specs.Valid.{wordRight, entryRight, endWith, placesEnd, formOf, textRight, textRightAt, clustersRight, entriesRight, heldRight, Whole};
+ghost use Rattle.cache_entries.specs.Valid.{wordRight, entryRight, formOf, textRight, textRightAt, clustersRight, entriesRight, heldRight, Whole};
 use super::CLUSTERS;
 use super::ENTRIES;
 use super::HALF;
@@ -114,30 +114,20 @@ fn form_of(part: &[u8]) -> u8
     0
 }
 
-// One place more, if the entry is a text: how many places there are up to the last that a text has.
-fn end_with(end: usize, kind: u8, word: u64) -> usize
-    ensures { λ r. ⌜ r ≡ endWith end kind word ⌝ }
-    ensures few { λ r. ⌜ (end ≤ textPlaces → r ≤ textPlaces) ⌝ }
-{
-    if (kind == TEXT) & (word < TEXT_PLACES as u64) {
-        let p = word as usize;
-        return if p < end { end } else { p + 1 };
-    }
-    end
-}
-
-fn places_end(kinds: &[u8; ENTRIES], words: &[u64; ENTRIES], n: usize) -> usize
+// How many of the first n entries are texts. No way out of the loop, so that it becomes vector code.
+fn count_texts(kinds: &[u8; ENTRIES], n: usize) -> usize
     requires { ⌜ n ≤ maxEntries ⌝ }
-    ensures { λ r. ⌜ r ≡ placesEnd (now (kinds .entry)) (now (words .entry)) n ⌝ }
-    ensures few { λ r. ⌜ r ≤ textPlaces ⌝ }
+    ensures { λ r. ⌜ r ≤ n ⌝ }
 {
-    let mut end: usize = 0;
+    let mut count: u16 = 0;
     let mut i = 0;
     while i < n {
-        end = end_with(end, kinds[i], words[i]);
+        if kinds[i] == TEXT {
+            count += 1;
+        }
         i += 1;
     }
-    end
+    count as usize
 }
 
 // Whether a part of the page is valid UTF-8, where `whole` is the page's first stretch, of this form.
@@ -175,7 +165,7 @@ fn text_ok<'a>(
     is_formed(page, whole, form, TEXT_SIZE * p, len)
 }
 
-// Every text has a place of its own.
+// Every text has a place of its own. Places are given from the first on, so as many as there are texts are judged together.
 fn texts_ok(
     page: &[u8],
     kinds: &[u8; ENTRIES],
@@ -186,7 +176,7 @@ fn texts_ok(
     requires { ⌜ (n ≤ maxEntries) × (length (now page) ≡ pageSize) ⌝ }
     ensures { λ r. ⌜ r ≡ every (textRightAt (now (page .entry)) (now (kinds .entry)) (now (words .entry)) (now (lengths .entry))) n ⌝ }
 {
-    let end = TEXT_SIZE * places_end(kinds, words, n);
+    let end = TEXT_SIZE * count_texts(kinds, n);
     let whole = &page[0..end];
     let form = form_of(whole);
     let mut marks = [0u8; TEXT_PLACES];

@@ -17,7 +17,7 @@ use Rattle.cache_entries.proofs.valid.texts_ok.Tie as tie
 use Rattle.cache_entries.proofs.valid.texts_ok.Reads as reads
 use Rattle.cache_entries.proofs.valid.texts_ok.Lts as lts
 use Rattle.cache_entries.proofs.valid.form_of.Reads as form-of-reads
-use Rattle.cache_entries.proofs.valid.places_end.Reads as places-end-reads
+use Rattle.cache_entries.proofs.valid.count_texts.Reads as count-texts-reads
 use Rattle.cache_entries.proofs.valid.text_ok.Reads as text-ok-reads
 
 abbrev Inv-loop : tie.InvT-loop
@@ -26,11 +26,11 @@ Inv-loop page kinds words lengths n end whole form marks₀ i₀ marks i = (i �
 abbrev μ-loop : tie.MeasureT-loop
 μ-loop page kinds words lengths n end whole form marks₀ i₀ marks i = n - i
 
-places-end-requires : tie.Need-places-end-requires Inv-loop μ-loop
-places-end-requires c κs = search needs
+count-texts-requires : tie.Need-count-texts-requires Inv-loop μ-loop
+count-texts-requires c κs = search needs
 
 mul-end : tie.Need-mul-end Inv-loop μ-loop
-mul-end c = search needs
+mul-end c = omega (arith, c .count-texts .ensures, c .before .before .pre .0)
 
 sub-whole : tie.Need-sub-whole Inv-loop μ-loop
 sub-whole c = search needs
@@ -39,7 +39,7 @@ part-whole-start : tie.Need-part-whole-start Inv-loop μ-loop
 part-whole-start c = search needs
 
 part-whole-end : tie.Need-part-whole-end Inv-loop μ-loop
-part-whole-end c = search needs
+part-whole-end c = omega (arith, c .count-texts .ensures, c .before .before .pre .0, c .before .before .pre .1)
 
 form-of-requires : tie.Need-form-of-requires Inv-loop μ-loop
 form-of-requires c κs = search needs
@@ -75,7 +75,7 @@ unfolding textRightAt
 returns-2 c = let a = c .before .before .before .before .before .before .before .before .before .before .before .before .args in let l = c .before .before .before .before .before .before .before .loop in every-fails (textRightAt (a .page .now) (a .kinds .now) (a .words .now) (a .lengths .now)) (a .n) (l .i) (c .before .before .before .before .before .before .loop-test .taken) (rw (eq-eqb _ _ (c .before .before .before .before .if1 .taken), lt-ltb _ _ (c .before .before .if2 .left), sym (l .inv .1 .each _ (c .before .before .if2 .left)) ∙ ne-eqb _ _ (c .if3 .taken)) refl)
 
 text-ok-requires : tie.Need-text-ok-requires Inv-loop μ-loop
-text-ok-requires c κs = (c .before .before .if2 .left, (c .before .before .before .before .before .before .before .before .before .before .before .before .pre .1, (sym (ap (λ (k : ℕ). take k (c .before .before .before .before .before .before .before .before .before .before .before .before .args .page .now)) (length-take-le (200 * c .before .before .before .before .before .before .before .before .before .before .places-end .result - 0) (c .before .before .before .before .before .before .before .before .before .before .before .before .args .page .now) (omega (arith, c .before .before .before .before .before .before .before .before .before .before .places-end .ensures .1, c .before .before .before .before .before .before .before .before .before .before .before .before .pre .1)))), c .before .before .before .before .before .before .before .before .form-of .ensures)))
+text-ok-requires c κs = (c .before .before .if2 .left, (c .before .before .before .before .before .before .before .before .before .before .before .before .pre .1, (sym (ap (λ (k : ℕ). take k (c .before .before .before .before .before .before .before .before .before .before .before .before .args .page .now)) (length-take-le (200 * c .before .before .before .before .before .before .before .before .before .before .count-texts .result - 0) (c .before .before .before .before .before .before .before .before .before .before .before .before .args .page .now) (omega (arith, c .before .before .before .before .before .before .before .before .before .before .count-texts .ensures, c .before .before .before .before .before .before .before .before .before .before .before .before .pre .0, c .before .before .before .before .before .before .before .before .before .before .before .before .pre .1)))), c .before .before .before .before .before .before .before .before .form-of .ensures)))
 
 returns-3 : tie.Need-returns-3 Inv-loop μ-loop
 unfolding textRightAt
@@ -113,7 +113,7 @@ texts-ok-spec =
     (tie.spec
     Inv-loop
     μ-loop
-    places-end-requires
+    count-texts-requires
     mul-end
     sub-whole
     part-whole-start
