@@ -15,7 +15,7 @@ use Rattle.tlv.proofs.Picks.{pick-elim}
 use Rattle.schema.proofs.BoolLaws.{left, right}
 use Rattle.blocks.specs.declared.Answer.{Answer}
 use Rattle.interaction.specs.Status.{responseIn}
-use Rattle.interaction_report.specs.Report.{PartAt, partIn}
+use Rattle.interaction_report.specs.Report.{PartOf, partIn}
 use Rattle.interaction_answer.specs.Answered.{answeredIn}
 use Rattle.envelope.specs.declared.Fields.{Fields}
 use Rattle.envelope.specs.declared.Envelope.{Envelope}
@@ -145,12 +145,12 @@ module _ (page : List ℕ) (s : State) (v : ValidPanel page s) where
         kept = ended-length (s .asked) lastPart 0 ∙ v .kept;
       }
 
-      go : (o : Opt PartAt) → Holds (partTaken page s payload o)
+      go : (o : Opt (PartOf ℕ)) → Holds (partTaken page s payload o)
       go nothing = v
       go (just p) =
-          pick-elim Holds (pastTurns (p .part .more) (s .asked .turn)) _ _ (λ _. v)
+          pick-elim Holds (pastTurns (p .more) (s .asked .turn)) _ _ (λ _. v)
           (λ _. pick-elim Holds (eqb (judgedAll payload (record { number = 0; held = s .held }) (blocksIn payload) .number) 0) _ _
-          (λ _. pick-elim Holds (eqb (p .part .more) 1) _ _ (λ _. more) (λ _. last)) (λ _. v))
+          (λ _. pick-elim Holds (eqb (p .more) 1) _ _ (λ _. more) (λ _. last)) (λ _. v))
 
   takes-valid : (e : Fields) → awaited (s .asked) e ≡ true → (payload : List ℕ) → Holds (takes page s (e .opcode) payload)
   unfolding takes

@@ -12,7 +12,7 @@ use Rattle.tlv.specs.Decode.Opt.{just, nothing}
 use Rattle.tlv.proofs.Picks.{pick-elim}
 use Rattle.blocks.specs.declared.Answer.{Answer}
 use Rattle.interaction.specs.Status.{responseIn}
-use Rattle.interaction_report.specs.Report.{PartAt, partIn}
+use Rattle.interaction_report.specs.Report.{PartOf, partIn}
 use Rattle.interaction_answer.specs.Answered.{answeredIn}
 use Rattle.envelope.specs.declared.Envelope.{Envelope}
 use Rattle.envelope.specs.declared.Envelope.the-variants.{Whole, Short}
@@ -76,12 +76,12 @@ module _ (page : List ℕ) (s : State) (n : Narrow s) where
   unfolding takesPart
   part-narrow payload = go (partIn payload)
     where
-      go : (o : Opt PartAt) → NarrowR (partTaken page s payload o)
+      go : (o : Opt (PartOf ℕ)) → NarrowR (partTaken page s payload o)
       go nothing = n
       go (just p) =
-          pick-elim NarrowR (pastTurns (p .part .more) (s .asked .turn)) _ _ (λ _. n)
+          pick-elim NarrowR (pastTurns (p .more) (s .asked .turn)) _ _ (λ _. n)
           (λ f. pick-elim NarrowR (eqb (judgedAll payload (record { number = 0; held = s .held }) (blocksIn payload) .number) 0) _ _
-          (λ _. pick-elim NarrowR (eqb (p .part .more) 1) _ _ (λ t. goes-on _ _ (turn-left (p .part .more) t f)) (λ _. ended-as _ _ 0 (omega arith))) (λ _. n))
+          (λ _. pick-elim NarrowR (eqb (p .more) 1) _ _ (λ t. goes-on _ _ (turn-left (p .more) t f)) (λ _. ended-as _ _ 0 (omega arith))) (λ _. n))
 
   takes-narrow : (opcode : ℕ) (payload : List ℕ) → NarrowR (takes page s opcode payload)
   unfolding takes

@@ -13,7 +13,7 @@ use Rattle.tlv.proofs.Picks.{pick-elim}
 use Rattle.blocks.specs.declared.Answer.{Answer}
 use Rattle.blocks.specs.Data.{ReportOf}
 use Rattle.interaction.specs.Status.{responseIn}
-use Rattle.interaction_report.specs.Report.{PartAt, partIn}
+use Rattle.interaction_report.specs.Report.{PartOf, partIn}
 use Rattle.interaction_answer.specs.Answered.{answeredIn}
 use Rattle.envelope.specs.declared.Envelope.{Envelope}
 use Rattle.envelope.specs.declared.Envelope.the-variants.{Whole, Short}
@@ -87,12 +87,12 @@ module _ (page : List ℕ) (s : State) where
   unfolding takesPart goesOn
   part-fair payload = go (partIn payload)
     where
-      go : (o : Opt PartAt) → FairR (partTaken page s payload o)
+      go : (o : Opt (PartOf ℕ)) → FairR (partTaken page s payload o)
       go nothing = λ e. omega arith
       go (just p) =
-          pick-elim FairR (pastTurns (p .part .more) (s .asked .turn)) _ _ (λ _ e. omega arith)
+          pick-elim FairR (pastTurns (p .more) (s .asked .turn)) _ _ (λ _ e. omega arith)
           (λ _. pick-elim FairR (eqb (judgedAll payload (record { number = 0; held = s .held }) (blocksIn payload) .number) 0) _ _
-          (λ _. pick-elim FairR (eqb (p .part .more) 1) _ _ (λ _ e. omega arith) (λ _ e. omega arith))
+          (λ _. pick-elim FairR (eqb (p .more) 1) _ _ (λ _ e. omega arith) (λ _ e. omega arith))
           (λ _. judged-fair payload (record { number = 0; held = s .held }) (λ e. omega arith) (blocksIn payload)))
 
   takes-fair : (opcode : ℕ) (payload : List ℕ) → FairR (takes page s opcode payload)

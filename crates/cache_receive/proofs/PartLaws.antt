@@ -16,8 +16,8 @@ use Rattle.schema.proofs.BoolLaws.{by-test}
 use Rattle.blocks.specs.Data.{ReportOf}
 use Rattle.exchange.specs.Rules.{maxTurn}
 use Rattle.interaction.specs.Message.{wordsOf}
-use Rattle.interaction_report.specs.declared.kept.PartCounts.{PartCounts}
-use Rattle.interaction_report.specs.Report.{PartAt, partIn}
+use Rattle.interaction_report.specs.declared.Part.{Part}
+use Rattle.interaction_report.specs.Report.{PartOf, partIn}
 use Rattle.interaction_report.specs.Kept.{blockSize, maxBlocks, blockWords, PartKept, partKept, partWith}
 use Rattle.interaction_report.proofs.FewLaws.{few-blocks}
 use Rattle.cache_entries.specs.declared.Cached.{Cached}
@@ -74,31 +74,31 @@ right-any page c h primed = h
 
 -- ---- a part that was read
 
-module _ (page : List ℕ) (s : State) (payload old : List ℕ) {p : PartCounts} {words : List ℕ} (e : partWith p words ≡ partKept old (partIn payload)) where
+module _ (page : List ℕ) (s : State) (payload old : List ℕ) {p : Part} {words : List ℕ} (e : partWith p words ≡ partKept old (partIn payload)) where
   pub part-bad : p .good ≡ false → takesPart page s payload ≡ refusal 6 s page
   unfolding takesPart
   part-bad h = go (partIn payload) refl
     where
-      go : (o : Opt PartAt) → partIn payload ≡ o → partTaken page s payload o ≡ refusal 6 s page
+      go : (o : Opt (PartOf ℕ)) → partIn payload ≡ o → partTaken page s payload o ≡ refusal 6 s page
       go nothing q = refl
       go (just x) q = never (sym (ap (λ (y : PartKept). y .good) (e ∙ ap (partKept old) q)) ∙ h)
 
   module _ (good : p .good ≡ true) where
-    found : {P : Type 0} → ((x : PartAt) → partIn payload ≡ just x → P) → P
+    found : {P : Type 0} → ((x : PartOf ℕ) → partIn payload ≡ just x → P) → P
     found {P} f = go (partIn payload) refl
       where
-        go : (o : Opt PartAt) → partIn payload ≡ o → P
+        go : (o : Opt (PartOf ℕ)) → partIn payload ≡ o → P
         go nothing q = never (sym good ∙ ap (λ (y : PartKept). y .good) (e ∙ ap (partKept old) q))
         go (just x) q = f x q
 
     -- what is promised
-    read-as : (x : PartAt) → partIn payload ≡ just x → x .part .more ≡ p .more
+    read-as : (x : PartOf ℕ) → partIn payload ≡ just x → x .more ≡ p .more
     read-as x q = sym (ap (λ (y : PartKept). y .more) (e ∙ ap (partKept old) q))
 
-    count-as : (x : PartAt) → partIn payload ≡ just x → p .blocks ≡ length (x .part .blocks)
+    count-as : (x : PartOf ℕ) → partIn payload ≡ just x → p .blocks ≡ length (x .blocks)
     count-as x q = ap (λ (y : PartKept). y .kept .count) (e ∙ ap (partKept old) q)
 
-    words-as : (x : PartAt) → partIn payload ≡ just x → words ≡ store old 0 (wordsOf blockWords (take maxBlocks (x .part .blocks)))
+    words-as : (x : PartOf ℕ) → partIn payload ≡ just x → words ≡ store old 0 (wordsOf blockWords (take maxBlocks (x .blocks)))
     words-as x q = ap (λ (y : PartKept). y .kept .words) (e ∙ ap (partKept old) q)
 
     pub part-past : pastTurns (p .more) (s .asked .turn) ≡ true → takesPart page s payload ≡ refusal 6 s page
@@ -116,7 +116,7 @@ module _ (page : List ℕ) (s : State) (payload old : List ℕ) {p : PartCounts}
         -- the words say what the blocks get
         fates-as : fates ≡ map (fateIn payload) (blocksIn payload)
         unfolding blocksIn
-        fates-as = found (λ x q. (λ j. fatesFrom payload (words-as x q j) (count-as x q j) 0) ∙ kept-fates payload old (x .part .blocks) (few-blocks payload x small q) room ∙ ap (λ (o : Opt PartAt). map (fateIn payload) (blocksOf o)) (sym q))
+        fates-as = found (λ x q. (λ j. fatesFrom payload (words-as x q j) (count-as x q j) 0) ∙ kept-fates payload old (x .blocks) (few-blocks payload x small q) room ∙ ap (λ (o : Opt (PartOf ℕ)). map (fateIn payload) (blocksOf o)) (sym q))
 
         abbrev judgement : ℕ
         judgement = judgedAll payload (record { number = 0; held = s .held }) (blocksIn payload) .number

@@ -11,7 +11,7 @@ use Rattle.blocks.specs.declared.Path.{Path}
 use Rattle.blocks.specs.declared.Answer.{Answer}
 use Rattle.blocks.specs.Path.{exactP}
 use Rattle.interaction.specs.Status.{responseIn}
-use Rattle.interaction_report.specs.Report.{PartAt, partIn}
+use Rattle.interaction_report.specs.Report.{PartOf, partIn}
 use Rattle.interaction_answer.specs.Answered.{answeredIn}
 use Rattle.interaction_writer.specs.Envelope.{panelEdition}
 use Rattle.envelope.specs.declared.Fields.{Fields}
@@ -137,12 +137,12 @@ unfoldable pub pastTurns : ℕ → ℕ → Bool
 pastTurns more turn = eqb more 1 && eqb turn maxTurn
 
 -- "It is the last unless MoreChunkedMessages is true"
-abbrev pub partTaken : List ℕ → State → List ℕ → Opt PartAt → Reaction
+abbrev pub partTaken : List ℕ → State → List ℕ → Opt (PartOf ℕ) → Reaction
 partTaken page s payload nothing = refusal 6 s page
 partTaken page s payload (just p) =
-    pick (pastTurns (p .part .more) (s .asked .turn)) (refusal 6 s page)
+    pick (pastTurns (p .more) (s .asked .turn)) (refusal 6 s page)
     (pick (eqb (judgedAll payload (record { number = 0; held = s .held }) (blocksIn payload) .number) 0)
-    (pick (eqb (p .part .more) 1)
+    (pick (eqb (p .more) 1)
     (goesOn (heldAll payload (s .held) (blocksIn payload)) (s .asked) (pageAll payload (s .held) page (blocksIn payload)))
     (ends (heldAll payload (s .held) (blocksIn payload)) (s .asked) (pageAll payload (s .held) page (blocksIn payload))))
     (refusal (judgedAll payload (record { number = 0; held = s .held }) (blocksIn payload) .number) s page))

@@ -4,16 +4,16 @@ use Prim.Native.Nat.{ℕ}
 use Rattle.tlv.specs.Decode.{Opt}
 use Rattle.tlv.specs.Decode.Opt.{just, nothing}
 use Rattle.blocks.specs.Data.{ReportOf, reportStruct}
-use Rattle.interaction_report.specs.Report.{PartAt, partIn}
+use Rattle.interaction_report.specs.Report.{PartOf, partIn}
 use Rattle.cache_entries.specs.declared.Cached.{Cached}
 use Rattle.cache_report.specs.declared.block.Fate.{Fate}
 use Rattle.cache_report.specs.Block.{fateOf}
 use Rattle.cache_report.specs.Entry.{numberFor, heldFor, worse, pageFor}
 
 -- the blocks of a payload that is a part
-abbrev pub blocksOf : Opt PartAt → List (ReportOf ℕ)
+abbrev pub blocksOf : Opt (PartOf ℕ) → List (ReportOf ℕ)
 blocksOf nothing = []
-blocksOf (just p) = p .part .blocks
+blocksOf (just p) = p .blocks
 
 unfoldable pub blocksIn : List ℕ → List (ReportOf ℕ)
 blocksIn s = blocksOf (partIn s)

@@ -12,7 +12,7 @@ use Rattle.tlv.specs.Octet.{pick}
 use Rattle.tlv.specs.Decode.Opt.{just}
 use Rattle.tlv.proofs.Picks.{pick-elim}
 use Rattle.members.specs.Scalar.{ABSENT}
-use Rattle.interaction_report.specs.Report.{PartAt}
+use Rattle.interaction_report.specs.Report.{PartOf}
 use Rattle.blocks.specs.Data.{ReportOf}
 use Rattle.blocks.proofs.BlockLaws.{never}
 use Rattle.schema.proofs.BoolLaws.{left, right, by-test}
@@ -101,7 +101,7 @@ module _ (l : List Block) (m : Bool) (h : Each Sent l) (page : List ℕ) (s : St
       let (p, here, more, step) = report-taken l m h in
       let six : judged ≡ 6 = judged-six (reportOctets l m) l (blocksIn (reportOctets l m)) step (record { number = 0; held = s .held }) t in
       ap (partTaken page s (reportOctets l m)) here
-      ∙ pick-elim (λ (r : Reaction). r ≡ refusal 6 s page) (pastTurns (p .part .more) (s .asked .turn)) _ _ (λ _. refl) (λ _. rw six refl)
+      ∙ pick-elim (λ (r : Reaction). r ≡ refusal 6 s page) (pastTurns (p .more) (s .asked .turn)) _ _ (λ _. refl) (λ _. rw six refl)
 
   -- one without is never refused for a block that can't be used: all of it is taken, or there is no room (7)
   pub values-usable : anyStatus l ≡ false → judged ≡ 6 → ⊥
@@ -116,7 +116,7 @@ module _ (l : List Block) (m : Bool) (h : Each Sent l) (page : List ℕ) (s : St
   abbrev texts : List ℕ
   texts = pageAll (reportOctets l m) (s .held) page (blocksIn (reportOctets l m))
 
-  part-as : (p : PartAt) (b : Bool) → p .part .more ≡ pick b 1 ABSENT → (b ≡ true → s .asked .turn ≡ maxTurn → ⊥) → judged ≡ 0 → partTaken page s (reportOctets l m) (just p) ≡ pick b (goesOn held (s .asked) texts) (ends held (s .asked) texts)
+  part-as : (p : PartOf ℕ) (b : Bool) → p .more ≡ pick b 1 ABSENT → (b ≡ true → s .asked .turn ≡ maxTurn → ⊥) → judged ≡ 0 → partTaken page s (reportOctets l m) (just p) ≡ pick b (goesOn held (s .asked) texts) (ends held (s .asked) texts)
   unfolding pastTurns
   part-as p true e n z = rw (e, ne-eqb (s .asked .turn) maxTurn (n refl), z) refl
   part-as p false e n z = rw (e, z) refl

@@ -21,7 +21,7 @@ use Rattle.blocks.specs.Path.{banned, exactP}
 use Rattle.blocks.specs.Data.{DataOf, ReportOf, shown, refused, dataTree, reportTree}
 use Rattle.blocks.proofs.BlockLaws.{never}
 use Rattle.schema.proofs.BoolLaws.{both}
-use Rattle.interaction_report.specs.Report.{PartAt, PartOf, partIn, partTree}
+use Rattle.interaction_report.specs.Report.{PartOf, partIn, partTree}
 use Rattle.interaction_writer.specs.Spelling.{Each}
 use Rattle.interaction_writer.specs.Block.{Block}
 use Rattle.interaction_writer.specs.Meaning.{exactPath, exactData, PathFits, Fits, blockMeans}
@@ -97,7 +97,7 @@ module _ (s : List ℕ) where
     block-taken (Block.status e c a code) h (refused z) q = refl
 
 -- THE LAW
-pub report-taken : (l : List Block) (m : Bool) → Each Sent l → (p : PartAt) × (partIn (reportOctets l m) ≡ just p) × (p .part .more ≡ pick m 1 ABSENT) × InStep (TakenAs (reportOctets l m)) l (blocksIn (reportOctets l m))
+pub report-taken : (l : List Block) (m : Bool) → Each Sent l → (p : PartOf ℕ) × (partIn (reportOctets l m) ≡ just p) × (p .more ≡ pick m 1 ABSENT) × InStep (TakenAs (reportOctets l m)) l (blocksIn (reportOctets l m))
 unfolding blocksIn
 report-taken l m h =
     let s : List ℕ = reportOctets l m in
@@ -105,5 +105,5 @@ report-taken l m h =
       r,
       here,
       ap (λ (y : PartOf Tree). y .more) means,
-      rw here (in-step (reportTree 6 s) blockMeans Sent (TakenAs s) (block-taken s (report-bytes l m h)) l (r .part .blocks) (ap (λ (y : PartOf Tree). y .blocks) means) h),
+      rw here (in-step (reportTree 6 s) blockMeans Sent (TakenAs s) (block-taken s (report-bytes l m h)) l (r .blocks) (ap (λ (y : PartOf Tree). y .blocks) means) h),
     )

@@ -24,9 +24,9 @@ use Rattle.blocks.proofs.OnLaws.{report-reads}
 use Rattle.blocks.proofs.SizeLaws.{Grown, fold-grows, report-size}
 use Rattle.interaction.specs.Message.{snoc}
 use Rattle.interaction.proofs.KeepLaws.{length-snoc}
-use Rattle.interaction_report.specs.Report.{PartAt, blocksFrom, blocksAt, partIn}
+use Rattle.interaction_report.specs.Report.{PartOf, blocksFrom, blocksAt, partIn}
 use Rattle.interaction_report.specs.Kept.{maxBlocks}
-use Rattle.interaction_report.proofs.FirstLaws.{part-first}
+use Rattle.interaction_report.proofs.WhereLaws.{part-stands}
 
 abbrev bytes : List (ReportOf ℕ) → ℕ
 bytes l = 10 * length l
@@ -49,15 +49,15 @@ module _ (d : ℕ) (s : List ℕ) where
   blocks-within at w = (subst (Ahead at (length s)) w (fold-ahead (eachStep snoc (reportAt d s)) s (λ l p e h. ahead-map p (length s) (snoc l) (reportAt d s p) (reads-forward d s (report-reads d s) p e h)) (length s) array [] at)) .1
 
 -- THE LAW
-pub few-blocks : (s : List ℕ) (p : PartAt) → length s ≤ maxPayload → partIn s ≡ just p → length (p .part .blocks) ≤ maxBlocks
-few-blocks s p small e = go (ltb 0 (length (p .part .blocks))) refl
+pub few-blocks : (s : List ℕ) (p : PartOf ℕ) → length s ≤ maxPayload → partIn s ≡ just p → length (p .blocks) ≤ maxBlocks
+few-blocks s p small e = go (ltb 0 (length (p .blocks))) refl
   where
-    from : (g : Got (List (ReportOf ℕ))) → blocksAt 8 s (p .first) ≡ g → optOf g ≡ just (p .part .blocks) → length (p .part .blocks) ≤ maxBlocks
-    from bad w z = never (cc)
-    from (got l n) w z =
-        let same : l ≡ p .part .blocks = cc in
-        omega (arith, blocks-size 8 s (p .first) w, blocks-within 8 s (p .first) w, ap (λ (k : List (ReportOf ℕ)). length k) same)
+    from : (at : ℕ) (g : Got (List (ReportOf ℕ))) → blocksAt 8 s at ≡ g → optOf g ≡ just (p .blocks) → length (p .blocks) ≤ maxBlocks
+    from at bad w z = never (cc)
+    from at (got l n) w z =
+        let same : l ≡ p .blocks = cc in
+        omega (arith, blocks-size 8 s at w, blocks-within 8 s at w, ap (λ (k : List (ReportOf ℕ)). length k) same)
 
-    go : (b : Bool) → ltb 0 (length (p .part .blocks)) ≡ b → length (p .part .blocks) ≤ maxBlocks
-    go true q = from (blocksAt 8 s (p .first)) refl (part-first s (ltb-true 0 (length (p .part .blocks)) q) e)
-    go false q = let z = ltb-false 0 (length (p .part .blocks)) q in omega arith
+    go : (b : Bool) → ltb 0 (length (p .blocks)) ≡ b → length (p .blocks) ≤ maxBlocks
+    go true q = let (at, here) = part-stands s (ltb-true 0 (length (p .blocks)) q) e in from at (blocksAt 8 s at) refl here
+    go false q = let z = ltb-false 0 (length (p .blocks)) q in omega arith

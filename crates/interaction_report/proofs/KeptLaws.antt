@@ -73,6 +73,10 @@ module _ {A : Type 0} (n size : ℕ) (enc : A → List ℕ) (old : List ℕ) {f 
       go (got l m) z = (l, ap (got l) (sym (ap (λ (y : ListRead). y .next .at) z)), ap (λ (y : ListRead). y .kept) z)
 
 -- what the reader of a block says
+pub report-lacks : (g : Got (ReportOf ℕ)) → reportRead g ≡ report-read.BadReport → g ≡ bad
+report-lacks bad e = refl
+report-lacks (got x n) e = never (cc)
+
 pub record Read (g : Got (ReportOf ℕ)) (r : Report) (n : ℕ) : Type 0 where
   pub value : ReportOf ℕ
   pub is : r ≡ reportStruct value

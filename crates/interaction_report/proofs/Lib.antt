@@ -1,6 +1,5 @@
-pub mod BlocksLaws
 pub mod MeaningLaws
-pub mod FirstLaws
+pub mod WhereLaws
 pub mod PassLaws
 pub mod KeptLaws
 pub mod FewLaws

@@ -23,7 +23,7 @@ use Rattle.blocks.proofs.DataLaws.{report-law}
 use Rattle.interaction.specs.Message.{given, listT, listAt}
 use Rattle.interaction.proofs.ListLaws.{list-law}
 use Rattle.interaction.proofs.WholeLaws.{whole-law, whole-mapped, whole-any-order, whole-unlisted}
-use Rattle.interaction_report.specs.Report.{partTags, placed, partFrom, partIn, partSlots, partT, partTree, firstIn}
+use Rattle.interaction_report.specs.Report.{partTags, partFrom, partIn, partSlots, partT, partTree}
 
 -- the blocks: none where the array is absent
 blocks-here : (s : List ℕ) (p : ℕ) → mapO (map (reportTree 6 s)) (optionalIn [] (listAt reportAt 9 s) p) ≡ optionalT [] (listT reportT) (slotIn 9 s p)
@@ -33,12 +33,12 @@ blocks-here s (suc p) =
     let e : suc p - 1 ≡ p = omega arith in
     rw (ne-eqb (suc p) 0 (λ z. omega arith), e) (member-mapped (map (reportTree 6 s)) 9 s (listAt reportAt 9 s) (listT reportT) (list-law (reportTree 6 s) reportT reportAt 8 s (report-law 8 s)) refl p)
 
-module _ (s : List ℕ) (n more : ℕ) where
-  blocks-through : (bs : Opt (List (ReportOf ℕ))) → mapO (partTree 6 s) (placed n (bindO bs (λ l. just (record { more = more; blocks = l })))) ≡ bindO (mapO (map (reportTree 6 s)) bs) (λ l. just (record { more = more; blocks = l }))
+module _ (s : List ℕ) (more : ℕ) where
+  blocks-through : (bs : Opt (List (ReportOf ℕ))) → mapO (partTree 6 s) (bindO bs (λ l. just (record { more = more; blocks = l }))) ≡ bindO (mapO (map (reportTree 6 s)) bs) (λ l. just (record { more = more; blocks = l }))
   blocks-through nothing = refl
   blocks-through (just l) = refl
 
-  part-through : (a b c d : Bool) (bs : Opt (List (ReportOf ℕ))) → mapO (partTree 6 s) (placed n (pick a nothing (pick b nothing (pick c nothing (pick d (bindO bs (λ l. just (record { more = more; blocks = l }))) nothing))))) ≡ pick a nothing (pick b nothing (pick c nothing (pick d (bindO (mapO (map (reportTree 6 s)) bs) (λ l. just (record { more = more; blocks = l }))) nothing)))
+  part-through : (a b c d : Bool) (bs : Opt (List (ReportOf ℕ))) → mapO (partTree 6 s) (pick a nothing (pick b nothing (pick c nothing (pick d (bindO bs (λ l. just (record { more = more; blocks = l }))) nothing)))) ≡ pick a nothing (pick b nothing (pick c nothing (pick d (bindO (mapO (map (reportTree 6 s)) bs) (λ l. just (record { more = more; blocks = l }))) nothing)))
   part-through false false false true bs = blocks-through bs
   part-through false false false false bs = refl
   part-through false false true d bs = refl
@@ -48,7 +48,7 @@ module _ (s : List ℕ) (n more : ℕ) where
 part-from : (s : List ℕ) (xs : List ℕ) → mapO (partTree 6 s) (partFrom s xs) ≡ partSlots (map (slotIn 9 s) xs)
 unfolding partFrom partSlots
 part-from s xs =
-    part-through s (firstIn s (getD xs 1 0)) (flagIn s (getD xs 3 0)) (eqb (numberIn 4294967295 false s (getD xs 0 0)) WRONG) (eqb (flagIn s (getD xs 3 0)) WRONG) (eqb (flagIn s (getD xs 4 0)) WRONG) (given (numberIn 255 false s (getD xs 9 0))) (optionalIn [] (listAt reportAt 9 s) (getD xs 1 0))
+    part-through s (flagIn s (getD xs 3 0)) (eqb (numberIn 4294967295 false s (getD xs 0 0)) WRONG) (eqb (flagIn s (getD xs 3 0)) WRONG) (eqb (flagIn s (getD xs 4 0)) WRONG) (given (numberIn 255 false s (getD xs 9 0))) (optionalIn [] (listAt reportAt 9 s) (getD xs 1 0))
     ∙ rw (blocks-here s (getD xs 1 0), ← (at-place 9 s xs 1), flag-here 9 s xs 3, flag-here 9 s xs 4, number-here 9 s xs 255 false 9, number-here 9 s xs 4294967295 false 0) refl
 
 -- any legal spelling of a part is read to its meaning, each block's data to the tree that stands at its place

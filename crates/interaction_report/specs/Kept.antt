@@ -16,8 +16,7 @@ use Rattle.blocks.specs.Data.{ReportOf, reportStruct}
 use Rattle.interaction.specs.Message.{Kept, keptAs, keptNone}
 use Rattle.interaction_report.specs.declared.Part.{Part}
 use Rattle.interaction_report.specs.declared.kept.Words.{Words}
-use Rattle.interaction_report.specs.declared.kept.PartCounts.{PartCounts}
-use Rattle.interaction_report.specs.Report.{PartAt}
+use Rattle.interaction_report.specs.Report.{PartOf}
 
 -- a concrete path: every part is there and has its width
 unfoldable pub concreteP : Path → Bool
@@ -66,12 +65,12 @@ pub record PartKept : Type 0 where
   pub kept : Kept
 
 -- a part that is refused leaves nothing
-abbrev pub partKept : List ℕ → Opt PartAt → PartKept
+abbrev pub partKept : List ℕ → Opt (PartOf ℕ) → PartKept
 partKept words nothing = record { good = false; more = 0; kept = keptNone (maxBlocks * blockSize) }
-partKept words (just p) = record { good = true; more = p .part .more; kept = keptAs maxBlocks blockWords words (p .part .blocks) }
+partKept words (just p) = record { good = true; more = p .more; kept = keptAs maxBlocks blockWords words (p .blocks) }
 
 -- as the code has it
-abbrev pub partWith : PartCounts → List ℕ → PartKept
+abbrev pub partWith : Part → List ℕ → PartKept
 partWith r words = record { good = r .good; more = r .more; kept = record { count = r .blocks; words = words } }
 
 -- of a part that was made or refused, and the words that its blocks were kept in

@@ -7,9 +7,7 @@ use lib.Dec.{eqb}
 use Rattle.bounds.specs.Bounds.{maxDepth}
 use Rattle.tlv.specs.Octet.{pick, array}
 use Rattle.tlv.specs.Tree.{Tree, Trees}
-use Rattle.tlv.specs.Head.{headAt}
-use Rattle.tlv.specs.Walk.{Got, foldAt, headed}
-use Rattle.tlv.specs.Walk.Got.{got, bad}
+use Rattle.tlv.specs.Walk.{Got, foldAt}
 use Rattle.tlv.specs.Decode.{Opt, bindO}
 use Rattle.tlv.specs.Decode.Opt.{just, nothing}
 use Rattle.members.specs.Fields.{Slot}
@@ -19,7 +17,6 @@ use Rattle.members.specs.Scalar.{WRONG, numberIn, flagIn, numberT, flagT}
 use Rattle.members.specs.Array.{eachStep, optionalIn, optionalT}
 use Rattle.blocks.specs.Data.{ReportOf, reportAt, reportT, reportTree}
 use Rattle.interaction.specs.Message.{snoc, listT, listAt, given, wholePass, wholeIn, wholeT}
-use Rattle.interaction_report.specs.declared.Count.{Count}
 use Rattle.interaction_report.specs.declared.Part.{Part}
 
 unfoldable pub blocksFrom : ℕ → List ℕ → List (ReportOf ℕ) → ℕ → Got (List (ReportOf ℕ))
@@ -27,14 +24,6 @@ blocksFrom d s l at = foldAt (eachStep snoc (reportAt d s)) (length s) s array l
 
 unfoldable pub blocksAt : ℕ → List ℕ → ℕ → Got (List (ReportOf ℕ))
 blocksAt d s at = blocksFrom d s [] at
-
-abbrev pub countRead : Got (List (ReportOf ℕ)) → Count
-countRead bad = record { good = false; blocks = 0; next = record { at = 0 } }
-countRead (got l n) = record { good = true; blocks = length l; next = record { at = n } }
-
--- where the first block stands of the array at a place
-unfoldable pub firstIn : List ℕ → ℕ → ℕ
-firstIn s p = pick (eqb p 0) 0 (headed 0 (λ e. pick (eqb (e .kind) array) (e .next .at) 0) (headAt s (p - 1)))
 
 -- THE MEANING of a part: its blocks, over what data is, and MoreChunkedMessages (0, 1 or absent)
 pub record PartOf (D : Type 0) : Type 0 where
@@ -52,39 +41,30 @@ partOf subscription more suppress revision bs =
     (pick (eqb suppress WRONG) nothing
     (pick (given revision) (bindO bs (λ l. just (record { more = more; blocks = l }))) nothing)))
 
--- IN BYTES, with where the first block stands
-pub record PartAt : Type 0 where
-  pub part : PartOf ℕ
-  pub first : ℕ
-
-abbrev pub placed : ℕ → Opt (PartOf ℕ) → Opt PartAt
-placed n nothing = nothing
-placed n (just p) = just (record { part = p; first = n })
-
-unfoldable pub partFrom : List ℕ → List ℕ → Opt PartAt
+-- IN BYTES: data is the place where it stands
+unfoldable pub partFrom : List ℕ → List ℕ → Opt (PartOf ℕ)
 partFrom s seen =
-    placed (firstIn s (getD seen 1 0))
-    (partOf (numberIn 4294967295 false s (getD seen 0 0)) (flagIn s (getD seen 3 0)) (flagIn s (getD seen 4 0)) (numberIn 255 false s (getD seen 9 0)) (optionalIn [] (listAt reportAt (maxDepth - 1) s) (getD seen 1 0)))
+    partOf (numberIn 4294967295 false s (getD seen 0 0)) (flagIn s (getD seen 3 0)) (flagIn s (getD seen 4 0)) (numberIn 255 false s (getD seen 9 0)) (optionalIn [] (listAt reportAt (maxDepth - 1) s) (getD seen 1 0))
 
-unfoldable pub partIn : List ℕ → Opt PartAt
+unfoldable pub partIn : List ℕ → Opt (PartOf ℕ)
 partIn s = wholeIn partTags (partFrom s) s
 
-abbrev pub partRead : Opt PartAt → Part
-partRead nothing = record { good = false; more = 0; blocks = 0; first = 0 }
-partRead (just p) = record { good = true; more = p .part .more; blocks = length (p .part .blocks); first = p .first }
+abbrev pub partRead : Opt (PartOf ℕ) → Part
+partRead nothing = record { good = false; more = 0; blocks = 0 }
+partRead (just p) = record { good = true; more = p .more; blocks = length (p .blocks) }
 
--- by a pass over the message's members that has ended, with so many blocks from a place on
-abbrev pub partMade : ℕ → ℕ → ℕ → ℕ → ℕ → ℕ → Part
-partMade subscription more suppress revision blocks first =
+-- by a pass over the message's members that has ended, with so many blocks
+abbrev pub partMade : ℕ → ℕ → ℕ → ℕ → ℕ → Part
+partMade subscription more suppress revision blocks =
     pick (eqb subscription WRONG) (partRead nothing)
     (pick (eqb more WRONG) (partRead nothing)
     (pick (eqb suppress WRONG) (partRead nothing)
-    (pick (given revision) (record { good = true; more = more; blocks = blocks; first = first }) (partRead nothing))))
+    (pick (given revision) (record { good = true; more = more; blocks = blocks }) (partRead nothing))))
 
-unfoldable pub partBy : ℕ → Pass → ℕ → ℕ → Part
-partBy len m blocks first =
+unfoldable pub partBy : ℕ → Pass → ℕ → Part
+partBy len m blocks =
     pick (wholePass len m)
-    (partMade (numberBy 4294967295 false (getD (m .codes) 0 0)) (flagBy (getD (m .codes) 3 0)) (flagBy (getD (m .codes) 4 0)) (numberBy 255 false (getD (m .codes) 9 0)) blocks first)
+    (partMade (numberBy 4294967295 false (getD (m .codes) 0 0)) (flagBy (getD (m .codes) 3 0)) (flagBy (getD (m .codes) 4 0)) (numberBy 255 false (getD (m .codes) 9 0)) blocks)
     (partRead nothing)
 
 -- IN TREES
@@ -96,5 +76,5 @@ unfoldable pub partT : Trees → Opt (PartOf Tree)
 partT ts = wholeT partTags partSlots ts
 
 -- a part read from bytes, each place replaced by the tree that stands there
-abbrev pub partTree : ℕ → List ℕ → PartAt → PartOf Tree
-partTree d s p = record { more = p .part .more; blocks = map (reportTree d s) (p .part .blocks) }
+abbrev pub partTree : ℕ → List ℕ → PartOf ℕ → PartOf Tree
+partTree d s p = record { more = p .more; blocks = map (reportTree d s) (p .blocks) }

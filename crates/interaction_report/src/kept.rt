@@ -4,6 +4,7 @@ ghost use Rattle.blocks.specs.Data.{reportAt};
 ghost use Rattle.interaction.specs.Message.{listOn, listWith, listRead};
 ghost use Rattle.interaction_report.specs.Report.{blocksAt, partIn};
 ghost use Rattle.interaction_report.specs.Kept.{concreteP, blockSize, maxBlocks, reportWords, blockWords, wordList, partKept, partWith, keptBy};
+use super::NO_PART;
 use super::Part;
 use super::REPORT;
 use super::part_of;
@@ -126,36 +127,19 @@ fn kept_of(s: &[u8], e: Element, left: usize, kept: &mut [u64; BLOCK_WORDS]) -> 
     kept_from(s, c, left - 1, kept)
 }
 
-// A part of a report: whether it is well-formed, whether more is promised (1), and how many blocks it has.
-pub struct PartCounts {
-    pub good: bool,
-    pub more: u64,
-    pub blocks: usize,
-}
-
-const NO_COUNTS: PartCounts = PartCounts {
-    good: false,
-    more: 0,
-    blocks: 0,
-};
-
 // The part that was made, with its blocks in words. One that was refused leaves nothing in them.
-fn part_by(p: Part, kept: &mut [u64; BLOCK_WORDS]) -> PartCounts
+fn part_by(p: Part, kept: &mut [u64; BLOCK_WORDS]) -> Part
     ensures { λ r. ⌜ partWith r (now (kept .exit)) ≡ keptBy p (now (kept .entry)) ⌝ }
 {
     if !p.good {
         *kept = [0u64; BLOCK_WORDS];
-        return NO_COUNTS;
+        return NO_PART;
     }
-    PartCounts {
-        good: true,
-        more: p.more,
-        blocks: p.blocks,
-    }
+    p
 }
 
 // ReportDataMessage, its blocks kept.
-pub fn report_kept(s: &[u8], kept: &mut [u64; BLOCK_WORDS]) -> PartCounts
+pub fn report_kept(s: &[u8], kept: &mut [u64; BLOCK_WORDS]) -> Part
     ensures { λ r. ⌜ partWith r (now (kept .exit)) ≡ partKept (now (kept .entry)) (partIn (now (s .entry))) ⌝ }
 {
     let listed = REPORT;
@@ -164,13 +148,13 @@ pub fn report_kept(s: &[u8], kept: &mut [u64; BLOCK_WORDS]) -> PartCounts
     let mut codes = [0u64; 10];
     let m = interaction::begin_message(s, &listed, &stops, &mut at, &mut codes);
     if 10 <= m.slot {
-        let p = part_of(s.len(), m, &codes, 0, 0);
+        let p = part_of(s.len(), m, &codes, 0);
         return part_by(p, kept);
     }
     let inner = m.head;
     let f = kept_of(s, inner, bounds::MAX_DEPTH - 1, kept);
     if !f.good {
-        return NO_COUNTS;
+        return NO_PART;
     }
     let after = f.next;
     let z = members::finish(
@@ -182,7 +166,6 @@ pub fn report_kept(s: &[u8], kept: &mut [u64; BLOCK_WORDS]) -> PartCounts
         &mut at,
         &mut codes,
     );
-    let first = inner.next;
-    let p = part_of(s.len(), z, &codes, f.count, first.at);
+    let p = part_of(s.len(), z, &codes, f.count);
     part_by(p, kept)
 }

@@ -14,7 +14,7 @@ use Rattle.tlv.specs.Decode.Opt.{just, nothing}
 use Rattle.tlv.specs.Value.{Datum}
 use Rattle.tlv.proofs.Picks.{pick-elim}
 use Rattle.schema.proofs.BoolLaws.{right, by-test}
-use Rattle.interaction_report.specs.Report.{PartAt, partIn}
+use Rattle.interaction_report.specs.Report.{PartOf, partIn}
 use Rattle.envelope.specs.declared.Fields.{Fields}
 use Rattle.envelope.specs.declared.Envelope.{Envelope}
 use Rattle.envelope.specs.declared.Envelope.the-variants.{Whole, Short}
@@ -57,12 +57,12 @@ module _ (page : List ℕ) (s : State) (g : Goes s) where
   unfolding takesPart goesOn begin.keeping endedAs
   part-goes payload = go (partIn payload)
     where
-      go : (o : Opt PartAt) → Keeps (partTaken page s payload o)
+      go : (o : Opt (PartOf ℕ)) → Keeps (partTaken page s payload o)
       go nothing = g
       go (just q) =
-          pick-elim Keeps (pastTurns (q .part .more) (s .asked .turn)) _ _ (λ _. g)
+          pick-elim Keeps (pastTurns (q .more) (s .asked .turn)) _ _ (λ _. g)
           (λ _. pick-elim Keeps (eqb (judgedAll payload (record { number = 0; held = s .held }) (blocksIn payload) .number) 0) _ _
-          (λ _. pick-elim Keeps (eqb (q .part .more) 1) _ _ (λ _. g) (λ _. inr refl)) (λ _. g))
+          (λ _. pick-elim Keeps (eqb (q .more) 1) _ _ (λ _. g) (λ _. inr refl)) (λ _. g))
 
   awaited-writing : (f : Fields) → awaited (s .asked) f ≡ true → eqb (f .opcode) statusOpcode ≡ false → eqb (f .opcode) reportOpcode ≡ false → s .asked .stage ≡ writing
   unfolding awaited opcodeAwaited

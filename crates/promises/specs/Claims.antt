@@ -12,7 +12,7 @@ use Rattle.envelope.specs.declared.Fields.{Fields}
 use Rattle.envelope.specs.declared.Envelope.{Envelope}
 use Rattle.envelope.specs.declared.Envelope.the-variants.{Whole, Short}
 use Rattle.envelope.specs.Envelope.{envelopeIn, envelopeLength}
-use Rattle.interaction_report.specs.Report.{PartAt, partIn}
+use Rattle.interaction_report.specs.Report.{PartOf, partIn}
 use Rattle.interaction_writer.specs.Block.{Block}
 use Rattle.schema.specs.declared.Found.{Found}
 use Rattle.schema.specs.declared.Found.the-variants.{At, Nothing}
@@ -75,7 +75,7 @@ In exchange m = exchangeOf (envelopeIn m) ≡ just exchange
 
 -- a last part: a report that does not promise more
 abbrev pub Last : List ℕ → Type 0
-Last m = (x : PartAt) × (partIn (drop envelopeLength m) ≡ just x) × (x .part .more ≡ 1 → ⊥)
+Last m = (x : PartOf ℕ) × (partIn (drop envelopeLength m) ≡ just x) × (x .more ≡ 1 → ⊥)
 
 -- THE FIRST HALF: in every state that a run can reach, with fewer than 2^32 changes to the cluster
 abbrev pub FirstHalf : Type 0

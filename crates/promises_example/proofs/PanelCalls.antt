@@ -17,7 +17,7 @@ use Rattle.members.specs.Scalar as Scalar
 use Rattle.blocks.specs.Data.{anyIn, dataAt, dataFrom, maybeIn, reportAt, reportFrom}
 use Rattle.blocks.specs.Path.{banned, exactP, pathAt, pathFrom, soundPath}
 use Rattle.interaction.specs.Message.{listAt, messageAt, untagged}
-use Rattle.interaction_report.specs.Report.{firstIn, partFrom, partIn}
+use Rattle.interaction_report.specs.Report.{partFrom, partIn}
 use Rattle.interaction_writer.specs.Block.{blockTree, dataBlockTree, dataMembers, pathTree}
 use Rattle.interaction_writer.specs.Envelope.{bigNumber, bigOctets, envelopeOctets, envelopeWord}
 use Rattle.interaction_writer.specs.Message.{reportEnding, reportMembers, revision, statusMembers}
@@ -49,5 +49,5 @@ use Rattle.promises_example.specs.Panel.{panel1, panel2, panel3, page2, 
 use Rattle.promises_example.specs.Calls.{PanelCalls}
 
 pub panel-calls : PanelCalls
-unfolding bytesOf Number.numberOf store after completes table trailing wellFormed within closedAt headAt headOctets numberWidth tagWidth valueIn valueOf allowedIn elementBy elementEnd foldAt foldBy booleanOctets datumOctets formOf headFor labelOf openOctets textOctets unsignedOctets leastOf leastWidth widthCode eachStep optionalIn requiredIn fieldStep fieldsAt fieldsFrom insideAt placeOf putAt slotOf flagIn flagOf numberIn wideIn Scalar.numberOf anyIn dataAt dataFrom maybeIn reportAt reportFrom banned exactP pathAt pathFrom soundPath listAt messageAt untagged firstIn partFrom partIn blockTree dataBlockTree dataMembers pathTree bigNumber bigOctets envelopeOctets envelopeWord reportEnding reportMembers revision statusMembers members primitiveD spelling spellings writerTag envelopeIn fieldsOf filterMembers pathsTree readMembers wildcardTree wordOf count every first inserted orderRight placeIn placesRight rising wordAt allAre coherentAt versionsFrom freePlace placeGiven placeUsed clusterPlace entryPlace orderWith withCluster withEntry clustersRight entriesRight entryRight heldRight textRight textRightAt textsRight wordRight filtersFrom filtersOf readMessage successMessage concreteP fateBy fateOf insideUsable longV usableIn entrySpot heldFor kindV numberFor pageFor spotOf textStored withItem wordAs worse blocksIn heldAll judgedAll pageAll askedAs beginsRead fresh keeping resends unknownAfter askedRight openRight isOpen panelRight awaited endedAs forCache goesOn opcodeAwaited pastTurns primedAs received takes takesPart coherentOf page keptRequest keptSuccess page2 page3 panel1 panel2 panel3 part1 part2 request success
+unfolding bytesOf Number.numberOf store after completes table trailing wellFormed within closedAt headAt headOctets numberWidth tagWidth valueIn valueOf allowedIn elementBy elementEnd foldAt foldBy booleanOctets datumOctets formOf headFor labelOf openOctets textOctets unsignedOctets leastOf leastWidth widthCode eachStep optionalIn requiredIn fieldStep fieldsAt fieldsFrom insideAt placeOf putAt slotOf flagIn flagOf numberIn wideIn Scalar.numberOf anyIn dataAt dataFrom maybeIn reportAt reportFrom banned exactP pathAt pathFrom soundPath listAt messageAt untagged partFrom partIn blockTree dataBlockTree dataMembers pathTree bigNumber bigOctets envelopeOctets envelopeWord reportEnding reportMembers revision statusMembers members primitiveD spelling spellings writerTag envelopeIn fieldsOf filterMembers pathsTree readMembers wildcardTree wordOf count every first inserted orderRight placeIn placesRight rising wordAt allAre coherentAt versionsFrom freePlace placeGiven placeUsed clusterPlace entryPlace orderWith withCluster withEntry clustersRight entriesRight entryRight heldRight textRight textRightAt textsRight wordRight filtersFrom filtersOf readMessage successMessage concreteP fateBy fateOf insideUsable longV usableIn entrySpot heldFor kindV numberFor pageFor spotOf textStored withItem wordAs worse blocksIn heldAll judgedAll pageAll askedAs beginsRead fresh keeping resends unknownAfter askedRight openRight isOpen panelRight awaited endedAs forCache goesOn opcodeAwaited pastTurns primedAs received takes takesPart coherentOf page keptRequest keptSuccess page2 page3 panel1 panel2 panel3 part1 part2 request success
 panel-calls = record { page-size = refl; begins = refl; resends = refl; takes = refl; refuses = refl; ends = refl; request-sent = λ l. refl; success-sent = λ l. refl; whole = refl; not-whole = refl }

@@ -24,8 +24,7 @@ use Rattle.interaction.specs.declared.Wanted.{Wanted}
 use Rattle.interaction.specs.Status.{responseIn, responseRead}
 use Rattle.interaction.specs.Read.{readIn, readRead}
 use Rattle.interaction_write.specs.Write.{EntryOf, WriteOf, entryTree, writeIn, writeRead, writeTree}
-use Rattle.interaction_report.specs.Report.{PartOf, blocksAt, partIn, partRead, partTree}
-use Rattle.interaction_report.proofs.FirstLaws.{part-first}
+use Rattle.interaction_report.specs.Report.{PartOf, partIn, partRead, partTree}
 use Rattle.interaction_answer.specs.declared.Answered.the-variants.{One}
 use Rattle.interaction_answer.specs.Answered.{answeredIn, oneRead}
 use Rattle.interaction_writer.specs.Spelling.{primitiveD, Each}
@@ -63,13 +62,13 @@ module _ (given : Bool) (version e c a : ℕ) (d : Datum) (fv : version < 2 ^ 32
       let whole : r ≡ record { suppress = 0; timed = 0; entries = x ∷ [] } = λ j. record { suppress = means j .suppress; timed = means j .timed; entries = alone j } in
       (x .element, ap writeRead (here ∙ ap just whole) ∙ ap (λ y. writeRead (just (record { suppress = 0; timed = 0; entries = y ∷ [] }))) written, ap (λ (y : EntryOf Tree). y .element) entry)
 
--- the blocks of a report, if there are any, are read one after the other from the place that is answered
-pub report-answered : (l : List Block) (m : Bool) → Each Fits l → (n : ℕ) × (partRead (partIn (reportOctets l m)) ≡ partAnswer l m n) × (0 < length l → mapO (map (reportTree 6 (reportOctets l m))) (optOf (blocksAt 8 (reportOctets l m) n)) ≡ just (map blockMeans l))
+-- a part's blocks are counted, and are those that were written (report-back)
+pub report-answered : (l : List Block) (m : Bool) → Each Fits l → partRead (partIn (reportOctets l m)) ≡ partAnswer l m
 report-answered l m h =
     let s = reportOctets l m in
     let (r, here, means) = through (partTree 6 s) (partIn s) (report-back l m h) in
-    let count : length (r .part .blocks) ≡ length l = sym (length-map (r .part .blocks) (reportTree 6 s)) ∙ ap (λ (y : PartOf Tree). length (y .blocks)) means ∙ length-map l blockMeans in
-    (r .first, ap partRead here ∙ (λ j. record { good = true; more = means j .more; blocks = count j; first = r .first }), λ some. ap (mapO (map (reportTree 6 s))) (part-first s (omega (arith, some, count)) here) ∙ ap (λ (y : PartOf Tree). just (y .blocks)) means)
+    let count : length (r .blocks) ≡ length l = sym (length-map (r .blocks) (reportTree 6 s)) ∙ ap (λ (y : PartOf Tree). length (y .blocks)) means ∙ length-map l blockMeans in
+    ap partRead here ∙ (λ j. record { good = true; more = means j .more; blocks = count j })
 
 pub answer-answered : (o : Outcome) → OutcomeFits o → oneRead (answeredIn (outcomesOctets (o ∷ []))) ≡ One (outcomeMeans o)
 unfolding Each

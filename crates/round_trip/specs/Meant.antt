@@ -107,5 +107,5 @@ writeAnswer given version endpoint cluster attribute place = record {
 }
 
 -- a part whose first block stands at a place
-abbrev pub partAnswer : List Block → Bool → ℕ → Part
-partAnswer l more-follow first = record { good = true; more = pick more-follow 1 ABSENT; blocks = length l; first = first }
+abbrev pub partAnswer : List Block → Bool → Part
+partAnswer l more-follow = record { good = true; more = pick more-follow 1 ABSENT; blocks = length l }

@@ -11,8 +11,7 @@ use Rattle.interaction.specs.Message.{keepMore, listRead}
 use Rattle.interaction.proofs.LoopLaws.{Loop, loop-starts, loop-bad, loop-ends, loop-refuses, loop-nearer, loop-room, loop-goes}
 use Rattle.interaction_report.specs.Report.{blocksAt, blocksFrom}
 use Rattle.interaction_report.specs.Kept.{maxBlocks, blockSize, reportWords, blockWords}
-use Rattle.interaction_report.proofs.BlocksLaws.{report-lacks}
-use Rattle.interaction_report.proofs.KeptLaws.{block-wide, report-some}
+use Rattle.interaction_report.proofs.KeptLaws.{block-wide, report-lacks, report-some}
 use Rattle.interaction_report.proofs.kept.kept_from.Statement.{statement}
 use Rattle.interaction_report.proofs.kept.kept_from.Tie as tie
 

@@ -7,14 +7,14 @@ use borrow.Author.Tests.{not-true, not-false}
 use Rattle.octets.specs.Store.{store}
 use Rattle.members.specs.Pass.{Pass, passWith}
 use Rattle.members.proofs.ArrayLaws.{optional-none}
-use Rattle.members.proofs.PassLaws.{nowhere, only-second, nest-no-option, nest-on, nest-at, nest-option}
+use Rattle.members.proofs.PassLaws.{nowhere, only-second, nest-no-option, nest-on, nest-option}
 use Rattle.blocks.specs.Data.{reportAt}
 use Rattle.interaction.specs.Message.{listAt, listOn, wordsOf, listRead, keptAs}
 use Rattle.interaction.proofs.PassLaws.{opened, whole-refused}
 use Rattle.interaction_report.specs.declared.Part.{Part}
 use Rattle.interaction_report.specs.Report.{partTags, partFrom, partIn, partBy}
 use Rattle.interaction_report.specs.Kept.{blockSize, maxBlocks, blockWords, partWith, partKept, keptBy}
-use Rattle.interaction_report.proofs.PassLaws.{blocks-reads, blocks-kind, first-absent, first-there, part-lacks, part-out}
+use Rattle.interaction_report.proofs.PassLaws.{blocks-reads, part-lacks, part-out}
 use Rattle.interaction_report.proofs.KeptLaws.{kept-bad, kept-good}
 use borrow.Author.Needs.{needs}
 use Rattle.interaction_report.proofs.kept.report_kept.Statement.{statement}
@@ -33,7 +33,7 @@ returns : tie.Need-returns
 unfolding keptBy store wordsOf
 returns c = let a = c .before .before .before .before .before .before .before .before .before .before .before .before .args in let s = a .s .now in let old = a .kept .now in let m = c .before .before .before .before .before .before in let L = opened (m .begin-message .ensures) in let o = c .before .before .before .before .if1 .taken in
     c .part-by .ensures ∙ ap (λ (p : Part). keptBy p old) (c .before .before .part-of .ensures (m .begin-message .last .1 .1 .1 .0))
-    ∙ part-out L o 0 [] (λ g. first-absent s _ (L .passed g 1 refl (λ z. omega arith))) (λ g. optional-none [] (listAt reportAt 9 s) _ (L .passed g 1 refl (λ z. omega arith))) (λ p. keptBy p old) (partKept old) refl (λ more. refl)
+    ∙ part-out L o [] (λ g. optional-none [] (listAt reportAt 9 s) _ (L .passed g 1 refl (λ z. omega arith))) (λ p. keptBy p old) (partKept old) refl (λ more. refl)
 
 sub-kept-of : tie.Need-sub-kept-of
 sub-kept-of c = search needs
@@ -62,15 +62,14 @@ part-by-requires-2 c κs = search needs
 
 returns-3 : tie.Need-returns-3
 unfolding keptBy
-returns-3 c = let a = c .before .before .before .before .before .before .before .before .before .before .before .before .before .before .before .before .before .before .before .before .before .before .before .args in let s = a .s .now in let old = a .kept .now in let m = c .before .before .before .before .before .before .before .before .before .before .before .before .before .before .before .before .before .begin-message in let L = opened (m .ensures) in let l = c .before .before .before .before .before .before .before .before .before .before .before .before .before .before .before .if1 .left in let is = only-second _ (L .stopped l .wanted) in let f = c .before .before .before .before .before .before .before .before .before .before .before .before .kept-of in let z = c .before .before .before .before .before .finish in let h = m .result .head in
+returns-3 c = let a = c .before .before .before .before .before .before .before .before .before .before .before .before .before .before .before .before .before .before .before .before .before .before .args in let s = a .s .now in let old = a .kept .now in let m = c .before .before .before .before .before .before .before .before .before .before .before .before .before .before .before .before .begin-message in let L = opened (m .ensures) in let l = c .before .before .before .before .before .before .before .before .before .before .before .before .before .before .if1 .left in let is = only-second _ (L .stopped l .wanted) in let f = c .before .before .before .before .before .before .before .before .before .before .before .kept-of in let z = c .before .before .before .before .finish in let h = m .result .head in
     let xs = z .last .1 .1 .1 .1 .1 .0 in let Z : Pass = passWith (z .result) xs (z .last .1 .1 .1 .1 .1 .1 .0) in
-    let k = kept-good maxBlocks blockSize blockWords old (listOn reportAt 9 s h) (f .ensures) (not-false _ (c .before .before .before .before .before .before .before .before .before .before .if2 .left)) in
+    let k = kept-good maxBlocks blockSize blockWords old (listOn reportAt 9 s h) (f .ensures) (not-false _ (c .before .before .before .before .before .before .before .before .before .if2 .left)) in
     let N = nest-on L is l (blocks-reads s) (k .1) _ (z .ensures) in
     c .part-by2 .ensures
     ∙ ap (λ (p : Part). keptBy p (f .last .1 .1 .1 .0)) (c .before .before .part-of2 .ensures xs)
-    ∙ (λ j. keptBy (partBy (length s) Z (k .2 j .count) (h .next .at)) (k .2 j .words))
-    ∙ part-out N (nowhere N) (h .next .at) (k .0)
-    (λ g. first-there s _ (L .stopped l .place) (nest-at L is l (blocks-reads s) (k .1) _ (z .ensures) g) (L .stopped l .here) (blocks-kind 9 s h (k .1)))
+    ∙ (λ j. keptBy (partBy (length s) Z (k .2 j .count)) (k .2 j .words))
+    ∙ part-out N (nowhere N) (k .0)
     (λ g. nest-option L is l (blocks-reads s) (k .1) _ (z .ensures) [] g)
     (λ p. keptBy p (keptAs maxBlocks blockWords old (k .0) .words)) (partKept old) refl (λ more. refl)
 
