@@ -8,7 +8,7 @@ use reference::value::Value;
 use crate::panel::Panel;
 use crate::setup::Setup;
 
-/// What a call answers: document 01's number, and the reply's length in the buffer.
+/// What a call answers: its number (RULES 6.1), and the reply's length in the buffer.
 #[repr(C)]
 #[derive(Clone, Copy, Debug, PartialEq)]
 pub struct Last {

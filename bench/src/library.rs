@@ -35,7 +35,7 @@ const ROW_WORDS: usize = STANDING_AT + 10;
 /// A field of a path that was left out, and the filter of a cluster that has none.
 const ANY: u64 = 1 << 32;
 
-/// What `sign_part` answers.
+/// What `server_part` answers.
 #[repr(C)]
 #[derive(Clone, Copy)]
 pub struct Part {
@@ -47,7 +47,7 @@ pub struct Part {
 
 // A slice is its address and its length.
 extern "C" {
-    fn sign_valid(
+    fn server_valid(
         w: *const u64,
         words: *const u64,
         nulls: *const bool,
@@ -58,7 +58,7 @@ extern "C" {
         edits: *const u8,
         edits_len: usize,
     ) -> bool;
-    fn sign_part(
+    fn server_part(
         w: *const u64,
         words: *const u64,
         nulls: *const bool,
@@ -75,7 +75,7 @@ extern "C" {
         out: *mut u8,
         out_len: usize,
     ) -> Part;
-    fn sign_start(
+    fn server_start(
         w: *const u64,
         defaults: *const u8,
         defaults_len: usize,
@@ -86,7 +86,7 @@ extern "C" {
         row: *mut u64,
         kept: *mut u8,
     ) -> u8;
-    fn sign_receive(
+    fn server_receive(
         w: *const u64,
         defaults: *const u8,
         defaults_len: usize,
@@ -104,7 +104,7 @@ extern "C" {
         out: *mut u8,
         out_len: usize,
     ) -> Last;
-    fn sign_change(
+    fn server_change(
         w: *const u64,
         defaults: *const u8,
         defaults_len: usize,
@@ -202,7 +202,7 @@ impl Held {
     fn start(&mut self, schema: &[u64; WORDS], defaults: &[u8]) -> u8 {
         // SAFETY: the arrays have the lengths that the library declares, each slice its own, and only the arrays of `self` are written.
         unsafe {
-            sign_start(
+            server_start(
                 schema.as_ptr(),
                 defaults.as_ptr(),
                 defaults.len(),
@@ -227,7 +227,7 @@ impl Held {
     ) -> Last {
         // SAFETY: as above; `edits` and `out` are written too.
         unsafe {
-            sign_receive(
+            server_receive(
                 schema.as_ptr(),
                 defaults.as_ptr(),
                 defaults.len(),
@@ -249,7 +249,7 @@ impl Held {
     }
 }
 
-/// The code that `sign_change` and `panel_begin_write` know a value by.
+/// The code that `server_change` and `cache_begin_write` know a value by.
 pub fn code(value: &Value) -> u8 {
     match value {
         Value::Null => 0,
@@ -289,7 +289,7 @@ impl Sign {
         let (held, edits) = (&self.held, self.edits.borrow());
         // SAFETY: the arrays have the lengths that the library declares, each slice its own, and the library writes to none.
         unsafe {
-            sign_valid(
+            server_valid(
                 self.schema.as_ptr(),
                 held.words.as_ptr(),
                 held.nulls.as_ptr(),
@@ -308,7 +308,7 @@ impl Sign {
         let (held, edits) = (&self.held, self.edits.borrow());
         // SAFETY: as above; `out` is as long as the contract asks, one path is asked for, and the schema is well-formed, which `valid` was asked before.
         unsafe {
-            sign_part(
+            server_part(
                 self.schema.as_ptr(),
                 held.words.as_ptr(),
                 held.nulls.as_ptr(),
@@ -403,7 +403,7 @@ impl Called for Sign {
         let text: &[u8] = if let Value::Text(text) = value { text } else { &[] };
         // SAFETY: the arrays have the lengths that the library declares, each slice its own; the row is not written.
         unsafe {
-            sign_change(
+            server_change(
                 schema.as_ptr(),
                 defaults.as_ptr(),
                 defaults.len(),

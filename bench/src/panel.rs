@@ -45,7 +45,7 @@ pub struct Held {
 
 // A slice is its address and its length.
 extern "C" {
-    fn panel_fresh(
+    fn cache_fresh(
         clusters: *mut u64,
         keys: *mut u64,
         versions: *mut u64,
@@ -56,7 +56,7 @@ extern "C" {
         asked: *mut u64,
         kept: *mut u8,
     );
-    fn panel_right(
+    fn cache_right(
         page: *const u8,
         page_len: usize,
         clusters: *const u64,
@@ -68,7 +68,7 @@ extern "C" {
         lengths: *const u16,
         asked: *const u64,
     ) -> bool;
-    fn panel_begin_read(
+    fn cache_begin_read(
         page: *const u8,
         page_len: usize,
         clusters: *const u64,
@@ -83,7 +83,7 @@ extern "C" {
         out: *mut u8,
         out_len: usize,
     ) -> Last;
-    fn panel_begin_write(
+    fn cache_begin_write(
         page: *const u8,
         page_len: usize,
         clusters: *const u64,
@@ -107,7 +107,7 @@ extern "C" {
         out: *mut u8,
         out_len: usize,
     ) -> Last;
-    fn panel_resend(
+    fn cache_resend(
         page: *const u8,
         page_len: usize,
         clusters: *const u64,
@@ -122,7 +122,7 @@ extern "C" {
         out: *mut u8,
         out_len: usize,
     ) -> Last;
-    fn panel_receive(
+    fn cache_receive(
         page: *mut u8,
         page_len: usize,
         clusters: *mut u64,
@@ -161,7 +161,7 @@ impl Held {
     pub fn refresh(&mut self) {
         // SAFETY: the arrays have the lengths that the library declares.
         unsafe {
-            panel_fresh(
+            cache_fresh(
                 self.clusters.as_mut_ptr(),
                 self.keys.as_mut_ptr(),
                 self.versions.as_mut_ptr(),
@@ -179,7 +179,7 @@ impl Held {
     pub fn valid(&self, page: &[u8]) -> bool {
         // SAFETY: the arrays have the lengths that the library declares, the slice its own, and the library writes to none.
         unsafe {
-            panel_right(
+            cache_right(
                 page.as_ptr(),
                 page.len(),
                 self.clusters.as_ptr(),
@@ -197,7 +197,7 @@ impl Held {
     fn begin_read(&mut self, page: &[u8], out: &mut [u8]) -> Last {
         // SAFETY: as above; the words, the newest message and `out` are written.
         unsafe {
-            panel_begin_read(
+            cache_begin_read(
                 page.as_ptr(),
                 page.len(),
                 self.clusters.as_ptr(),
@@ -218,7 +218,7 @@ impl Held {
     fn receive(&mut self, page: &mut [u8], message: &[u8], out: &mut [u8]) -> Last {
         // SAFETY: as above; all of it may be written but `message`.
         unsafe {
-            panel_receive(
+            cache_receive(
                 page.as_mut_ptr(),
                 page.len(),
                 self.clusters.as_mut_ptr(),
@@ -329,7 +329,7 @@ impl CalledPanel for Panel {
         let text: &[u8] = if let Value::Text(text) = value { text } else { &[] };
         // SAFETY: the arrays have the lengths that the library declares, each slice its own; the words, the newest message and `out` are written.
         unsafe {
-            panel_begin_write(
+            cache_begin_write(
                 page.as_ptr(),
                 page.len(),
                 held.clusters.as_ptr(),
@@ -360,7 +360,7 @@ impl CalledPanel for Panel {
         let Panel { page, held } = self;
         // SAFETY: as above; only `out` is written.
         unsafe {
-            panel_resend(
+            cache_resend(
                 page.as_ptr(),
                 page.len(),
                 held.clusters.as_ptr(),

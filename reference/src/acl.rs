@@ -1,4 +1,4 @@
-//! The access list (01, A sign's plan).
+//! The access list (RULES 2.11 to 2.15).
 
 use crate::limits::ACCESS_ENTRIES;
 use crate::paths::ClusterPath;

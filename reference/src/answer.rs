@@ -1,4 +1,4 @@
-//! What a call of either end answers: a number, and for 0 the bytes (01, When either end says no).
+//! What a call of either end answers: a number, and for 0 the bytes (RULES 6.1).
 
 pub const BROKEN: u8 = 2;
 pub const SHORT_BUFFER: u8 = 3;

@@ -1,4 +1,4 @@
-//! The panel: its copy of what it may read, and its one open exchange (01, The panel).
+//! The panel: its copy of what it may read, and its one open exchange (RULES 7).
 
 use std::collections::{BTreeMap, BTreeSet};
 
@@ -72,7 +72,7 @@ impl Default for Cache {
 
 impl Cache {
     /// Whole exactly if filled and all the cluster's entries, one at least, share one version;
-    /// a last part alone does not make it so (01, Slips).
+    /// a last part alone does not make it so (RULES 9.4).
     pub fn coherent(&self, place: ClusterPath) -> Option<u32> {
         let mut versions =
             self.entries.iter().filter(|(path, _)| path.place() == place).map(|(_, entry)| entry.0);

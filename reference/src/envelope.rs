@@ -1,4 +1,4 @@
-//! The eight bytes before a payload (01, Envelope).
+//! The eight bytes before a payload (RULES 3.1, 3.2).
 
 use crate::limits::{HEADER, MESSAGE};
 

@@ -1,5 +1,5 @@
 //! Picking listed fields out of a container's members. A listed tag twice is malformed, an
-//! unlisted one is ignored (01, Spelling; 000, 10.2.2).
+//! unlisted one is ignored (RULES 4.10; Matter 10.2.2).
 
 use crate::tlv::{Body, Element, Tag};
 

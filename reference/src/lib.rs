@@ -1,6 +1,6 @@
 //! The second program: a sign and a panel in ordinary Rust, modelled the plain way, with a script
-//! player and a generator of scripts. Written from the papers alone, so that a misreading in one
-//! of the two programs shows as a difference. "01" in the comments is document 01, the scope.
+//! player and a generator of scripts. Written from the rules (docs/RULES.md) and Matter's chapters
+//! alone, so that a misreading in one of the two programs shows as a difference.
 
 pub mod acl;
 pub mod answer;

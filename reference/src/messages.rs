@@ -1,4 +1,4 @@
-//! What a payload means: from the tree to requests, reports and statuses (000, 10.5 and 10.6).
+//! What a payload means: from the tree to requests, reports and statuses (Matter 10.5 and 10.6).
 //! `None` is malformed throughout.
 
 use crate::fields::Fields;
@@ -35,14 +35,14 @@ fn list(element: &Element) -> Option<&[Element]> {
     }
 }
 
-/// StatusResponseMessage (000, 10.6.1): its status.
+/// StatusResponseMessage (Matter 10.6.1): its status.
 pub fn status_response(payload: &[u8]) -> Option<u8> {
     let members = read_payload(payload)?;
     let fields = message(&members, &[0])?;
     fields.unsigned(0, U8)??.try_into().ok()
 }
 
-/// DataVersionFilterIB (000, 10.5.3).
+/// DataVersionFilterIB (Matter 10.5.3).
 #[derive(Clone, Debug, PartialEq)]
 pub struct Filter {
     pub place: ClusterPath,
@@ -65,7 +65,7 @@ impl Filter {
     }
 }
 
-/// ReadRequestMessage (000, 10.6.2). Event tags count as unlisted; FabricFiltered is required and
+/// ReadRequestMessage (Matter 10.6.2). Event tags count as unlisted; FabricFiltered is required and
 /// changes nothing.
 #[derive(Clone, Debug, PartialEq)]
 pub struct ReadRequest {
@@ -104,7 +104,7 @@ impl ReadRequest {
     }
 }
 
-/// AttributeDataIB (000, 10.5.4): an entry of a write, or a block of a report.
+/// AttributeDataIB (Matter 10.5.4): an entry of a write, or a block of a report.
 #[derive(Clone, Debug, PartialEq)]
 pub struct Data {
     pub version: Option<u32>,
@@ -131,7 +131,7 @@ pub struct WriteEntry {
     pub data: Body,
 }
 
-/// WriteRequestMessage (000, 10.6.6).
+/// WriteRequestMessage (Matter 10.6.6).
 #[derive(Clone, Debug, PartialEq)]
 pub struct WriteRequest {
     pub suppress: bool,
@@ -176,7 +176,7 @@ impl WriteRequest {
     }
 }
 
-/// AttributeStatusIB (000, 10.5.16): the path and its status code.
+/// AttributeStatusIB (Matter 10.5.16): the path and its status code.
 fn attribute_status(members: &[Element]) -> Option<(SpelledPath, u8)> {
     let fields = Fields::pick(members, &[0, 1])?;
     let path = SpelledPath::read(fields.list(0)??)?;
@@ -185,7 +185,7 @@ fn attribute_status(members: &[Element]) -> Option<(SpelledPath, u8)> {
     Some((path, status.unsigned(0, U8)?? as u8))
 }
 
-/// AttributeReportIB (000, 10.5.5): status or data, not both.
+/// AttributeReportIB (Matter 10.5.5): status or data, not both.
 #[derive(Clone, Debug, PartialEq)]
 pub enum ReportBlock {
     Status,
@@ -203,7 +203,7 @@ impl ReportBlock {
     }
 }
 
-/// ReportDataMessage (000, 10.6.3).
+/// ReportDataMessage (Matter 10.6.3).
 #[derive(Clone, Debug, PartialEq)]
 pub struct Report {
     pub blocks: Vec<ReportBlock>,
@@ -224,7 +224,7 @@ impl Report {
     }
 }
 
-/// WriteResponseMessage (000, 10.6.7): a path and a status for each entry.
+/// WriteResponseMessage (Matter 10.6.7): a path and a status for each entry.
 pub fn write_response(payload: &[u8]) -> Option<Vec<(SpelledPath, u8)>> {
     let members = read_payload(payload)?;
     let fields = message(&members, &[0])?;

@@ -1,4 +1,4 @@
-//! Attribute paths: concrete ones, and those of a message with parts left open (000, 10.5.2).
+//! Attribute paths: concrete ones, and those of a message with parts left open (Matter 10.5.2).
 
 use crate::fields::Fields;
 use crate::tlv::{Body, Element};
@@ -52,7 +52,7 @@ impl SpelledPath {
     }
 
     /// Forms that get 80 wherever they stand: Node, ListIndex, compression, and a cluster left
-    /// open while a named attribute is not a global one (01, When either end says no).
+    /// open while a named attribute is not a global one (RULES 6.11).
     pub fn is_refused(&self) -> bool {
         let names_one = matches!(self.attribute, Some(id) if !(0xFFF8..=0xFFFD).contains(&id));
         self.node || self.list_index || self.compressed || (self.cluster.is_none() && names_one)
@@ -62,7 +62,7 @@ impl SpelledPath {
         Some(Path { endpoint: self.endpoint?, cluster: self.cluster?, attribute: self.attribute? })
     }
 
-    /// A part left open covers everything in its place (004, Wildcard Path).
+    /// A part left open covers everything in its place (chapter 8, Wildcard Path).
     pub fn covers(&self, path: &Path) -> bool {
         self.endpoint.is_none_or(|id| id == path.endpoint)
             && self.cluster.is_none_or(|id| id == path.cluster)

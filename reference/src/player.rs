@@ -1,4 +1,4 @@
-//! Plays a script's lines on a sign and a panel (design page, "The script player").
+//! Plays a script's lines on a sign and a panel (docs/SCRIPTS.md).
 
 use crate::acl::Entry;
 use crate::answer::{Answer, BAD_SCHEMA};

@@ -1,5 +1,5 @@
 //! The blocks that a read asks for, and how they are cut into parts
-//! (01, What the sign answers; 004, Incoming Read Request processing).
+//! (RULES 5.1 to 5.12; chapter 8, Incoming Read Request processing).
 
 use crate::acl::{granted, Entry};
 use crate::limits::PAYLOAD;
@@ -46,7 +46,7 @@ impl View<'_> {
     }
 
     /// Skipped exactly if filters match the cluster and all of them carry its version; one that
-    /// agrees is not enough (004; 01, Slips).
+    /// agrees is not enough (RULES 5.8, 9.2).
     fn skipped(&self, request: &ReadRequest, path: &Path) -> bool {
         let version = self.holdings.version(path.place());
         let mut matching =
@@ -63,7 +63,7 @@ impl View<'_> {
     }
 
     /// The blocks of one request path, each with its own concrete path, in schema order. Only a
-    /// concrete path gets refusals; a wildcard drops them silently (01, Slips).
+    /// concrete path gets refusals; a wildcard drops them silently (RULES 9.5).
     fn blocks(&self, request: &ReadRequest, asked: &SpelledPath) -> Vec<(Path, Element)> {
         let schema = self.holdings.schema();
         if let Some(path) = asked.concrete() {

@@ -1,4 +1,4 @@
-//! A sign's plan and what it must obey (01, A sign's plan; refusal 11).
+//! A sign's plan and what it must obey (RULES 2; refusal 11).
 
 use crate::acl::is_privilege;
 use crate::limits::{ATTRIBUTES, CLUSTERS, ENDPOINTS};
@@ -73,7 +73,7 @@ impl Schema {
         if !self.clusters.iter().any(|cluster| cluster.place == path.place()) {
             return Err(UNSUPPORTED_CLUSTER);
         }
-        // Exactly this path, never the nearest one (01, Slips).
+        // Exactly this path, never the nearest one (RULES 9.1).
         let found = self.attributes.iter().find(|attribute| attribute.path == *path);
         found.ok_or(UNSUPPORTED_ATTRIBUTE)
     }

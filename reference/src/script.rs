@@ -1,4 +1,4 @@
-//! The lines of a script (design page, "The script player"): words separated by single spaces.
+//! The lines of a script (docs/SCRIPTS.md): words separated by single spaces.
 
 use crate::acl::Entry;
 use crate::limits::{LAST_EXCHANGE, SPELLED_MESSAGE};

@@ -1,5 +1,4 @@
-//! The sign: what it holds, its one exchange, and its answers (01, Envelope and What the sign
-//! answers).
+//! The sign: what it holds, its one exchange, and its answers (RULES 3 and 5).
 
 use std::collections::BTreeMap;
 
@@ -53,7 +52,7 @@ impl Holdings {
     }
 }
 
-/// The newest exchange served (01, Envelope).
+/// The newest exchange served (RULES 3.8).
 #[derive(Clone, Debug, Default, PartialEq)]
 struct Row {
     last: u64,
@@ -151,7 +150,7 @@ impl Server {
             self.row.kept = self.begin(table, envelope.opcode, payload);
             return self.row.kept.clone();
         }
-        // The payload is not read again, so that a repeated write is stored once (01, Slips).
+        // The payload is not read again, so that a repeated write is stored once (RULES 9.3).
         let repeated = envelope.exchange == self.row.last && self.row.turn == 1;
         if repeated && !self.row.closed {
             self.row.kept.clone()

@@ -1,5 +1,5 @@
 //! The trees that we write: payloads and their blocks, fields in rising tag order
-//! (01, Spelling; 000, 10.5 and 10.6).
+//! (RULES 4; Matter 10.5 and 10.6).
 
 use crate::limits::REVISION;
 use crate::paths::{ClusterPath, Path};
@@ -64,7 +64,7 @@ pub fn data_block(path: &Path, version: u32, value: &Value) -> Element {
     Element::anonymous(Body::Structure(vec![inside]))
 }
 
-/// The block array is left out when there is no block (01, What the sign answers).
+/// The block array is left out when there is no block (RULES 5.1).
 pub fn report(blocks: Vec<Element>, more: bool) -> Element {
     let mut fields = Vec::new();
     if !blocks.is_empty() {
@@ -99,7 +99,7 @@ pub fn filter(place: ClusterPath, version: u32) -> Element {
     ]))
 }
 
-/// No filter list if there is no filter (01, The panel).
+/// No filter list if there is no filter (RULES 7.3).
 pub fn read_request(paths: Vec<Element>, filters: Vec<Element>) -> Element {
     let mut fields = vec![array(0, paths), flag(3, false)];
     if !filters.is_empty() {

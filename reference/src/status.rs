@@ -1,4 +1,4 @@
-//! Status codes as they stand on the wire (01, What the sign answers; 004 names them).
+//! Status codes as they stand on the wire (RULES 5.6, 5.14, 6.10; chapter 8 names them).
 
 pub const SUCCESS: u8 = 0x00;
 pub const UNSUPPORTED_ACCESS: u8 = 0x7E;

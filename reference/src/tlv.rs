@@ -7,7 +7,7 @@ pub enum Tag {
     Anonymous,
     Context(u8),
     /// Common, implicit and fully qualified profile tags: the form (2 to 7) and its bytes as they
-    /// came. Nothing here ever asks what they say (01, Spelling: walked and ignored).
+    /// came. Nothing here ever asks what they say (RULES 4.10: walked and ignored).
     Profile(u8, Vec<u8>),
 }
 
@@ -69,7 +69,7 @@ pub fn read(bytes: &[u8]) -> Option<Element> {
     }
 }
 
-/// The members of the one untagged structure that a payload has to be (01, Spelling).
+/// The members of the one untagged structure that a payload has to be (RULES 4.13).
 pub fn read_payload(bytes: &[u8]) -> Option<Vec<Element>> {
     match read(bytes)? {
         Element { tag: Tag::Anonymous, body: Body::Structure(members) } => Some(members),
@@ -160,7 +160,7 @@ pub trait Widths {
     fn choose(&mut self, least: usize) -> usize;
 }
 
-/// What we write ourselves: the least width (01, Spelling).
+/// What we write ourselves: the least width (RULES 4.3).
 pub struct Least;
 
 impl Widths for Least {

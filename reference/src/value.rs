@@ -1,4 +1,4 @@
-//! Values, kinds and limits (01, A sign's plan).
+//! Values, kinds and limits (RULES 2).
 
 use crate::limits::TEXT;
 use crate::status::{CONSTRAINT_ERROR, INVALID_DATA_TYPE, SUCCESS};
@@ -10,7 +10,7 @@ pub enum Value {
     Bool(bool),
     Unsigned(u64),
     Signed(i64),
-    /// Its bits: two floats differ exactly if their bits do (01: floats by their bits).
+    /// Its bits: two floats differ exactly if their bits do (RULES 2.24).
     Float(u32),
     Text(Vec<u8>),
 }
@@ -71,7 +71,7 @@ pub enum Kind {
     Text,
 }
 
-/// In range by float comparison, ends included; NaN never is (01, A sign's plan).
+/// In range by float comparison, ends included; NaN never is (RULES 2.9).
 fn float_within(lowest: u32, bits: u32, highest: u32) -> bool {
     let value = f32::from_bits(bits);
     f32::from_bits(lowest) <= value && value <= f32::from_bits(highest)

@@ -1,4 +1,4 @@
-//! What a write action does: one status for each entry (01, What the sign answers).
+//! What a write action does: one status for each entry (RULES 5.13 to 5.15).
 
 use crate::acl::{granted, Entry};
 use crate::messages::{WriteEntry, WriteRequest};

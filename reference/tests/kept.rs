@@ -5,7 +5,7 @@ use std::path::{Path, PathBuf};
 
 use reference::player::run;
 
-/// Answers of the given scripts that document 01 contradicts: script, line of the answers, why.
+/// Answers of the given scripts that the rules contradict: script, line of the answers, why.
 const WRONG_GIVEN_ANSWERS: &[(&str, usize, &str)] = &[];
 
 fn scripts_in(folder: &str) -> Vec<PathBuf> {

@@ -1,4 +1,4 @@
-//! Which plans `start` takes, at and past each limit (01, A sign's plan; refusal 11).
+//! Which plans `start` takes, at and past each limit (RULES 2; refusal 11).
 
 use reference::player::run;
 

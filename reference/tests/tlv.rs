@@ -1,4 +1,4 @@
-//! The published examples of TLV encodings, and the rules that document 01 adds.
+//! The published examples of TLV encodings, and the rules that RULES 4 adds.
 
 use reference::tlv::{read, read_payload, write};
 
@@ -22,7 +22,7 @@ fn published_examples() {
     assert_eq!(count, 35);
 }
 
-/// Malformed, each for the one reason named (01, Spelling).
+/// Malformed, each for the one reason named (RULES 4.13).
 #[test]
 fn malformed_payloads() {
     let cases = [

@@ -30,6 +30,6 @@ pub enum Answer {
     /// A message of this length.
     Sent(usize),
     Nothing,
-    /// Document 01's number, 2 to 10.
+    /// The number of RULES 6.1, 2 to 10.
     Refused(u8),
 }

@@ -27,7 +27,7 @@ pub use schema::{Attribute, Cluster, Kind, Schema};
 pub use sign::Sign;
 pub use values::Values;
 
-// The limits of document 01.
+// The limits of the rules (docs/RULES.md).
 const ENDPOINTS: usize = 8;
 pub const CLUSTERS: usize = 32;
 pub const ATTRIBUTES: usize = 256;

@@ -11,26 +11,26 @@ use mir.Syntax.{w64}
 use mir.Val.{toZ}
 use lib.Dec.{eqb, leb, ltb}
 use lib.ListN.{length, getD}
-use Rattle.tlv.specs.Octet.{pick}
-use Rattle.tlv.specs.declared.Value.{Value}
-use Rattle.tlv.specs.declared.Value.the-variants as value
-use Rattle.tlv.proofs.Value as ValueType
-use Rattle.schema.specs.declared.Found.{Found}
-use Rattle.schema.specs.declared.Found.the-variants as found
-use Rattle.schema.proofs.SearchLaws as Search
-use Rattle.ordered.specs.Order.{wordAt}
+use Rattle.tlv_reader.specs.Octet.{pick}
+use Rattle.tlv_reader.specs.declared.Value.{Value}
+use Rattle.tlv_reader.specs.declared.Value.the-variants as value
+use Rattle.tlv_reader.proofs.Value as ValueType
+use Rattle.node_schema.specs.declared.Found.{Found}
+use Rattle.node_schema.specs.declared.Found.the-variants as found
+use Rattle.node_schema.proofs.SearchLaws as Search
+use Rattle.cache_order.specs.Order.{wordAt}
 use Rattle.cache_entries.specs.declared.Cached.{Cached}
 use Rattle.cache_entries.specs.Limits.{maxClusters, maxEntries, textPlaces, textSize, half, noVersion, nullKind, booleanKind, unsignedKind, signedKind, floatKind, textKind}
 use Rattle.cache_entries.specs.Entries.{clusterWord, keyWord, clusterAt, placeStart, inCluster, pathAt}
 use Rattle.cache_entries.specs.Valid.{wordRight}
 use Rattle.cache_entries.proofs.ValidLaws.{TextRight, held-right, entry-word, text-right}
-use Rattle.cache_state.specs.declared.State.{State}
-use Rattle.cache_state.specs.State.{panelRight}
+use Rattle.cache_state.specs.declared.CacheState.{CacheState}
+use Rattle.cache_state.specs.State.{cacheRight}
 use Rattle.cache_state.specs.Words.{wordsRight}
 use Rattle.cache_state.proofs.StateLaws.{right-held, right-size}
-use Rattle.cache_ask.specs.declared.Held.{Held}
-use Rattle.cache_ask.specs.declared.Held.the-variants as held
-use Rattle.cache_ask.proofs.Held as HeldType
+use Rattle.cache_ask.specs.declared.EntryHeld.{EntryHeld}
+use Rattle.cache_ask.specs.declared.EntryHeld.the-variants as held
+use Rattle.cache_ask.proofs.EntryHeld as HeldType
 use Rattle.cache_ask.specs.Ask.{valueBy, entryRead, entryOf, textOfValue, textOfEntry, textOf, textShown, Ordered}
 
 never : {A : Type 0} → _≡_ {A = ℕ} 0 1 → A
@@ -49,8 +49,8 @@ pub cluster-found : (l : List ℕ) (n word k : ℕ) → n ≤ maxClusters → wo
 unfolding wordAt
 cluster-found l n word k h e = omega (arith, Search.found (λ i. eqb (getD l i 0) word) n 0 k e .below)
 
--- what a panel that keeps the rules has for a path
-module _ (page : List ℕ) (s : State) (h : panelRight page s ≡ true) where
+-- what a cache that keeps the rules has for a path
+module _ (page : List ℕ) (s : CacheState) (h : cacheRight page s ≡ true) where
   pub right-ordered : let c = s .held in Ordered (c .clusters) (c .keys) (c .order) (c .«cluster_count») (c .count)
   right-ordered =
       let r = held-right page (s .held) (right-held page s h) in
@@ -74,7 +74,7 @@ module _ (page : List ℕ) (s : State) (h : panelRight page s ≡ true) where
     found-short k = found-text k .short
 
 -- no text
-pub no-entry : (page : List ℕ) (x : Held) → OneOf (0 ∷ 1 ∷ []) (tagOf HeldType.the-type x) → [] ≡ textOfEntry page x
+pub no-entry : (page : List ℕ) (x : EntryHeld) → OneOf (0 ∷ 1 ∷ []) (tagOf HeldType.the-type x) → [] ≡ textOfEntry page x
 no-entry page held.Broken h = refl
 no-entry page held.Nothing h = refl
 no-entry page (held.Here v x) h = absurd (miss (0 ∷ 1 ∷ []) 2 tt h)
@@ -107,11 +107,11 @@ by-kind kind word len {a} {n} h e = go (eqb kind nullKind) (eqb kind booleanKind
     go false false false false true h e = never (cc)
     go false false false false false h e = (eqb-true kind textKind h, (cc, cc))
 
-pub text-there : (page : List ℕ) (s : State) (endpoint cluster attribute : ℕ) {v a n : ℕ} {x : Value} → entryOf page s endpoint cluster attribute ≡ held.Here v x → x ≡ value.Text a n → a + n ≤ length page
+pub text-there : (page : List ℕ) (s : CacheState) (endpoint cluster attribute : ℕ) {v a n : ℕ} {x : Value} → entryOf page s endpoint cluster attribute ≡ held.Here v x → x ≡ value.Text a n → a + n ≤ length page
 unfolding entryOf
-text-there page s endpoint cluster attribute {v} {a} {n} {x} e t = go (panelRight page s) (pathAt (s .held) endpoint cluster attribute) refl refl e
+text-there page s endpoint cluster attribute {v} {a} {n} {x} e t = go (cacheRight page s) (pathAt (s .held) endpoint cluster attribute) refl refl e
   where
-    at : (i : ℕ) → panelRight page s ≡ true → pathAt (s .held) endpoint cluster attribute ≡ found.At i → (b : Bool) → pick b (held.Here (getD (s .held .versions) i 0) (valueBy (getD (s .held .kinds) i 0) (getD (s .held .words) i 0) (getD (s .held .lengths) (getD (s .held .words) i 0) 0))) held.Nothing ≡ held.Here v x → a + n ≤ length page
+    at : (i : ℕ) → cacheRight page s ≡ true → pathAt (s .held) endpoint cluster attribute ≡ found.At i → (b : Bool) → pick b (held.Here (getD (s .held .versions) i 0) (valueBy (getD (s .held .kinds) i 0) (getD (s .held .words) i 0) (getD (s .held .lengths) (getD (s .held .words) i 0) 0))) held.Nothing ≡ held.Here v x → a + n ≤ length page
     at i p q true e =
         let c = s .held in
         let word : ℕ = getD (c .words) i 0 in
@@ -120,20 +120,20 @@ text-there page s endpoint cluster attribute {v} {a} {n} {x} e t = go (panelRigh
         omega (arith, k .1 .0, k .1 .1, found-place page s p endpoint cluster attribute i q (k .0), found-short page s p endpoint cluster attribute i q (k .0), right-size page s p)
     at i p q false e = never (cc)
 
-    go : (b : Bool) (f : Found) → panelRight page s ≡ b → pathAt (s .held) endpoint cluster attribute ≡ f → pick b (entryRead (s .held) f) held.Broken ≡ held.Here v x → a + n ≤ length page
+    go : (b : Bool) (f : Found) → cacheRight page s ≡ b → pathAt (s .held) endpoint cluster attribute ≡ f → pick b (entryRead (s .held) f) held.Broken ≡ held.Here v x → a + n ≤ length page
     go true (found.At i) p q e = at i p q (ltb (getD (s .held .versions) i 0) noVersion) e
     go true found.Nothing p q e = never (cc)
     go false f p q e = never (cc)
 
--- by words that are a panel's
-pub text-inside : (asked page : List ℕ) (s : State) (endpoint cluster attribute : ℕ) {v a n : ℕ} {x : Value} → held.Here v x ≡ pick (wordsRight asked) (entryOf page s endpoint cluster attribute) held.Broken → x ≡ value.Text a n → a + n ≤ length page
+-- by words that are a cache's
+pub text-inside : (asked page : List ℕ) (s : CacheState) (endpoint cluster attribute : ℕ) {v a n : ℕ} {x : Value} → held.Here v x ≡ pick (wordsRight asked) (entryOf page s endpoint cluster attribute) held.Broken → x ≡ value.Text a n → a + n ≤ length page
 text-inside asked page s endpoint cluster attribute {v} {a} {n} {x} = go (wordsRight asked)
   where
     go : (b : Bool) → held.Here v x ≡ pick b (entryOf page s endpoint cluster attribute) held.Broken → x ≡ value.Text a n → a + n ≤ length page
     go true e t = text-there page s endpoint cluster attribute (sym e) t
     go false e t = never (cc)
 
-pub text-of : (asked page : List ℕ) (s : State) (endpoint cluster attribute : ℕ) {r : Held} → r ≡ pick (wordsRight asked) (entryOf page s endpoint cluster attribute) held.Broken → textOfEntry page r ≡ textShown asked page s endpoint cluster attribute
+pub text-of : (asked page : List ℕ) (s : CacheState) (endpoint cluster attribute : ℕ) {r : EntryHeld} → r ≡ pick (wordsRight asked) (entryOf page s endpoint cluster attribute) held.Broken → textOfEntry page r ≡ textShown asked page s endpoint cluster attribute
 unfolding textOf
 text-of asked page s endpoint cluster attribute e = ap (textOfEntry page) e ∙ go (wordsRight asked)
   where

@@ -1,10 +1,10 @@
-// What the panel holds, and how its newest request stands. Memory that is no panel's, or one's that breaks the rules, answers 2 here too.
+// What the cache holds, and how its newest request stands. Memory that is no cache's, or one's that breaks the rules, answers 2 here too.
 ghost use mathlib.Core.Path.{_≡_};
 ghost use mathlib.Core.Bool.{true};
 ghost use mathlib.Core.List.{List};
 ghost use Prim.Native.Nat.{ℕ, _<_};
 ghost use lib.ListN.{getD};
-ghost use Rattle.tlv.specs.declared.Value.the-variants as value;
+ghost use Rattle.tlv_reader.specs.declared.Value.the-variants as value;
 ghost use Rattle.cache_entries.specs.Limits.{textPlaces, textKind};
 ghost use Rattle.cache_entries.specs.Entries.{placeStart, pathAt};
 ghost use Rattle.cache_entries.specs.Valid.{wordRight};
@@ -23,17 +23,17 @@ use cache_entries::find::find_entry;
 use cache_entries::shared::Coherent;
 use cache_entries::shared::coherent_at;
 use cache_state::ASKED_WORDS;
+use cache_state::CacheStanding;
 use cache_state::LAST_PART;
 use cache_state::NONE;
 use cache_state::STATUS;
-use cache_state::Standing;
-use cache_state::panel_ok;
+use cache_state::cache_ok;
 use cache_state::words::read_standing;
-use kinds::stored::signed_of;
-use schema::Found;
-use tlv::Value;
+use node_kinds::stored::signed_of;
+use node_schema::Found;
+use tlv_reader::Value;
 
-// Whether a cluster is coherent (document 01: whole), and at which version.
+// Whether a cluster is coherent (RULES 7.11: whole), and at which version.
 pub enum Whole {
     Broken,
     No,
@@ -41,7 +41,7 @@ pub enum Whole {
 }
 
 // An entry: its version and value. A text is a part of the page.
-pub enum Held {
+pub enum EntryHeld {
     Broken,
     Nothing,
     Here(u32, Value),
@@ -68,7 +68,7 @@ fn whole_of<'a>(
     keys: &'a [u64; ENTRIES],
     versions: &'a [u64; ENTRIES],
     order: &'a [u8; ORDER_SIZE],
-    t: Standing,
+    t: CacheStanding,
     word: u64,
 ) -> Whole
     requires { ⌜ Bounded (now clusters) (now keys) (now versions) (now order) (t .«cluster_count») (t .count) ⌝ }
@@ -99,7 +99,7 @@ pub fn coherent<'a>(
     ensures { λ r. ⌜ ((kept : List ℕ) → AnswersWhole (now (asked .entry)) (now (page .entry)) (stateIn (now (clusters .entry)) (now (keys .entry)) (now (versions .entry)) (now (kinds .entry)) (now (words .entry)) (now (order .entry)) (now (lengths .entry)) (now (asked .entry)) kept) endpoint cluster r) ⌝ }
 {
     let t = read_standing(asked);
-    if !panel_ok(
+    if !cache_ok(
         page,
         clusters,
         keys,
@@ -122,7 +122,7 @@ fn path_at<'a>(
     clusters: &'a [u64; CLUSTERS],
     keys: &'a [u64; ENTRIES],
     order: &'a [u8; ORDER_SIZE],
-    t: Standing,
+    t: CacheStanding,
     endpoint: u16,
     cluster: u32,
     attribute: u32,
@@ -186,11 +186,11 @@ pub fn entry<'a>(
     endpoint: u16,
     cluster: u32,
     attribute: u32,
-) -> Held
+) -> EntryHeld
     ensures { λ r. ⌜ ((kept : List ℕ) → AnswersEntry (now (asked .entry)) (now (page .entry)) (stateIn (now (clusters .entry)) (now (keys .entry)) (now (versions .entry)) (now (kinds .entry)) (now (words .entry)) (now (order .entry)) (now (lengths .entry)) (now (asked .entry)) kept) endpoint cluster attribute r) ⌝ }
 {
     let t = read_standing(asked);
-    if !panel_ok(
+    if !cache_ok(
         page,
         clusters,
         keys,
@@ -202,16 +202,16 @@ pub fn entry<'a>(
         asked,
         t,
     ) {
-        return Held::Broken;
+        return EntryHeld::Broken;
     }
     let Found::At(i) = path_at(clusters, keys, order, t, endpoint, cluster, attribute) else {
-        return Held::Nothing;
+        return EntryHeld::Nothing;
     };
     let version = versions[i];
     if NO_VERSION <= version {
-        return Held::Nothing;
+        return EntryHeld::Nothing;
     }
-    Held::Here(version as u32, value_by(kinds[i], words[i], lengths))
+    EntryHeld::Here(version as u32, value_by(kinds[i], words[i], lengths))
 }
 
 // The text of an entry, as the very part of the page; nothing of it where there is no such text.
@@ -231,7 +231,7 @@ pub fn text<'a>(
 ) -> &'a [u8]
     ensures { λ r. ⌜ ((kept : List ℕ) → now r ≡ textShown (now (asked .entry)) (now (page .entry)) (stateIn (now (clusters .entry)) (now (keys .entry)) (now (versions .entry)) (now (kinds .entry)) (now (words .entry)) (now (order .entry)) (now (lengths .entry)) (now (asked .entry)) kept) endpoint cluster attribute) ⌝ }
 {
-    let Held::Here(_, v) = entry(
+    let EntryHeld::Here(_, v) = entry(
         page,
         clusters,
         keys,
@@ -267,7 +267,7 @@ pub fn outcome<'a>(
     ensures { λ r. ⌜ ((kept : List ℕ) → AnswersOutcome (now (asked .entry)) (now (page .entry)) (stateIn (now (clusters .entry)) (now (keys .entry)) (now (versions .entry)) (now (kinds .entry)) (now (words .entry)) (now (order .entry)) (now (lengths .entry)) (now (asked .entry)) kept) r) ⌝ }
 {
     let t = read_standing(asked);
-    if !panel_ok(
+    if !cache_ok(
         page,
         clusters,
         keys,
@@ -307,7 +307,7 @@ pub fn unknown<'a>(
     ensures { λ r. ⌜ ((kept : List ℕ) → AnswersUnknown (now (asked .entry)) (now (page .entry)) (stateIn (now (clusters .entry)) (now (keys .entry)) (now (versions .entry)) (now (kinds .entry)) (now (words .entry)) (now (order .entry)) (now (lengths .entry)) (now (asked .entry)) kept) r) ⌝ }
 {
     let t = read_standing(asked);
-    if !panel_ok(
+    if !cache_ok(
         page,
         clusters,
         keys,

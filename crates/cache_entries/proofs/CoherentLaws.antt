@@ -1,4 +1,4 @@
--- A cluster is coherent exactly if the panel is primed and all its entries, one at least, share one version, which is not none (document 01, The panel).
+-- A cluster is coherent exactly if the cache is primed and all its entries, one at least, share one version, which is not none (RULES 7.11).
 use mathlib.Core.Path.{_≡_, refl, sym, ap, _∙_}
 use mathlib.Core.Logic.{_↔_}
 use mathlib.Core.Bool.{true, false, _&&_}
@@ -8,8 +8,8 @@ use native.Mathlib.Omega.{arith}
 use borrow.Author.Tests.{eq-eqb, eqb-true, eqb-false, ltb-true, lt-ltb}
 use lib.Dec.{eqb, ltb}
 use lib.ListN.{getD}
-use Rattle.tlv.specs.Decode.Opt.{just, nothing}
-use Rattle.schema.proofs.BoolLaws.{both, left, right, by-test}
+use Rattle.tlv_reader.specs.Decode.Opt.{just, nothing}
+use Rattle.node_schema.proofs.BoolLaws.{both, left, right, by-test}
 use Rattle.cache_entries.specs.declared.Cached.{Cached}
 use Rattle.cache_entries.specs.Limits.{half, noVersion}
 use Rattle.cache_entries.specs.Coherent.{versionsFrom, versionsOf, allAre, shared, coherentAt}

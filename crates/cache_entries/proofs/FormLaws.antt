@@ -6,11 +6,11 @@ use Prim.Native.Nat.{ℕ, zero, suc, _+_, _≤_}
 use native.Mathlib.Omega.{arith}
 use lib.ListN.{length, take, drop}
 use lib.Seq.{take-nil, drop-nil}
-use Rattle.tlv.specs.Octet.{pick}
-use Rattle.utf8.specs.Bytewise.{allBelow}
-use Rattle.utf8.specs.WellFormed.{wellFormed}
-use Rattle.utf8.proofs.Below.{ascii-formed, below-part}
-use Rattle.schema.proofs.BoolLaws.{by-test}
+use Rattle.tlv_reader.specs.Octet.{pick}
+use Rattle.base_utf8.specs.Bytewise.{allBelow}
+use Rattle.base_utf8.specs.WellFormed.{wellFormed}
+use Rattle.base_utf8.proofs.Below.{ascii-formed, below-part}
+use Rattle.node_schema.proofs.BoolLaws.{by-test}
 use Rattle.cache_entries.specs.Valid.{formOf}
 
 cut-first : (n m : ℕ) (l : List ℕ) → n ≤ m → take n (take m l) ≡ take n l

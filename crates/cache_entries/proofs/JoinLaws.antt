@@ -7,8 +7,8 @@ use borrow.Author.Tests.{eq-eqb, ne-eqb, eqb-true, eqb-false}
 use lib.Dec.{eqb}
 use lib.ListN.{length, getD, set}
 use lib.Seq.{getD-set-same, getD-set-other}
-use Rattle.tlv.specs.Octet.{pick}
-use Rattle.schema.proofs.BoolLaws.{by-test}
+use Rattle.tlv_reader.specs.Octet.{pick}
+use Rattle.node_schema.proofs.BoolLaws.{by-test}
 use Rattle.cache_entries.specs.Limits.{half, maxClusters}
 use Rattle.cache_entries.specs.Coherent.{unseen, joined, joinedAll, versionsFrom}
 

@@ -9,8 +9,8 @@ use borrow.Author.Tests.{eq-eqb, ne-eqb, eqb-true, eqb-false}
 use lib.Dec.{eqb}
 use lib.ListN.{length, getD, set, replicate, length-replicate, getD-replicate, length-set}
 use lib.Seq.{getD-set-same, getD-set-other}
-use Rattle.schema.specs.Search.{first}
-use Rattle.schema.proofs.BoolLaws.{by-test}
+use Rattle.node_schema.specs.Search.{first}
+use Rattle.node_schema.proofs.BoolLaws.{by-test}
 use Rattle.cache_entries.specs.Limits.{textPlaces, textKind}
 use Rattle.cache_entries.proofs.SetLaws.{first-agree}
 use Rattle.cache_entries.specs.Texts.{isText, placeUsed, freePlace, Marked}

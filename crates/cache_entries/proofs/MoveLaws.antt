@@ -8,8 +8,8 @@ use borrow.Author.Tests.{eq-eqb, eqb-true, eqb-false, lt-ltb}
 use lib.Dec.{eqb, ltb}
 use lib.ListN.{length, getD, set, length-set}
 use lib.Seq.{getD-set-same, getD-set-other, set-getD}
-use Rattle.tlv.specs.Octet.{pick}
-use Rattle.schema.proofs.BoolLaws.{by-test, both}
+use Rattle.tlv_reader.specs.Octet.{pick}
+use Rattle.node_schema.proofs.BoolLaws.{by-test, both}
 use Rattle.cache_entries.specs.Limits.{maxEntries, textPlaces, textKind}
 use Rattle.cache_entries.specs.Texts.{isText, placeUsed, Marked, Own}
 use Rattle.cache_entries.specs.Set.{countWith}

@@ -8,12 +8,12 @@ use borrow.Author.Tests.{eq-eqb, ne-eqb, eqb-true, ltb-true, ltb-false, lt-ltb, 
 use lib.Dec.{eqb, ltb}
 use lib.ListN.{length, getD, set}
 use lib.Seq.{getD-set-same, getD-set-other, set-getD}
-use Rattle.schema.specs.declared.Found.{Found}
-use Rattle.schema.specs.declared.Found.the-variants as found
-use Rattle.schema.specs.Search.{first}
-use Rattle.schema.proofs.SearchLaws.{found}
-use Rattle.schema.proofs.BoolLaws.{by-test}
-use Rattle.ordered.specs.Order.{wordAt}
+use Rattle.node_schema.specs.declared.Found.{Found}
+use Rattle.node_schema.specs.declared.Found.the-variants as found
+use Rattle.node_schema.specs.Search.{first}
+use Rattle.node_schema.proofs.SearchLaws.{found}
+use Rattle.node_schema.proofs.BoolLaws.{by-test}
+use Rattle.cache_order.specs.Order.{wordAt}
 use Rattle.cache_entries.specs.declared.set.Placed.the-variants.{Here, Full}
 use Rattle.cache_entries.specs.Set.{placeFor, countWith}
 

@@ -7,9 +7,9 @@ use native.Mathlib.Omega.{arith}
 use borrow.Author.Tests.{eq-eqb, ne-eqb, eqb-true, eqb-false}
 use lib.Dec.{eqb, ltb}
 use lib.ListN.{getD}
-use Rattle.tlv.specs.Octet.{pick}
-use Rattle.tlv.specs.Decode.Opt.{nothing}
-use Rattle.schema.proofs.BoolLaws.{by-test}
+use Rattle.tlv_reader.specs.Octet.{pick}
+use Rattle.tlv_reader.specs.Decode.Opt.{nothing}
+use Rattle.node_schema.proofs.BoolLaws.{by-test}
 use Rattle.cache_entries.specs.declared.Cached.{Cached}
 use Rattle.cache_entries.specs.Limits.{half, noVersion}
 use Rattle.cache_entries.specs.Coherent.{versionsFrom, versionsOf, allAre, shared, coherentAt, unseen, joined, joinedAll, sharedIn}

@@ -7,13 +7,13 @@ use native.Mathlib.Omega.{arith}
 use borrow.Author.Tests.{eqb-true, eq-eqb, ltb-true, ltb-false, lt-ltb}
 use lib.Dec.{eqb, ltb}
 use lib.ListN.{getD}
-use Rattle.tlv.specs.Octet.{pick}
-use Rattle.schema.specs.declared.Found.{Found}
-use Rattle.schema.specs.declared.Found.the-variants.{At, Nothing}
-use Rattle.schema.specs.Search.{first}
-use Rattle.schema.proofs.BoolLaws.{both, left, right, by-test}
-use Rattle.schema.proofs.SearchLaws.{found, none}
-use Rattle.ordered.proofs.Pigeonhole.{pigeons, all-there}
+use Rattle.tlv_reader.specs.Octet.{pick}
+use Rattle.node_schema.specs.declared.Found.{Found}
+use Rattle.node_schema.specs.declared.Found.the-variants.{At, Nothing}
+use Rattle.node_schema.specs.Search.{first}
+use Rattle.node_schema.proofs.BoolLaws.{both, left, right, by-test}
+use Rattle.node_schema.proofs.SearchLaws.{found, none}
+use Rattle.cache_order.proofs.Pigeonhole.{pigeons, all-there}
 use Rattle.cache_entries.specs.declared.Cached.{Cached}
 use Rattle.cache_entries.specs.Limits.{maxEntries, textPlaces}
 use Rattle.cache_entries.specs.Texts.{isText, placeUsed, freePlace, orFirst, textPlace, placeGiven, Own}

@@ -1,4 +1,4 @@
--- Whether what a panel holds keeps the rules: its parts, and what they say.
+-- Whether what a cache holds keeps the rules: its parts, and what they say.
 use mathlib.Core.Path.{_≡_, refl}
 use mathlib.Core.Bool.{Bool, true, false, not}
 use mathlib.Core.List.{List}
@@ -6,10 +6,10 @@ use Prim.Native.Nat.{ℕ, _/_, _^_, _≤_, _<_}
 use borrow.Author.Tests.{leb-true, ltb-true, eqb-true, eq-eqb, le-leb, lt-ltb}
 use lib.Dec.{eqb, leb, ltb}
 use lib.ListN.{length, getD}
-use Rattle.utf8.specs.WellFormed.{wellFormed}
-use Rattle.schema.proofs.BoolLaws.{both, left, right, by-test}
-use Rattle.schema.proofs.CheckLaws.{every-at}
-use Rattle.ordered.specs.Order.{orderRight}
+use Rattle.base_utf8.specs.WellFormed.{wellFormed}
+use Rattle.node_schema.proofs.BoolLaws.{both, left, right, by-test}
+use Rattle.node_schema.proofs.CheckLaws.{every-at}
+use Rattle.cache_order.specs.Order.{orderRight}
 use Rattle.cache_entries.specs.declared.Cached.{Cached}
 use Rattle.cache_entries.specs.Limits.{maxEntries, maxClusters, textPlaces, textSize, pageSize, orderSize, half, noVersion}
 use Rattle.cache_entries.specs.Entries.{clusterOrder, textIn}

@@ -8,10 +8,10 @@ use types.Run.{OneOf, miss}
 use denote.Enum.Declared.{tagOf}
 use lib.Dec.{leb}
 use lib.ListN.{length}
-use Rattle.tlv.proofs.Value.{the-type}
-use Rattle.tlv.specs.declared.Value.{Value}
-use Rattle.tlv.specs.declared.Value.the-variants as value
-use Rattle.schema.proofs.BoolLaws.{left, right}
+use Rattle.tlv_reader.proofs.Value.{the-type}
+use Rattle.tlv_reader.specs.declared.Value.{Value}
+use Rattle.tlv_reader.specs.declared.Value.the-variants as value
+use Rattle.node_schema.proofs.BoolLaws.{left, right}
 use Rattle.cache_entries.specs.Limits.{textSize}
 use Rattle.cache_entries.specs.Values.{insideUsable, usableIn, longV}
 

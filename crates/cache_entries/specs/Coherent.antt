@@ -1,12 +1,12 @@
--- "A cluster is whole exactly if filled and all its entries (one at least) share one version." Whole is called coherent here, filled primed.
+-- When a cluster is whole (RULES 7.11). Whole is called coherent here, filled primed.
 use mathlib.Core.Bool.{Bool, true, false, _&&_}
 use mathlib.Core.List.{List, [], _∷_}
 use Prim.Native.Nat.{ℕ, zero, suc, _+_, _/_}
 use lib.Dec.{eqb, ltb}
 use lib.ListN.{getD}
-use Rattle.tlv.specs.Octet.{pick}
-use Rattle.tlv.specs.Decode.{Opt}
-use Rattle.tlv.specs.Decode.Opt.{just, nothing}
+use Rattle.tlv_reader.specs.Octet.{pick}
+use Rattle.tlv_reader.specs.Decode.{Opt}
+use Rattle.tlv_reader.specs.Decode.Opt.{just, nothing}
 use Rattle.cache_entries.specs.declared.Cached.{Cached}
 use Rattle.cache_entries.specs.declared.shared.Coherent.{Coherent}
 use Rattle.cache_entries.specs.declared.shared.Coherent.the-variants.{At, No}

@@ -1,4 +1,4 @@
--- What a panel holds (document 01, The panel): a finite map from path to version and value, read off the arrays that it is lent.
+-- What a cache holds (RULES 7.8): a finite map from path to version and value, read off the arrays that it is lent.
 use mathlib.Core.Bool.{Bool, not}
 use mathlib.Core.List.{List}
 use Prim.Native.Nat.{ℕ, _+_, _*_, _%_}
@@ -6,13 +6,13 @@ use lib.Dec.{eqb}
 use lib.ListN.{getD, take, drop}
 use mir.Syntax.{w64}
 use mir.Val.{toZ}
-use Rattle.tlv.specs.Octet.{pick}
-use Rattle.tlv.specs.Decode.{Opt}
-use Rattle.tlv.specs.Decode.Opt.{just, nothing}
-use Rattle.tlv.specs.Value.{Datum, null, boolean, unsigned, signed, float, text}
-use Rattle.schema.specs.declared.Found.{Found}
-use Rattle.schema.specs.declared.Found.the-variants.{At, Nothing}
-use Rattle.ordered.specs.Order.{wordAt}
+use Rattle.tlv_reader.specs.Octet.{pick}
+use Rattle.tlv_reader.specs.Decode.{Opt}
+use Rattle.tlv_reader.specs.Decode.Opt.{just, nothing}
+use Rattle.tlv_reader.specs.Value.{Datum, null, boolean, unsigned, signed, float, text}
+use Rattle.node_schema.specs.declared.Found.{Found}
+use Rattle.node_schema.specs.declared.Found.the-variants.{At, Nothing}
+use Rattle.cache_order.specs.Order.{wordAt}
 use Rattle.cache_entries.specs.declared.Cached.{Cached}
 use Rattle.cache_entries.specs.Limits.{maxEntries, half, textSize, nullKind, booleanKind, unsignedKind, signedKind, floatKind}
 
@@ -66,18 +66,18 @@ datumBy kind word shown =
     (pick (eqb kind signedKind) (signed (toZ w64 word)) (pick (eqb kind floatKind) (float (word % half)) (text shown)))))
 
 -- an entry: the version of its cluster when it was reported, and its value; the word of a text is its place
-pub record Entry : Type 0 where
+pub record CacheEntry : Type 0 where
   pub version : ℕ
   pub value : Datum
 
-abbrev pub entryOf : Cached → List ℕ → ℕ → Entry
+abbrev pub entryOf : Cached → List ℕ → ℕ → CacheEntry
 entryOf c page i =
     record {
       version = getD (c .versions) i 0;
       value = datumBy (getD (c .kinds) i 0) (getD (c .words) i 0) (textIn page (c .lengths) (getD (c .words) i 0));
     }
 
-abbrev pub atEntry : Cached → List ℕ → Found → Opt Entry
+abbrev pub atEntry : Cached → List ℕ → Found → Opt CacheEntry
 atEntry c page (At i) = just (entryOf c page i)
 atEntry c page Nothing = nothing
 
@@ -88,6 +88,6 @@ inCluster c attribute Nothing = Nothing
 unfoldable pub pathAt : Cached → ℕ → ℕ → ℕ → Found
 pathAt c endpoint cluster attribute = inCluster c attribute (clusterAt c (clusterWord endpoint cluster))
 
--- THE MAP: what the panel has for a path
-unfoldable pub lookup : Cached → List ℕ → ℕ → ℕ → ℕ → Opt Entry
+-- THE MAP: what the cache has for a path
+unfoldable pub lookup : Cached → List ℕ → ℕ → ℕ → ℕ → Opt CacheEntry
 lookup c page endpoint cluster attribute = atEntry c page (pathAt c endpoint cluster attribute)

@@ -1,6 +1,6 @@
--- What a panel holds at most, which is what a sign may have (document 01, refusal 7: "a 257th entry, a 33rd cluster, or text over 200").
+-- What a cache holds at most, which is what a server may have (refusal 7, RULES 6.1).
 use Prim.Native.Nat.{ℕ, _+_, _*_, _^_}
-use Rattle.bounds.specs.Bounds.{clusterLimit, attributeLimit, textMax, versionLimit}
+use Rattle.base_bounds.specs.Bounds.{clusterLimit, attributeLimit, textMax, versionLimit}
 
 abbrev pub maxEntries : ℕ
 maxEntries = attributeLimit

@@ -1,13 +1,13 @@
--- Setting an entry (document 01, The panel: "each block sets an entry: path, version, value"; refusal 7).
+-- Setting an entry: path, version and value (RULES 7.8); refusal 7 (RULES 6.1).
 use mathlib.Core.Bool.{Bool}
 use mathlib.Core.List.{List, _++_}
 use Prim.Native.Nat.{ℕ, _+_}
 use lib.Dec.{eqb, ltb}
 use lib.ListN.{set, take}
-use Rattle.tlv.specs.Octet.{pick}
-use Rattle.schema.specs.declared.Found.{Found}
-use Rattle.schema.specs.declared.Found.the-variants.{At, Nothing}
-use Rattle.ordered.specs.Order.{placeIn, inserted}
+use Rattle.tlv_reader.specs.Octet.{pick}
+use Rattle.node_schema.specs.declared.Found.{Found}
+use Rattle.node_schema.specs.declared.Found.the-variants.{At, Nothing}
+use Rattle.cache_order.specs.Order.{placeIn, inserted}
 use Rattle.cache_entries.specs.declared.Cached.{Cached}
 use Rattle.cache_entries.specs.declared.set.Placed.{Placed}
 use Rattle.cache_entries.specs.declared.set.Placed.the-variants.{Here, Full}

@@ -1,4 +1,4 @@
--- What a panel may hold (document 01, refusal 2: "state, page or access table breaks these rules"): at most 256 entries of at most 32 clusters, no path
+-- What a cache may hold (refusal 2, RULES 6.1): at most 256 entries of at most 32 clusters, no path
 -- twice, each of a cluster that is there, with null or a value of one of the five kinds; a text has a place of its own, at most 200 bytes, and is UTF-8; a
 -- page of its size.
 use mathlib.Core.Bool.{Bool, true, false, not, _&&_}
@@ -7,11 +7,11 @@ use mathlib.Core.List.{List}
 use Prim.Native.Nat.{ℕ, zero, suc, _+_, _/_, _^_}
 use lib.Dec.{eqb, ltb, leb}
 use lib.ListN.{length, getD}
-use Rattle.tlv.specs.Octet.{pick}
-use Rattle.utf8.specs.Bytewise.{allBelow}
-use Rattle.utf8.specs.WellFormed.{wellFormed}
-use Rattle.schema.specs.Check.{every}
-use Rattle.ordered.specs.Order.{orderRight}
+use Rattle.tlv_reader.specs.Octet.{pick}
+use Rattle.base_utf8.specs.Bytewise.{allBelow}
+use Rattle.base_utf8.specs.WellFormed.{wellFormed}
+use Rattle.node_schema.specs.Check.{every}
+use Rattle.cache_order.specs.Order.{orderRight}
 use Rattle.cache_entries.specs.declared.Cached.{Cached}
 use Rattle.cache_entries.specs.Limits.{maxEntries, maxClusters, textPlaces, textSize, pageSize, orderSize, half, noVersion, nullKind, booleanKind, unsignedKind, signedKind, floatKind, textKind}
 use Rattle.cache_entries.specs.Entries.{clusterOrder, textIn}
@@ -52,7 +52,7 @@ textsRight page c = every (textRightAt page (c .kinds) (c .words) (c .lengths)) 
 unfoldable pub clustersRight : List ℕ → ℕ → Bool
 clustersRight l n = every (λ k. ltb (getD l k 0) (2 ^ 48)) n
 
--- "at most 256 entries, 32 clusters", no path and no cluster twice: both stand in a rising order
+-- at most 256 entries and 32 clusters, no path and no cluster twice: both stand in a rising order
 unfoldable pub heldRight : List ℕ → Cached → Bool
 heldRight page c =
     eqb (length page) pageSize
@@ -69,7 +69,7 @@ unfoldable pub formOf : List ℕ → ℕ
 formOf l = pick (allBelow 128 l) 2 (pick (wellFormed l) 1 0)
 
 -- what the types of the columns say: how long each is
-pub record Whole (c : Cached) : Type 0 where
+pub record ColumnsSized (c : Cached) : Type 0 where
   pub clusters : length (c .clusters) ≡ maxClusters
   pub keys : length (c .keys) ≡ maxEntries
   pub versions : length (c .versions) ≡ maxEntries

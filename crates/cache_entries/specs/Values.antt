@@ -1,13 +1,12 @@
--- A value that the panel can keep or send (document 01, refusals 6, 7 and 10): "a value neither null nor of the five kinds (text must be UTF-8)", "text over
--- 200".
+-- A value that the cache can keep or send (refusals 6, 7 and 10, RULES 6.1 and 6.3): null or of the five kinds, a text UTF-8 and of at most 200 bytes.
 use mathlib.Core.Bool.{Bool, true, false, _&&_}
 use mathlib.Core.List.{List}
 use Prim.Native.Nat.{ℕ, _-_}
 use lib.Dec.{ltb, leb}
 use lib.ListN.{length, take, drop}
-use Rattle.tlv.specs.declared.Value.{Value}
-use Rattle.tlv.specs.declared.Value.the-variants as value
-use Rattle.utf8.specs.WellFormed.{wellFormed}
+use Rattle.tlv_reader.specs.declared.Value.{Value}
+use Rattle.tlv_reader.specs.declared.Value.the-variants as value
+use Rattle.base_utf8.specs.WellFormed.{wellFormed}
 use Rattle.cache_entries.specs.Limits.{textSize}
 
 -- a text of n bytes from a on lies in the message and is UTF-8

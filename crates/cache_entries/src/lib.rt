@@ -1,4 +1,4 @@
-// What the panel holds of a sign: a finite map from path to version and value (document 01, The panel). It is memory that the caller lends: an array for
+// What the cache holds of a server: a finite map from path to version and value (RULES 7.8). It is memory that the caller lends: an array for
 // each column, and a page for the texts. Any content is safe; what breaks the rules gets 2 (valid.rt).
 
 pub mod find; // find.rt: where a cluster and an entry stand
@@ -8,15 +8,15 @@ pub mod texts; // texts.rt: the places of texts
 pub mod values; // values.rt: a value that can be kept or sent
 pub mod valid; // valid.rt: whether entries and page keep the rules
 
-// What is held at most, which is what a sign may have.
-pub const ENTRIES: usize = bounds::ATTRIBUTES;
+// What is held at most, which is what a server may have.
+pub const ENTRIES: usize = base_bounds::ATTRIBUTES;
 
-pub const CLUSTERS: usize = bounds::CLUSTERS;
+pub const CLUSTERS: usize = base_bounds::CLUSTERS;
 
 // The page of texts: so many places of this size.
 pub const TEXT_PLACES: usize = ENTRIES;
 
-pub const TEXT_SIZE: usize = bounds::TEXT_MAX;
+pub const TEXT_SIZE: usize = base_bounds::TEXT_MAX;
 
 pub const PAGE_SIZE: usize = TEXT_PLACES * TEXT_SIZE;
 
@@ -26,7 +26,7 @@ pub const ORDER_SIZE: usize = ENTRIES + CLUSTERS;
 pub const HALF: u64 = 4_294_967_296;
 
 // The version of an entry that has none.
-pub const NO_VERSION: u64 = bounds::VERSIONS;
+pub const NO_VERSION: u64 = base_bounds::VERSIONS;
 
 // The kinds of value of an entry.
 pub const NULL: u8 = 0;
@@ -56,6 +56,6 @@ pub struct Cached {
     pub order: [u8; ORDER_SIZE],
     // How long the text at each place is.
     pub lengths: [u16; TEXT_PLACES],
-    // Whether a read has ended on its last part (document 01: filled).
+    // Whether a read has ended on its last part (RULES 7.10: filled).
     pub primed: bool,
 }

@@ -1,4 +1,4 @@
-// Whether a cluster is coherent (document 01: whole), and at which version.
+// Whether a cluster is coherent (RULES 7.11: whole), and at which version.
 ghost use mathlib.Core.Path.{_≡_};
 ghost use mathlib.Core.Bool.{Bool, true};
 ghost use mathlib.Core.List.{List};
@@ -58,7 +58,7 @@ pub fn joined_at(keys: &[u64; ENTRIES], versions: &[u64; ENTRIES], n: usize, k: 
     so
 }
 
-// The version that all entries of the cluster that stands at k share, one entry at least; none before the panel is primed.
+// The version that all entries of the cluster that stands at k share, one entry at least; none before the cache is primed.
 pub fn coherent_at(
     keys: &[u64; ENTRIES],
     versions: &[u64; ENTRIES],

@@ -1,14 +1,14 @@
-// Whether what a panel holds keeps the rules of document 01: refusal 2 where it does not.
+// Whether what a cache holds keeps the rules: refusal 2 (RULES 6.1) where it does not.
 ghost use mathlib.Core.Path.{_≡_};
 ghost use mathlib.Core.Bool.{Bool};
 ghost use mathlib.Core.List.{List};
 ghost use Prim.Native.Nat.{ℕ, _+_, _≤_, _<_};
 ghost use lib.ListN.{length, take, drop};
-ghost use Rattle.utf8.specs.WellFormed.{wellFormed};
-ghost use Rattle.schema.specs.Check.{every};
+ghost use Rattle.base_utf8.specs.WellFormed.{wellFormed};
+ghost use Rattle.node_schema.specs.Check.{every};
 ghost use Rattle.cache_entries.specs.Limits.{maxEntries, maxClusters, textPlaces, pageSize};
 ghost use Rattle.cache_entries.specs.Entries.{heldOf};
-ghost use Rattle.cache_entries.specs.Valid.{wordRight, entryRight, formOf, textRight, textRightAt, clustersRight, entriesRight, heldRight, Whole};
+ghost use Rattle.cache_entries.specs.Valid.{wordRight, entryRight, formOf, textRight, textRightAt, clustersRight, entriesRight, heldRight, ColumnsSized};
 use super::CLUSTERS;
 use super::ENTRIES;
 use super::HALF;
@@ -105,10 +105,10 @@ const WHOLE: u8 = 1;
 fn form_of(part: &[u8]) -> u8
     ensures { λ r. ⌜ r ≡ formOf (now (part .entry)) ⌝ }
 {
-    if utf8::ascii(part) {
+    if base_utf8::ascii(part) {
         return PLAIN;
     }
-    if utf8::valid(part) {
+    if base_utf8::valid(part) {
         return WHOLE;
     }
     0
@@ -141,10 +141,10 @@ fn is_formed<'a>(page: &'a [u8], whole: &'a [u8], form: u8, start: usize, len: u
             return true;
         }
         if form == WHOLE {
-            return utf8::is_cut_well(whole, start, len);
+            return base_utf8::is_cut_well(whole, start, len);
         }
     }
-    utf8::valid(&page[start..end])
+    base_utf8::valid(&page[start..end])
 }
 
 // A text of at most TEXT_SIZE bytes at place p, which is UTF-8.
@@ -228,10 +228,10 @@ pub fn held_ok(
     if !clusters_ok(clusters, k) {
         return false;
     }
-    if !ordered::order_ok(clusters, cluster_order(order), k) {
+    if !cache_order::order_ok(clusters, cluster_order(order), k) {
         return false;
     }
-    if !ordered::order_ok(keys, order, n) {
+    if !cache_order::order_ok(keys, order, n) {
         return false;
     }
     if !entries_ok(keys, versions, kinds, words, k, n) {
@@ -269,7 +269,7 @@ pub fn columns_whole(
     order: &[u8; ORDER_SIZE],
     lengths: &[u16; TEXT_PLACES],
 )
-    ensures { λ _. ⌜ ((k n : ℕ) (primed : Bool) → Whole (heldOf (now (clusters .entry)) (now (keys .entry)) (now (versions .entry)) (now (kinds .entry)) (now (words .entry)) (now (order .entry)) (now (lengths .entry)) k n primed)) ⌝ }
+    ensures { λ _. ⌜ ((k n : ℕ) (primed : Bool) → ColumnsSized (heldOf (now (clusters .entry)) (now (keys .entry)) (now (versions .entry)) (now (kinds .entry)) (now (words .entry)) (now (order .entry)) (now (lengths .entry)) k n primed)) ⌝ }
 {
     count_words(clusters);
     count_words(keys);

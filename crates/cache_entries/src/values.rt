@@ -1,8 +1,8 @@
-// A value that the panel can keep or send.
+// A value that the cache can keep or send.
 ghost use mathlib.Core.Path.{_≡_};
 ghost use Rattle.cache_entries.specs.Values.{insideUsable, usableIn, longV};
 use super::TEXT_SIZE;
-use tlv::Value;
+use tlv_reader::Value;
 
 // A text lies in the message and is UTF-8.
 fn text_usable(s: &[u8], start: usize, len: usize) -> bool
@@ -14,7 +14,7 @@ fn text_usable(s: &[u8], start: usize, len: usize) -> bool
     if s.len() - len < start {
         return false;
     }
-    utf8::valid(&s[start..start + len])
+    base_utf8::valid(&s[start..start + len])
 }
 
 // Null or one of the five kinds.

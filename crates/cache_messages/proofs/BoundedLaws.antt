@@ -1,4 +1,4 @@
--- A panel that keeps the rules has what a read asks of it.
+-- A cache that keeps the rules has what a read asks of it.
 use mathlib.Core.Path.{_≡_}
 use mathlib.Core.Bool.{true}
 use mathlib.Core.List.{List}

@@ -5,20 +5,20 @@ use mathlib.Core.List.{List, [], _∷_, _++_, map, append-nil, append-assoc}
 use Prim.Native.Nat.{ℕ, suc, _+_, _-_, _*_, _≤_, _<_}
 use native.Mathlib.Omega.{arith}
 use lib.ListN.{getD}
-use Rattle.tlv.specs.Tree.{Tree}
-use Rattle.tlv.specs.Decode.{Opt}
-use Rattle.tlv.specs.Decode.Opt.{just, nothing}
-use Rattle.octets.specs.Store.{Stored, store}
-use Rattle.octets.proofs.StoreLaws.{then}
-use Rattle.interaction.specs.declared.Wanted.{Wanted}
-use Rattle.interaction_writer.specs.Spelling.{spelling, joined}
-use Rattle.ordered.specs.Order.{ranked}
+use Rattle.tlv_reader.specs.Tree.{Tree}
+use Rattle.tlv_reader.specs.Decode.{Opt}
+use Rattle.tlv_reader.specs.Decode.Opt.{just, nothing}
+use Rattle.base_octets.specs.Store.{Stored, store}
+use Rattle.base_octets.proofs.StoreLaws.{then}
+use Rattle.im_requests.specs.declared.VersionFilter.{VersionFilter}
+use Rattle.im_writer.specs.Spelling.{spelling, joined}
+use Rattle.cache_order.specs.Order.{ranked}
 use Rattle.cache_entries.specs.declared.Cached.{Cached}
 use Rattle.cache_entries.specs.declared.shared.Coherent.the-variants as coherent
 use Rattle.cache_entries.specs.Limits.{maxClusters}
 use Rattle.cache_entries.specs.Entries.{heldOf, clusterOrder}
 use Rattle.cache_entries.specs.Coherent.{versionsFrom, unseen, joinedAll, sharedIn, coherentRead}
-use Rattle.cache_messages.specs.Filters.{Bounded, wantedAs, wantedIf, filtersOf, rankedFrom, filterTreeOf}
+use Rattle.cache_messages.specs.Filters.{Bounded, versionFilterAs, versionFilterIf, filtersOf, rankedFrom, filterTreeOf}
 use Rattle.cache_messages.proofs.RisingLaws.{unprimed-none, lent-filters}
 
 never : {A : Type 0} → _≡_ {A = ℕ} 0 1 → A
@@ -42,37 +42,37 @@ pub none-written : {o : List ℕ} {at : ℕ} → Stored o at (joined (map filter
 unfolding joined store
 none-written = record { content = refl; place = omega arith }
 
--- the filters of a panel: none before it is primed, then those written by the order, where `shares` is what one pass over the entries leaves
-pub panel-unprimed : (c : Cached) {o : List ℕ} {at : ℕ} → c .primed ≡ false → Stored o at (joined (map filterTreeOf (filtersOf c))) o at
-panel-unprimed c f = rw (unprimed-none c f) none-written
+-- the filters of a cache: none before it is primed, then those written by the order, where `shares` is what one pass over the entries leaves
+pub cache-unprimed : (c : Cached) {o : List ℕ} {at : ℕ} → c .primed ≡ false → Stored o at (joined (map filterTreeOf (filtersOf c))) o at
+cache-unprimed c f = rw (unprimed-none c f) none-written
 
-pub panel-primed : {clusters keys versions order part o o₁ : List ℕ} {k n at p : ℕ} → Bounded clusters keys versions order k n → (primed : Bool) → primed ≡ true → (shares : List ℕ) → ((i : ℕ) → i < maxClusters → getD shares i 0 ≡ joinedAll unseen (versionsFrom keys versions i n 0)) → part ≡ clusterOrder order → Stored o at (joined (map filterTreeOf (rankedFrom clusters part shares k 0))) o₁ p → (kinds words lengths : List ℕ) → Stored o at (joined (map filterTreeOf (filtersOf (heldOf clusters keys versions kinds words order lengths k n primed)))) o₁ p
-panel-primed b primed t shares h q s kinds words lengths = rw (lent-filters b kinds words lengths primed t shares h, ← q) s
+pub cache-primed : {clusters keys versions order part o o₁ : List ℕ} {k n at p : ℕ} → Bounded clusters keys versions order k n → (primed : Bool) → primed ≡ true → (shares : List ℕ) → ((i : ℕ) → i < maxClusters → getD shares i 0 ≡ joinedAll unseen (versionsFrom keys versions i n 0)) → part ≡ clusterOrder order → Stored o at (joined (map filterTreeOf (rankedFrom clusters part shares k 0))) o₁ p → (kinds words lengths : List ℕ) → Stored o at (joined (map filterTreeOf (filtersOf (heldOf clusters keys versions kinds words order lengths k n primed)))) o₁ p
+cache-primed b primed t shares h q s kinds words lengths = rw (lent-filters b kinds words lengths primed t shares h, ← q) s
 
 module _ (word : ℕ) (said : Opt ℕ) {o : List ℕ} {at : ℕ} where
-  pub filter-written : {o₁ : List ℕ} {p : ℕ} (v : ℕ) → said ≡ just v → Stored o at (spelling (filterTreeOf (wantedAs word v))) o₁ p → Stored o at (joined (map filterTreeOf (wantedIf word said))) o₁ p
-  filter-written v e s = rw (e, ← (joined-one (filterTreeOf (wantedAs word v)))) s
+  pub filter-written : {o₁ : List ℕ} {p : ℕ} (v : ℕ) → said ≡ just v → Stored o at (spelling (filterTreeOf (versionFilterAs word v))) o₁ p → Stored o at (joined (map filterTreeOf (versionFilterIf word said))) o₁ p
+  filter-written v e s = rw (e, ← (joined-one (filterTreeOf (versionFilterAs word v)))) s
 
-  pub filter-left-out : said ≡ nothing → Stored o at (joined (map filterTreeOf (wantedIf word said))) o at
+  pub filter-left-out : said ≡ nothing → Stored o at (joined (map filterTreeOf (versionFilterIf word said))) o at
   filter-left-out e = rw e none-written
 
 -- trees of two lists
-joined-both : (a b : List Wanted) → joined (map filterTreeOf (a ++ b)) ≡ joined (map filterTreeOf a) ++ joined (map filterTreeOf b)
+joined-both : (a b : List VersionFilter) → joined (map filterTreeOf (a ++ b)) ≡ joined (map filterTreeOf a) ++ joined (map filterTreeOf b)
 unfolding joined
 joined-both [] b = refl
 joined-both (x ∷ a) b = ap (λ (r : List ℕ). spelling (filterTreeOf x) ++ r) (joined-both a b) ∙ sym (append-assoc (spelling (filterTreeOf x)) (joined (map filterTreeOf a)) (joined (map filterTreeOf b)))
 
 module _ (clusters order shares : List ℕ) (n : ℕ) where
   -- a filter for the cluster of rank j
-  abbrev at-rank : ℕ → List Wanted
-  at-rank j = wantedIf (ranked clusters order j) (sharedIn (getD shares (getD order j 0) 0))
+  abbrev at-rank : ℕ → List VersionFilter
+  at-rank j = versionFilterIf (ranked clusters order j) (sharedIn (getD shares (getD order j 0) 0))
 
-  abbrev all : List Wanted
+  abbrev all : List VersionFilter
   all = rankedFrom clusters order shares n 0
 
   -- what the loop knows: the filters written so far, after which the definition goes on
   pub record Written (old : List ℕ) (start : ℕ) (new : List ℕ) (at j : ℕ) : Type 0 where
-    pub filters : List Wanted
+    pub filters : List VersionFilter
     pub goes-on : all ≡ filters ++ rankedFrom clusters order shares (n - j) j
     pub stored : Stored old start (joined (map filterTreeOf filters)) new at
     pub near : at ≤ start + j * 21

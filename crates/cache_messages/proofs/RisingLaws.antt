@@ -7,21 +7,21 @@ use native.Mathlib.Omega.{arith}
 use borrow.Author.Tests.{ltb-true, ltb-false, eqb-true, eqb-false}
 use lib.Dec.{eqb, ltb}
 use lib.ListN.{getD}
-use Rattle.tlv.specs.Decode.{Opt}
-use Rattle.tlv.specs.Decode.Opt.{nothing}
-use Rattle.tlv.proofs.Picks.{pick-elim}
-use Rattle.schema.specs.declared.Found.{Found}
-use Rattle.schema.specs.declared.Found.the-variants.{At, Nothing}
-use Rattle.schema.proofs.BoolLaws.{by-test}
-use Rattle.interaction.specs.declared.Wanted.{Wanted}
-use Rattle.ordered.specs.Order.{ranked, orderRight}
-use Rattle.ordered.proofs.OrderLaws.{places-at, order-places, order-rises, place-there}
+use Rattle.tlv_reader.specs.Decode.{Opt}
+use Rattle.tlv_reader.specs.Decode.Opt.{nothing}
+use Rattle.tlv_reader.proofs.Picks.{pick-elim}
+use Rattle.node_schema.specs.declared.Found.{Found}
+use Rattle.node_schema.specs.declared.Found.the-variants.{At, Nothing}
+use Rattle.node_schema.proofs.BoolLaws.{by-test}
+use Rattle.im_requests.specs.declared.VersionFilter.{VersionFilter}
+use Rattle.cache_order.specs.Order.{ranked, orderRight}
+use Rattle.cache_order.proofs.OrderLaws.{places-at, order-places, order-rises, place-there}
 use Rattle.cache_entries.specs.declared.Cached.{Cached}
 use Rattle.cache_entries.specs.Limits.{maxClusters}
 use Rattle.cache_entries.specs.Entries.{heldOf, clusterOrder}
 use Rattle.cache_entries.specs.Coherent.{versionsFrom, coherentAt, unseen, joinedAll, sharedIn}
 use Rattle.cache_entries.proofs.SharedLaws.{shares-say}
-use Rattle.cache_messages.specs.Filters.{Bounded, lower, betterOf, leastBy, wantedIf, filterFor, onwards, filtersFrom, filtersOf, rankedFrom}
+use Rattle.cache_messages.specs.Filters.{Bounded, lower, betterOf, leastBy, versionFilterIf, filterFor, onwards, filtersFrom, filtersOf, rankedFrom}
 
 -- a number below suc n is below n or is n
 last-or-before : {P : Type 0} (k n : ℕ) → k < suc n → (k < n → P) → (k ≡ n → P) → P
@@ -103,14 +103,14 @@ module _ (c : Cached) (shares : List ℕ) (ok : orderRight (c .clusters) (cluste
       let l : j < c .«cluster_count» = omega arith in
       let word = ranked (c .clusters) order j in
       ap (onwards c (λ b. filtersFrom c m b)) (rising-least (c .clusters) order (c .«cluster_count») ok j bound l next)
-      ∙ ap (λ (o : Opt ℕ). wantedIf word o ++ filtersFrom c m (word + 1)) (sym (say (getD order j 0) (places-at order (c .«cluster_count») (order-places (c .clusters) order (c .«cluster_count») ok) j l)))
-      ∙ ap (λ (r : List Wanted). wantedIf word (sharedIn (getD shares (getD order j 0) 0)) ++ r) (rising-from m (j + 1) (word + 1) (omega arith) (next-more (c .clusters) order (c .«cluster_count») ok j l))
+      ∙ ap (λ (o : Opt ℕ). versionFilterIf word o ++ filtersFrom c m (word + 1)) (sym (say (getD order j 0) (places-at order (c .«cluster_count») (order-places (c .clusters) order (c .«cluster_count») ok) j l)))
+      ∙ ap (λ (r : List VersionFilter). versionFilterIf word (sharedIn (getD shares (getD order j 0) 0)) ++ r) (rising-from m (j + 1) (word + 1) (omega arith) (next-more (c .clusters) order (c .«cluster_count») ok j l))
 
   pub rising-filters : filtersOf c ≡ rankedFrom (c .clusters) order shares (c .«cluster_count») 0
   unfolding filtersOf
   rising-filters = rising-from (c .«cluster_count») 0 0 (omega arith) (next-begin (c .clusters) order (c .«cluster_count») ok)
 
--- before the panel is primed there is none
+-- before the cache is primed there is none
 module _ (c : Cached) (f : c .primed ≡ false) where
   unprimed : (k : ℕ) → coherentAt c k ≡ nothing
   unfolding coherentAt
@@ -129,7 +129,7 @@ module _ (c : Cached) (f : c .primed ≡ false) where
   unfolding filtersOf
   unprimed-none = unprimed-from (c .«cluster_count») 0
 
--- what a panel lends: the words that one pass over the entries leaves say which clusters are coherent
+-- what a cache lends: the words that one pass over the entries leaves say which clusters are coherent
 module _ {clusters keys versions order : List ℕ} {k n : ℕ} (b : Bounded clusters keys versions order k n) (kinds words lengths : List ℕ) where
   pub lent-filters : (primed : Bool) → primed ≡ true → (shares : List ℕ) → ((i : ℕ) → i < maxClusters → getD shares i 0 ≡ joinedAll unseen (versionsFrom keys versions i n 0)) → filtersOf (heldOf clusters keys versions kinds words order lengths k n primed) ≡ rankedFrom clusters (clusterOrder order) shares k 0
   unfolding coherentAt

@@ -1,19 +1,19 @@
 // A write of one entry, and the success for a part of a report.
 ghost use Prim.Native.Nat.{_≤_, _<_};
 ghost use lib.ListN.{length};
-ghost use Rattle.octets.specs.Store.{Stored};
-ghost use Rattle.tlv.specs.Value.{datumIn};
+ghost use Rattle.base_octets.specs.Store.{Stored};
+ghost use Rattle.tlv_reader.specs.Value.{datumIn};
 ghost use Rattle.tlv_writer.specs.Element.{InPage};
-ghost use Rattle.interaction_writer.specs.Block.{ShortText};
-ghost use Rattle.envelope.specs.Envelope.{maxMessage};
-ghost use Rattle.interaction_writer.specs.Envelope.{exchangeLimit};
+ghost use Rattle.im_writer.specs.Block.{ShortText};
+ghost use Rattle.im_envelope.specs.Envelope.{maxMessage};
+ghost use Rattle.im_writer.specs.Envelope.{exchangeLimit};
 ghost use Rattle.cache_messages.specs.Messages.{writeMessage, successMessage};
-use exchange::STATUS;
-use exchange::WRITE;
-use interaction_writer::envelope::put_envelope;
-use interaction_writer::response::put_status_response;
-use request_writer::write::put_write_request;
-use tlv::Value;
+use im_exchange::STATUS;
+use im_exchange::WRITE;
+use im_request_writer::write::put_write_request;
+use im_writer::envelope::put_envelope;
+use im_writer::response::put_status_response;
+use tlv_reader::Value;
 
 pub fn put_write(
     out: &mut [u8],

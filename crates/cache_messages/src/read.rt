@@ -1,18 +1,18 @@
-// A read: one full wildcard path, and a filter for each coherent cluster in rising order (document 01, The panel).
+// A read: one full wildcard path, and a filter for each coherent cluster in rising order (RULES 7.2, 7.3).
 ghost use mathlib.Core.Path.{_≡_};
 ghost use mathlib.Core.Bool.{true};
 ghost use mathlib.Core.List.{List, map};
 ghost use Prim.Native.Nat.{ℕ, _≤_, _<_, _+_, _*_};
 ghost use lib.ListN.{length};
-ghost use Rattle.octets.specs.Store.{Stored};
-ghost use Rattle.interaction_writer.specs.Spelling.{joined};
-ghost use Rattle.ordered.specs.Order.{placesRight};
+ghost use Rattle.base_octets.specs.Store.{Stored};
+ghost use Rattle.im_writer.specs.Spelling.{joined};
+ghost use Rattle.cache_order.specs.Order.{placesRight};
 ghost use Rattle.cache_entries.specs.Limits.{maxClusters};
 ghost use Rattle.cache_entries.specs.Entries.{heldOf};
 ghost use Rattle.cache_entries.specs.Coherent.{sharedIn};
-ghost use Rattle.envelope.specs.Envelope.{maxMessage};
-ghost use Rattle.interaction_writer.specs.Envelope.{exchangeLimit};
-ghost use Rattle.cache_messages.specs.Filters.{Bounded, wantedIf, rankedFrom, filtersOf, filterTreeOf};
+ghost use Rattle.im_envelope.specs.Envelope.{maxMessage};
+ghost use Rattle.im_writer.specs.Envelope.{exchangeLimit};
+ghost use Rattle.cache_messages.specs.Filters.{Bounded, versionFilterIf, rankedFrom, filtersOf, filterTreeOf};
 ghost use Rattle.cache_messages.specs.Messages.{readMessage};
 use cache_entries::CLUSTERS;
 use cache_entries::ENTRIES;
@@ -22,17 +22,17 @@ use cache_entries::find::cluster_order;
 use cache_entries::shared::Coherent;
 use cache_entries::shared::join_all;
 use cache_entries::shared::shared_in;
-use exchange::READ;
-use interaction_writer::envelope::put_envelope;
-use request_writer::read::put_filter;
-use request_writer::read::put_filters_open;
-use request_writer::read::put_read_close;
-use request_writer::read::put_read_open;
+use im_exchange::READ;
+use im_request_writer::read::put_filter;
+use im_request_writer::read::put_filters_open;
+use im_request_writer::read::put_read_close;
+use im_request_writer::read::put_read_open;
+use im_writer::envelope::put_envelope;
 
 // A filter for the cluster with this word, if its entries share a version; `so` is what their versions come to.
 fn put_filter_for(so: u64, word: u64, out: &mut [u8], at: usize) -> usize
     requires { ⌜ at + 21 ≤ length (now out) ⌝ }
-    ensures { λ r. ⌜ Stored (now (out .entry)) at (joined (map filterTreeOf (wantedIf word (sharedIn so)))) (now (out .exit)) r × (r ≤ at + 21) ⌝ }
+    ensures { λ r. ⌜ Stored (now (out .entry)) at (joined (map filterTreeOf (versionFilterIf word (sharedIn so)))) (now (out .exit)) r × (r ≤ at + 21) ⌝ }
 {
     match shared_in(so) {
         Coherent::At(version) => put_filter(

@@ -2,13 +2,13 @@
 use mathlib.Core.Path.{_≡_, refl, ap}
 use Prim.Native.Nat.{ℕ}
 use native.Mathlib.Omega.{arith}
-use Rattle.tlv.specs.Decode.{Opt}
-use Rattle.tlv.specs.Decode.Opt.{just, nothing}
-use Rattle.blocks.specs.declared.Answer.{Answer}
-use Rattle.interaction.specs.declared.StatusResponse.the-variants.{Code, BadResponse}
-use Rattle.interaction.specs.Status.{responseRead}
-use Rattle.interaction_answer.specs.declared.Answered.the-variants.{One, NotOne}
-use Rattle.interaction_answer.specs.Answered.{oneRead}
+use Rattle.tlv_reader.specs.Decode.{Opt}
+use Rattle.tlv_reader.specs.Decode.Opt.{just, nothing}
+use Rattle.im_blocks.specs.declared.Answer.{Answer}
+use Rattle.im_requests.specs.declared.StatusResponse.the-variants.{Code, BadResponse}
+use Rattle.im_requests.specs.Status.{responseRead}
+use Rattle.im_responses.specs.declared.answer.Answered.the-variants.{One, NotOne}
+use Rattle.im_responses.specs.Answered.{oneRead}
 
 never : {A : Type 0} → _≡_ {A = ℕ} 0 1 → A
 never e = absurd (omega arith)

@@ -1,44 +1,44 @@
--- WHAT A PANEL MAKES OF A MESSAGE (document 01, The panel, and When either end says no).
+-- WHAT A PANEL MAKES OF A MESSAGE (RULES 6 and 7).
 use mathlib.Core.Bool.{Bool, true, _&&_, _||_}
 use mathlib.Core.List.{List, []}
 use Prim.Native.Nat.{ℕ, _+_}
 use lib.Dec.{eqb, ltb, leb}
 use lib.ListN.{length, drop}
-use Rattle.tlv.specs.Octet.{pick}
-use Rattle.tlv.specs.Decode.{Opt}
-use Rattle.tlv.specs.Decode.Opt.{just, nothing}
-use Rattle.blocks.specs.declared.Path.{Path}
-use Rattle.blocks.specs.declared.Answer.{Answer}
-use Rattle.blocks.specs.Path.{exactP}
-use Rattle.interaction.specs.Status.{responseIn}
-use Rattle.interaction_report.specs.Report.{PartOf, partIn}
-use Rattle.interaction_answer.specs.Answered.{answeredIn}
-use Rattle.interaction_writer.specs.Envelope.{panelEdition}
-use Rattle.envelope.specs.declared.Fields.{Fields}
-use Rattle.envelope.specs.declared.Envelope.{Envelope}
-use Rattle.envelope.specs.declared.Envelope.the-variants.{Whole, Short}
-use Rattle.envelope.specs.Envelope.{envelopeIn, envelopeLength, maxMessage}
-use Rattle.exchange.specs.Rules.{statusOpcode, reportOpcode, writeResponseOpcode, firstReply, maxTurn}
+use Rattle.tlv_reader.specs.Octet.{pick}
+use Rattle.tlv_reader.specs.Decode.{Opt}
+use Rattle.tlv_reader.specs.Decode.Opt.{just, nothing}
+use Rattle.im_blocks.specs.declared.Path.{Path}
+use Rattle.im_blocks.specs.declared.Answer.{Answer}
+use Rattle.im_blocks.specs.Path.{exactP}
+use Rattle.im_requests.specs.Status.{responseIn}
+use Rattle.im_responses.specs.Report.{PartOf, partIn}
+use Rattle.im_responses.specs.Answered.{answeredIn}
+use Rattle.im_writer.specs.Envelope.{cacheEdition}
+use Rattle.im_envelope.specs.declared.Fields.{Fields}
+use Rattle.im_envelope.specs.declared.Envelope.{Envelope}
+use Rattle.im_envelope.specs.declared.Envelope.the-variants.{Whole, Short}
+use Rattle.im_envelope.specs.Envelope.{envelopeIn, envelopeLength, maxMessage}
+use Rattle.im_exchange.specs.Rules.{statusOpcode, reportOpcode, writeResponseOpcode, firstReply, maxTurn}
 use Rattle.cache_entries.specs.declared.Cached.{Cached}
 use Rattle.cache_report.specs.Part.{blocksIn, judgedAll, heldAll, pageAll}
 use Rattle.cache_messages.specs.Messages.{successMessage}
 use Rattle.cache_state.specs.declared.Request.{Request}
-use Rattle.cache_state.specs.declared.State.{State}
-use Rattle.cache_state.specs.State.{reading, writing, lastPart, withStatus, isOpen, panelRight}
-use Rattle.cache_state.specs.Reaction.{Reaction, refusal, Silent, quiet, unsent}
+use Rattle.cache_state.specs.declared.CacheState.{CacheState}
+use Rattle.cache_state.specs.State.{reading, writing, lastPart, withStatus, isOpen, cacheRight}
+use Rattle.cache_state.specs.Reaction.{CacheReaction, refusal, Silent, begins-none, unsent}
 use Rattle.cache_state.specs.Begin.{keeping}
 
--- refusal 4, "edition not 0, opcode not for this end": "A panel takes opcodes 1, 5, 7"
+-- refusal 4 (RULES 6.1): the edition, and the opcodes that a cache takes (RULES 6.8)
 unfoldable pub forCache : ℕ → ℕ → Bool
 forCache edition opcode =
-    eqb edition panelEdition && (eqb opcode statusOpcode || (eqb opcode reportOpcode || eqb opcode writeResponseOpcode))
+    eqb edition cacheEdition && (eqb opcode statusOpcode || (eqb opcode reportOpcode || eqb opcode writeResponseOpcode))
 
--- "1 at turn 1 alone, 5 in a read, 7 in a write"
+-- RULES 6.8: opcode 1 at turn 1, 5 in a read, 7 in a write
 unfoldable pub opcodeAwaited : ℕ → Fields → Bool
 opcodeAwaited stage e =
     pick (eqb (e .opcode) statusOpcode) (eqb (e .turn) firstReply) (pick (eqb (e .opcode) reportOpcode) (eqb stage reading) (eqb stage writing))
 
--- 5: "not the exchange, turn and opcode awaited"
+-- refusal 5 (RULES 6.1): what is awaited
 unfoldable pub awaited : Request → Fields → Bool
 awaited x e =
     isOpen (x .stage) && (eqb (e .exchange) (x .exchange) && (eqb (e .turn) (x .turn) && opcodeAwaited (x .stage) e))
@@ -60,7 +60,7 @@ endedAs x stage status =
       len = x .len;
     }
 
--- "Once any read has ended on its last part the panel is filled"
+-- RULES 7.10: filled
 unfoldable pub primedAs : Cached → Cached
 primedAs c =
     record {
@@ -77,28 +77,28 @@ primedAs c =
     }
 
 -- a status has 8 bits, as the readers of statuses see to
-unfoldable pub endedWith : State → ℕ → Silent
+unfoldable pub endedWith : CacheState → ℕ → Silent
 endedWith s code =
-    pick (ltb code 256) (quiet 1 (record { held = s .held; asked = endedAs (s .asked) withStatus code })) (quiet 6 s)
+    pick (ltb code 256) (begins-none 1 (record { held = s .held; asked = endedAs (s .asked) withStatus code })) (begins-none 6 s)
 
--- "A Status Response to a request ends it with that status"
-abbrev pub statusTaken : State → Opt ℕ → Silent
-statusTaken s nothing = quiet 6 s
+-- RULES 7.13: a status ends a request
+abbrev pub statusTaken : CacheState → Opt ℕ → Silent
+statusTaken s nothing = begins-none 6 s
 statusTaken s (just code) = endedWith s code
 
-unfoldable pub byStatus : State → List ℕ → Silent
+unfoldable pub byStatus : CacheState → List ℕ → Silent
 byStatus s payload = statusTaken s (responseIn payload)
 
--- 6: "a write answer whose paths aren't the write's"
+-- refusal 6 (RULES 6.3 g): the path of an answer is not the write's
 unfoldable pub ofWrite : Request → Path → Bool
 ofWrite x p =
     exactP p && (eqb (p .endpoint) (x .endpoint) && (eqb (p .cluster) (x .cluster) && eqb (p .attribute) (x .attribute)))
 
-abbrev pub answerTaken : State → Opt Answer → Silent
-answerTaken s nothing = quiet 6 s
-answerTaken s (just a) = pick (ofWrite (s .asked) (a .path)) (endedWith s (a .status .code)) (quiet 6 s)
+abbrev pub answerTaken : CacheState → Opt Answer → Silent
+answerTaken s nothing = begins-none 6 s
+answerTaken s (just a) = pick (ofWrite (s .asked) (a .path)) (endedWith s (a .status .code)) (begins-none 6 s)
 
-unfoldable pub byAnswer : State → List ℕ → Silent
+unfoldable pub byAnswer : CacheState → List ℕ → Silent
 byAnswer s payload = answerTaken s (answeredIn payload)
 
 -- more was promised: a success for this turn, and the next one is awaited
@@ -118,26 +118,26 @@ nextAwaited x =
       len = x .len;
     }
 
-unfoldable pub goesOn : Cached → Request → List ℕ → Reaction
+unfoldable pub goesOn : Cached → Request → List ℕ → CacheReaction
 goesOn held x page =
     record {
       number = 0;
-      state = record { held = held; asked = keeping (nextAwaited x) (successMessage panelEdition (x .exchange) (x .turn)) };
+      state = record { held = held; asked = keeping (nextAwaited x) (successMessage cacheEdition (x .exchange) (x .turn)) };
       page = page;
-      reply = successMessage panelEdition (x .exchange) (x .turn);
+      reply = successMessage cacheEdition (x .exchange) (x .turn);
     }
 
--- the last part: the read has ended, and the panel is primed
-abbrev pub ends : Cached → Request → List ℕ → Reaction
+-- the last part: the read has ended, and the cache is primed
+abbrev pub ends : Cached → Request → List ℕ → CacheReaction
 ends held x page =
     record { number = 1; state = record { held = primedAs held; asked = endedAs x lastPart 0 }; page = page; reply = [] }
 
--- 6: "more promised at turn 65,535"
+-- refusal 6 (RULES 6.3 f): no turn is left for more
 unfoldable pub pastTurns : ℕ → ℕ → Bool
 pastTurns more turn = eqb more 1 && eqb turn maxTurn
 
--- "It is the last unless MoreChunkedMessages is true"
-abbrev pub partTaken : List ℕ → State → List ℕ → Opt (PartOf ℕ) → Reaction
+-- RULES 7.9: which part is the last
+abbrev pub partTaken : List ℕ → CacheState → List ℕ → Opt (PartOf ℕ) → CacheReaction
 partTaken page s payload nothing = refusal 6 s page
 partTaken page s payload (just p) =
     pick (pastTurns (p .more) (s .asked .turn)) (refusal 6 s page)
@@ -147,17 +147,17 @@ partTaken page s payload (just p) =
     (ends (heldAll payload (s .held) (blocksIn payload)) (s .asked) (pageAll payload (s .held) page (blocksIn payload))))
     (refusal (judgedAll payload (record { number = 0; held = s .held }) (blocksIn payload) .number) s page))
 
-unfoldable pub takesPart : List ℕ → State → List ℕ → Reaction
+unfoldable pub takesPart : List ℕ → CacheState → List ℕ → CacheReaction
 takesPart page s payload = partTaken page s payload (partIn payload)
 
 -- THE AWAITED REPLY; writes never touch entries
-unfoldable pub takes : List ℕ → State → ℕ → List ℕ → Reaction
+unfoldable pub takes : List ℕ → CacheState → ℕ → List ℕ → CacheReaction
 takes page s opcode payload =
     pick (eqb opcode statusOpcode) (unsent (byStatus s payload) page)
     (pick (eqb opcode reportOpcode) (takesPart page s payload) (unsent (byAnswer s payload) page))
 
--- 4: "message under 8 or over 1,032 bytes, edition not 0, opcode not for this end"; then 5
-abbrev pub inEnvelope : List ℕ → State → List ℕ → Envelope → Reaction
+-- refusal 4 (RULES 6.1), then 5
+abbrev pub inEnvelope : List ℕ → CacheState → List ℕ → Envelope → CacheReaction
 inEnvelope page s m Short = refusal 4 s page
 inEnvelope page s m (Whole e) =
     pick (leb (length m) maxMessage && forCache (e .edition) (e .opcode))
@@ -165,6 +165,6 @@ inEnvelope page s m (Whole e) =
     (refusal 4 s page)
 
 -- RECEIVING a message: 2, 3, 4, 5, then 6 and 7; `room` is the buffer's length
-unfoldable pub received : List ℕ → State → List ℕ → ℕ → Reaction
+unfoldable pub received : List ℕ → CacheState → List ℕ → ℕ → CacheReaction
 received page s m room =
-    pick (panelRight page s) (pick (ltb room maxMessage) (refusal 3 s page) (inEnvelope page s m (envelopeIn m))) (refusal 2 s page)
+    pick (cacheRight page s) (pick (ltb room maxMessage) (refusal 3 s page) (inEnvelope page s m (envelopeIn m))) (refusal 2 s page)

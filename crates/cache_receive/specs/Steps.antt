@@ -4,19 +4,19 @@ use mathlib.Core.List.{List}
 use Prim.Native.Nat.{ℕ}
 use lib.Dec.{eqb, ltb, leb}
 use lib.ListN.{length}
-use Rattle.tlv.specs.Octet.{pick}
-use Rattle.envelope.specs.declared.Envelope.{Envelope}
-use Rattle.envelope.specs.declared.Envelope.the-variants.{Whole, Short}
-use Rattle.envelope.specs.Envelope.{envelopeIn, maxMessage}
-use Rattle.exchange.specs.Rules.{statusOpcode}
+use Rattle.tlv_reader.specs.Octet.{pick}
+use Rattle.im_envelope.specs.declared.Envelope.{Envelope}
+use Rattle.im_envelope.specs.declared.Envelope.the-variants.{Whole, Short}
+use Rattle.im_envelope.specs.Envelope.{envelopeIn, maxMessage}
+use Rattle.im_exchange.specs.Rules.{statusOpcode}
 use Rattle.cache_entries.specs.declared.Cached.{Cached}
-use Rattle.cache_report.specs.declared.block.Fate.{Fate}
+use Rattle.cache_report.specs.declared.block.Judgement.{Judgement}
 use Rattle.cache_report.specs.Words.{judgedBy, heldBy, pageBy}
 use Rattle.cache_state.specs.declared.Request.{Request}
-use Rattle.cache_state.specs.declared.State.{State}
-use Rattle.cache_state.specs.State.{panelRight}
+use Rattle.cache_state.specs.declared.CacheState.{CacheState}
+use Rattle.cache_state.specs.State.{cacheRight}
 use Rattle.cache_state.specs.Words.{wordsRight}
-use Rattle.cache_state.specs.Reaction.{Reaction, Silent}
+use Rattle.cache_state.specs.Reaction.{CacheReaction, Silent}
 use Rattle.cache_receive.specs.declared.Opened.{Opened}
 use Rattle.cache_receive.specs.Receive.{forCache, awaited, byStatus, byAnswer, goesOn, ends}
 
@@ -32,12 +32,12 @@ openedBy x m (Whole e) =
 unfoldable pub openedIn : Request → List ℕ → Opened
 openedIn x m = openedBy x m (envelopeIn m)
 
-unfoldable pub openedOf : List ℕ → List ℕ → State → List ℕ → ℕ → Opened
+unfoldable pub openedOf : List ℕ → List ℕ → CacheState → List ℕ → ℕ → Opened
 openedOf asked page s m room =
-    pick (wordsRight asked && panelRight page s) (pick (ltb room maxMessage) (shut 3) (openedIn (s .asked) m)) (shut 2)
+    pick (wordsRight asked && cacheRight page s) (pick (ltb room maxMessage) (shut 3) (openedIn (s .asked) m)) (shut 2)
 
 -- an awaited reply that is no part of a report
-unfoldable pub byReply : State → ℕ → List ℕ → Silent
+unfoldable pub byReply : CacheState → ℕ → List ℕ → Silent
 byReply s opcode payload = pick (eqb opcode statusOpcode) (byStatus s payload) (byAnswer s payload)
 
 -- the blocks of a part, judged and taken
@@ -46,13 +46,13 @@ pub record PartDone : Type 0 where
   pub held : Cached
   pub page : List ℕ
 
-abbrev pub numberBy : Cached → List Fate → ℕ
-numberBy c fates = judgedBy (record { number = 0; held = c }) fates .number
+abbrev pub numberBy : Cached → List Judgement → ℕ
+numberBy c judgements = judgedBy (record { number = 0; held = c }) judgements .number
 
-unfoldable pub partDone : List ℕ → Cached → List ℕ → List Fate → PartDone
-partDone s c page fates =
-    pick (eqb (numberBy c fates) 0) (record { number = 0; held = heldBy c fates; page = pageBy s c page fates }) (record { number = numberBy c fates; held = c; page = page })
+unfoldable pub partDone : List ℕ → Cached → List ℕ → List Judgement → PartDone
+partDone s c page judgements =
+    pick (eqb (numberBy c judgements) 0) (record { number = 0; held = heldBy c judgements; page = pageBy s c page judgements }) (record { number = numberBy c judgements; held = c; page = page })
 
 -- what follows a part that was taken
-unfoldable pub afterPart : Cached → Request → List ℕ → ℕ → Reaction
+unfoldable pub afterPart : Cached → Request → List ℕ → ℕ → CacheReaction
 afterPart held x page more = pick (eqb more 1) (goesOn held x page) (ends held x page)

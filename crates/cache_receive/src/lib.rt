@@ -4,19 +4,18 @@ ghost use mathlib.Core.Bool.{Bool, true, false};
 ghost use mathlib.Core.List.{List};
 ghost use Prim.Native.Nat.{ℕ, _≤_, _<_};
 ghost use lib.ListN.{length};
-ghost use Rattle.bounds.specs.Bounds.{maxPayload};
-ghost use Rattle.interaction_writer.specs.Envelope.{exchangeLimit};
-ghost use Rattle.envelope.specs.Envelope.{maxMessage};
-ghost use Rattle.interaction_report.specs.Kept.{maxBlocks};
+ghost use Rattle.base_bounds.specs.Bounds.{maxPayload};
+ghost use Rattle.im_writer.specs.Envelope.{exchangeLimit};
+ghost use Rattle.im_envelope.specs.Envelope.{maxMessage};
+ghost use Rattle.im_responses.specs.Kept.{maxBlocks};
 ghost use Rattle.cache_entries.specs.Entries.{heldOf};
 ghost use Rattle.cache_entries.specs.Valid.{heldRight};
-ghost use Rattle.cache_report.specs.Words.{fatesFrom};
-ghost use Rattle.cache_state.specs.State.{panelRight};
+ghost use Rattle.cache_report.specs.Words.{judgementsFrom};
+ghost use Rattle.cache_state.specs.State.{cacheRight};
 ghost use Rattle.cache_state.specs.Words.{askedSize, wordsRight, standingIn, requestOf, heldIn, stateWith, stateIn};
-ghost use Rattle.cache_state.specs.Reaction.{unsent, ofPanel, Reacted};
+ghost use Rattle.cache_state.specs.Reaction.{unsent, ofCache, CacheReacted};
 ghost use Rattle.cache_receive.specs.Receive.{forCache, opcodeAwaited, awaited, ofWrite, endedWith, byStatus, byAnswer, goesOn, ends, pastTurns, takesPart, received};
 ghost use Rattle.cache_receive.specs.Steps.{openedIn, openedOf, byReply, afterPart, PartDone, partDone};
-use blocks::Path;
 use cache_entries::CLUSTERS;
 use cache_entries::ENTRIES;
 use cache_entries::ORDER_SIZE;
@@ -28,6 +27,7 @@ use cache_report::part::take_part;
 use cache_report::set::Counts;
 use cache_state::ASKED_WORDS;
 use cache_state::BROKEN;
+use cache_state::CacheStanding;
 use cache_state::DONE;
 use cache_state::LAST_PART;
 use cache_state::NO_MESSAGE;
@@ -37,40 +37,40 @@ use cache_state::Outcome;
 use cache_state::READING;
 use cache_state::SMALL_BUFFER;
 use cache_state::STATUS;
-use cache_state::Standing;
 use cache_state::UNUSABLE;
 use cache_state::WRITING;
+use cache_state::cache_ok;
 use cache_state::is_open;
-use cache_state::panel_ok;
 use cache_state::refuse;
 use cache_state::words::keep;
 use cache_state::words::put_standing;
 use cache_state::words::read_standing;
-use envelope::Envelope;
-use envelope::Fields;
-use envelope::MAX_MESSAGE;
-use envelope::envelope_of;
-use exchange::FIRST_REPLY;
-use exchange::MAX_TURN;
-use exchange::REPORT;
-use exchange::WRITE_RESPONSE;
-use interaction::StatusResponse;
-use interaction::status_response;
-use interaction_answer::Answered;
-use interaction_answer::write_response;
-use interaction_report::kept::BLOCK_WORDS;
-use interaction_report::kept::BLOCKS;
-use interaction_report::kept::report_kept;
-use interaction_writer::envelope::PANEL_EDITION;
+use im_blocks::Path;
+use im_envelope::Envelope;
+use im_envelope::Fields;
+use im_envelope::MAX_MESSAGE;
+use im_envelope::envelope_of;
+use im_exchange::FIRST_REPLY;
+use im_exchange::MAX_TURN;
+use im_exchange::REPORT;
+use im_exchange::WRITE_RESPONSE;
+use im_requests::StatusResponse;
+use im_requests::status_response;
+use im_responses::answer::Answered;
+use im_responses::answer::write_response;
+use im_responses::kept::BLOCK_WORDS;
+use im_responses::kept::BLOCKS;
+use im_responses::kept::report_kept;
+use im_writer::envelope::CACHE_EDITION;
 
-// A panel takes opcodes 1, 5 and 7, in the edition of its own exchanges.
+// A cache takes opcodes 1, 5 and 7, in the edition of its own exchanges.
 fn is_for_cache(edition: u64, opcode: u64) -> bool
     ensures { λ r. ⌜ r ≡ forCache edition opcode ⌝ }
 {
-    if edition != PANEL_EDITION as u64 {
+    if edition != CACHE_EDITION as u64 {
         return false;
     }
-    if opcode == exchange::STATUS {
+    if opcode == im_exchange::STATUS {
         return true;
     }
     if opcode == REPORT {
@@ -83,7 +83,7 @@ fn is_for_cache(edition: u64, opcode: u64) -> bool
 fn opcode_awaited(stage: u64, e: Fields) -> bool
     ensures { λ r. ⌜ r ≡ opcodeAwaited stage e ⌝ }
 {
-    if e.opcode == exchange::STATUS {
+    if e.opcode == im_exchange::STATUS {
         return e.turn == FIRST_REPLY;
     }
     if e.opcode == REPORT {
@@ -93,7 +93,7 @@ fn opcode_awaited(stage: u64, e: Fields) -> bool
 }
 
 // The exchange, turn and opcode awaited.
-fn is_awaited(t: Standing, e: Fields) -> bool
+fn is_awaited(t: CacheStanding, e: Fields) -> bool
     ensures { λ r. ⌜ ((kept : List ℕ) → r ≡ awaited (requestOf t kept) e) ⌝ }
 {
     if !is_open(t.stage) {
@@ -121,7 +121,7 @@ fn shut(number: u8) -> Opened
 }
 
 // By its envelope: 4 or 5.
-fn open_envelope(t: Standing, message: &[u8]) -> Opened
+fn open_envelope(t: CacheStanding, message: &[u8]) -> Opened
     ensures { λ r. ⌜ ((kept : List ℕ) → r ≡ openedIn (requestOf t kept) (now (message .entry))) ⌝ }
 {
     let Envelope::Whole(e) = envelope_of(message) else {
@@ -153,13 +153,13 @@ fn open_message<'a>(
     order: &'a [u8; ORDER_SIZE],
     lengths: &'a [u16; TEXT_PLACES],
     asked: &'a [u64; ASKED_WORDS],
-    t: Standing,
+    t: CacheStanding,
     message: &'a [u8],
     room: usize,
 ) -> Opened
     ensures { λ r. ⌜ ((kept : List ℕ) → r ≡ openedOf (now (asked .entry)) (now (page .entry)) (stateWith (now (clusters .entry)) (now (keys .entry)) (now (versions .entry)) (now (kinds .entry)) (now (words .entry)) (now (order .entry)) (now (lengths .entry)) t kept) (now (message .entry)) room) ⌝ }
 {
-    if !panel_ok(
+    if !cache_ok(
         page,
         clusters,
         keys,
@@ -180,9 +180,9 @@ fn open_message<'a>(
 }
 
 // The request ends with a status; one of more than 8 bits is none.
-fn end_with(asked: &mut [u64; ASKED_WORDS], t: Standing, code: u64) -> Outcome
+fn end_with(asked: &mut [u64; ASKED_WORDS], t: CacheStanding, code: u64) -> Outcome
     requires { ⌜ (t ≡ standingIn (now asked)) × ((wordsRight (now asked) ≡ true) × (length (now asked) ≡ askedSize)) ⌝ }
-    ensures { λ r. ⌜ ((clusters keys versions kinds words order lengths kept page old : List ℕ) → Reacted (unsent (endedWith (stateWith clusters keys versions kinds words order lengths t kept) code) page) r (stateIn clusters keys versions kinds words order lengths (now (asked .exit)) kept) (now (asked .entry)) (now (asked .exit)) page old old) ⌝ }
+    ensures { λ r. ⌜ ((clusters keys versions kinds words order lengths kept page old : List ℕ) → CacheReacted (unsent (endedWith (stateWith clusters keys versions kinds words order lengths t kept) code) page) r (stateIn clusters keys versions kinds words order lengths (now (asked .exit)) kept) (now (asked .entry)) (now (asked .exit)) page old old) ⌝ }
 {
     if 256 <= code {
         return refuse(UNUSABLE);
@@ -198,9 +198,9 @@ fn end_with(asked: &mut [u64; ASKED_WORDS], t: Standing, code: u64) -> Outcome
 }
 
 // A Status Response to a request ends it with that status.
-fn take_status(asked: &mut [u64; ASKED_WORDS], t: Standing, payload: &[u8]) -> Outcome
+fn take_status(asked: &mut [u64; ASKED_WORDS], t: CacheStanding, payload: &[u8]) -> Outcome
     requires { ⌜ (t ≡ standingIn (now asked)) × ((wordsRight (now asked) ≡ true) × (length (now asked) ≡ askedSize)) ⌝ }
-    ensures { λ r. ⌜ ((clusters keys versions kinds words order lengths kept page old : List ℕ) → Reacted (unsent (byStatus (stateWith clusters keys versions kinds words order lengths t kept) (now (payload .entry))) page) r (stateIn clusters keys versions kinds words order lengths (now (asked .exit)) kept) (now (asked .entry)) (now (asked .exit)) page old old) ⌝ }
+    ensures { λ r. ⌜ ((clusters keys versions kinds words order lengths kept page old : List ℕ) → CacheReacted (unsent (byStatus (stateWith clusters keys versions kinds words order lengths t kept) (now (payload .entry))) page) r (stateIn clusters keys versions kinds words order lengths (now (asked .exit)) kept) (now (asked .entry)) (now (asked .exit)) page old old) ⌝ }
 {
     let StatusResponse::Code(code) = status_response(payload) else {
         return refuse(UNUSABLE);
@@ -209,10 +209,10 @@ fn take_status(asked: &mut [u64; ASKED_WORDS], t: Standing, payload: &[u8]) -> O
 }
 
 // The path that was written.
-fn is_of_write(t: Standing, p: Path) -> bool
+fn is_of_write(t: CacheStanding, p: Path) -> bool
     ensures { λ r. ⌜ ((kept : List ℕ) → r ≡ ofWrite (requestOf t kept) p) ⌝ }
 {
-    if !blocks::exact(p) {
+    if !im_blocks::exact(p) {
         return false;
     }
     if p.endpoint != t.endpoint {
@@ -225,9 +225,9 @@ fn is_of_write(t: Standing, p: Path) -> bool
 }
 
 // A Write Response ends the write with the status for its own path.
-fn take_answer(asked: &mut [u64; ASKED_WORDS], t: Standing, payload: &[u8]) -> Outcome
+fn take_answer(asked: &mut [u64; ASKED_WORDS], t: CacheStanding, payload: &[u8]) -> Outcome
     requires { ⌜ (t ≡ standingIn (now asked)) × ((wordsRight (now asked) ≡ true) × (length (now asked) ≡ askedSize)) ⌝ }
-    ensures { λ r. ⌜ ((clusters keys versions kinds words order lengths kept page old : List ℕ) → Reacted (unsent (byAnswer (stateWith clusters keys versions kinds words order lengths t kept) (now (payload .entry))) page) r (stateIn clusters keys versions kinds words order lengths (now (asked .exit)) kept) (now (asked .entry)) (now (asked .exit)) page old old) ⌝ }
+    ensures { λ r. ⌜ ((clusters keys versions kinds words order lengths kept page old : List ℕ) → CacheReacted (unsent (byAnswer (stateWith clusters keys versions kinds words order lengths t kept) (now (payload .entry))) page) r (stateIn clusters keys versions kinds words order lengths (now (asked .exit)) kept) (now (asked .entry)) (now (asked .exit)) page old old) ⌝ }
 {
     let Answered::One(x) = write_response(payload) else {
         return refuse(UNUSABLE);
@@ -240,11 +240,16 @@ fn take_answer(asked: &mut [u64; ASKED_WORDS], t: Standing, payload: &[u8]) -> O
 }
 
 // An awaited reply that is no part of a report.
-fn take_reply(asked: &mut [u64; ASKED_WORDS], t: Standing, opcode: u64, payload: &[u8]) -> Outcome
+fn take_reply(
+    asked: &mut [u64; ASKED_WORDS],
+    t: CacheStanding,
+    opcode: u64,
+    payload: &[u8],
+) -> Outcome
     requires { ⌜ (t ≡ standingIn (now asked)) × ((wordsRight (now asked) ≡ true) × (length (now asked) ≡ askedSize)) ⌝ }
-    ensures { λ r. ⌜ ((clusters keys versions kinds words order lengths kept page old : List ℕ) → Reacted (unsent (byReply (stateWith clusters keys versions kinds words order lengths t kept) opcode (now (payload .entry))) page) r (stateIn clusters keys versions kinds words order lengths (now (asked .exit)) kept) (now (asked .entry)) (now (asked .exit)) page old old) ⌝ }
+    ensures { λ r. ⌜ ((clusters keys versions kinds words order lengths kept page old : List ℕ) → CacheReacted (unsent (byReply (stateWith clusters keys versions kinds words order lengths t kept) opcode (now (payload .entry))) page) r (stateIn clusters keys versions kinds words order lengths (now (asked .exit)) kept) (now (asked .entry)) (now (asked .exit)) page old old) ⌝ }
 {
-    if opcode == exchange::STATUS {
+    if opcode == im_exchange::STATUS {
         return take_status(asked, t, payload);
     }
     take_answer(asked, t, payload)
@@ -254,13 +259,13 @@ fn take_reply(asked: &mut [u64; ASKED_WORDS], t: Standing, opcode: u64, payload:
 fn go_on(
     asked: &mut [u64; ASKED_WORDS],
     kept: &mut [u8; MAX_MESSAGE],
-    t: Standing,
+    t: CacheStanding,
     out: &mut [u8],
 ) -> Outcome
     requires { ⌜ (wordsRight (now asked) ≡ true) × ((length (now asked) ≡ askedSize) × ((t .primed ≤ 1) × ((t .exchange < exchangeLimit) × ((t .turn < 65535) × (maxMessage ≤ length (now out)))))) ⌝ }
-    ensures { λ r. ⌜ ((clusters keys versions kinds words order lengths page : List ℕ) → Reacted (goesOn (heldIn clusters keys versions kinds words order lengths t) (requestOf t (now (kept .entry))) page) r (stateIn clusters keys versions kinds words order lengths (now (asked .exit)) (now (kept .exit))) (now (asked .entry)) (now (asked .exit)) page (now (out .entry)) (now (out .exit))) ⌝ }
+    ensures { λ r. ⌜ ((clusters keys versions kinds words order lengths page : List ℕ) → CacheReacted (goesOn (heldIn clusters keys versions kinds words order lengths t) (requestOf t (now (kept .entry))) page) r (stateIn clusters keys versions kinds words order lengths (now (asked .exit)) (now (kept .exit))) (now (asked .entry)) (now (asked .exit)) page (now (out .entry)) (now (out .exit))) ⌝ }
 {
-    let end = put_success(out, PANEL_EDITION, t.exchange, t.turn as u16);
+    let end = put_success(out, CACHE_EDITION, t.exchange, t.turn as u16);
     keep(kept, &out[0..end]);
     let mut next = t;
     next.turn = t.turn + 1;
@@ -272,10 +277,10 @@ fn go_on(
     }
 }
 
-// The last part was taken: the read has ended, and the panel is primed.
-fn end_read(asked: &mut [u64; ASKED_WORDS], t: Standing) -> Outcome
+// The last part was taken: the read has ended, and the cache is primed.
+fn end_read(asked: &mut [u64; ASKED_WORDS], t: CacheStanding) -> Outcome
     requires { ⌜ (wordsRight (now asked) ≡ true) × (length (now asked) ≡ askedSize) ⌝ }
-    ensures { λ r. ⌜ ((clusters keys versions kinds words order lengths kept page old : List ℕ) → Reacted (ends (heldIn clusters keys versions kinds words order lengths t) (requestOf t kept) page) r (stateIn clusters keys versions kinds words order lengths (now (asked .exit)) kept) (now (asked .entry)) (now (asked .exit)) page old old) ⌝ }
+    ensures { λ r. ⌜ ((clusters keys versions kinds words order lengths kept page old : List ℕ) → CacheReacted (ends (heldIn clusters keys versions kinds words order lengths t) (requestOf t kept) page) r (stateIn clusters keys versions kinds words order lengths (now (asked .exit)) kept) (now (asked .entry)) (now (asked .exit)) page old old) ⌝ }
 {
     let mut next = t;
     next.primed = 1;
@@ -302,12 +307,12 @@ fn is_past_turns(more: u64, turn: u64) -> bool
 fn after_part(
     asked: &mut [u64; ASKED_WORDS],
     kept: &mut [u8; MAX_MESSAGE],
-    t: Standing,
+    t: CacheStanding,
     more: u64,
     out: &mut [u8],
 ) -> Outcome
     requires { ⌜ (wordsRight (now asked) ≡ true) × ((length (now asked) ≡ askedSize) × ((t .primed ≤ 1) × ((t .exchange < exchangeLimit) × ((t .turn < 65536) × ((pastTurns more (t .turn) ≡ false) × (maxMessage ≤ length (now out))))))) ⌝ }
-    ensures { λ r. ⌜ ((clusters keys versions kinds words order lengths page : List ℕ) → Reacted (afterPart (heldIn clusters keys versions kinds words order lengths t) (requestOf t (now (kept .entry))) page more) r (stateIn clusters keys versions kinds words order lengths (now (asked .exit)) (now (kept .exit))) (now (asked .entry)) (now (asked .exit)) page (now (out .entry)) (now (out .exit))) ⌝ }
+    ensures { λ r. ⌜ ((clusters keys versions kinds words order lengths page : List ℕ) → CacheReacted (afterPart (heldIn clusters keys versions kinds words order lengths t) (requestOf t (now (kept .entry))) page more) r (stateIn clusters keys versions kinds words order lengths (now (asked .exit)) (now (kept .exit))) (now (asked .entry)) (now (asked .exit)) page (now (out .entry)) (now (out .exit))) ⌝ }
 {
     if more == 1 {
         return go_on(asked, kept, t, out);
@@ -316,7 +321,7 @@ fn after_part(
 }
 
 // The number of a part, and how many clusters and entries there are after it.
-pub struct Filled {
+pub struct PartTaken {
     pub number: u8,
     pub counts: Counts,
 }
@@ -335,12 +340,12 @@ fn take_blocks(
     payload: &[u8],
     blocks: &[u64; BLOCK_WORDS],
     count: usize,
-) -> Filled
+) -> PartTaken
     requires { ⌜ (count ≤ maxBlocks) × ((primed : Bool) → heldRight (now page) (heldOf (now clusters) (now keys) (now versions) (now kinds) (now words) (now order) (now lengths) (counts .clusters) (counts .entries) primed) ≡ true) ⌝ }
-    ensures { λ r. ⌜ ((primed : Bool) → _≡_ {A = PartDone} (record { number = r .number; held = heldOf (now (clusters .exit)) (now (keys .exit)) (now (versions .exit)) (now (kinds .exit)) (now (words .exit)) (now (order .exit)) (now (lengths .exit)) (r .counts .clusters) (r .counts .entries) primed; page = (now (page .exit)) }) (partDone (now (payload .entry)) (heldOf (now (clusters .entry)) (now (keys .entry)) (now (versions .entry)) (now (kinds .entry)) (now (words .entry)) (now (order .entry)) (now (lengths .entry)) (counts .clusters) (counts .entries) primed) (now (page .entry)) (fatesFrom (now (payload .entry)) (now (blocks .entry)) count 0))) ⌝ }
+    ensures { λ r. ⌜ ((primed : Bool) → _≡_ {A = PartDone} (record { number = r .number; held = heldOf (now (clusters .exit)) (now (keys .exit)) (now (versions .exit)) (now (kinds .exit)) (now (words .exit)) (now (order .exit)) (now (lengths .exit)) (r .counts .clusters) (r .counts .entries) primed; page = (now (page .exit)) }) (partDone (now (payload .entry)) (heldOf (now (clusters .entry)) (now (keys .entry)) (now (versions .entry)) (now (kinds .entry)) (now (words .entry)) (now (order .entry)) (now (lengths .entry)) (counts .clusters) (counts .entries) primed) (now (page .entry)) (judgementsFrom (now (payload .entry)) (now (blocks .entry)) count 0))) ⌝ }
 {
     columns_whole(clusters, keys, versions, kinds, words, order, lengths);
-    let mut spots = [0u64; BLOCKS];
+    let mut positions = [0u64; BLOCKS];
     let number = judge_part(
         payload,
         blocks,
@@ -349,16 +354,16 @@ fn take_blocks(
         keys,
         order,
         counts,
-        &mut spots,
+        &mut positions,
     );
     if number != DONE {
-        return Filled { number, counts };
+        return PartTaken { number, counts };
     }
     let counts = take_part(
         payload,
         blocks,
         count,
-        &spots,
+        &positions,
         clusters,
         keys,
         versions,
@@ -369,7 +374,7 @@ fn take_blocks(
         page,
         counts,
     );
-    Filled { number, counts }
+    PartTaken { number, counts }
 }
 
 // A part of a report.
@@ -384,12 +389,12 @@ fn take_report(
     lengths: &mut [u16; TEXT_PLACES],
     asked: &mut [u64; ASKED_WORDS],
     kept: &mut [u8; MAX_MESSAGE],
-    t: Standing,
+    t: CacheStanding,
     payload: &[u8],
     out: &mut [u8],
 ) -> Outcome
-    requires { ⌜ (t ≡ standingIn (now asked)) × ((wordsRight (now asked) ≡ true) × ((length (now asked) ≡ askedSize) × ((panelRight (now page) (stateWith (now clusters) (now keys) (now versions) (now kinds) (now words) (now order) (now lengths) t (now kept)) ≡ true) × ((length (now payload) ≤ maxPayload) × (maxMessage ≤ length (now out)))))) ⌝ }
-    ensures { λ r. ⌜ Reacted (takesPart (now (page .entry)) (stateWith (now (clusters .entry)) (now (keys .entry)) (now (versions .entry)) (now (kinds .entry)) (now (words .entry)) (now (order .entry)) (now (lengths .entry)) t (now (kept .entry))) (now (payload .entry))) r (stateIn (now (clusters .exit)) (now (keys .exit)) (now (versions .exit)) (now (kinds .exit)) (now (words .exit)) (now (order .exit)) (now (lengths .exit)) (now (asked .exit)) (now (kept .exit))) (now (asked .entry)) (now (asked .exit)) (now (page .exit)) (now (out .entry)) (now (out .exit)) ⌝ }
+    requires { ⌜ (t ≡ standingIn (now asked)) × ((wordsRight (now asked) ≡ true) × ((length (now asked) ≡ askedSize) × ((cacheRight (now page) (stateWith (now clusters) (now keys) (now versions) (now kinds) (now words) (now order) (now lengths) t (now kept)) ≡ true) × ((length (now payload) ≤ maxPayload) × (maxMessage ≤ length (now out)))))) ⌝ }
+    ensures { λ r. ⌜ CacheReacted (takesPart (now (page .entry)) (stateWith (now (clusters .entry)) (now (keys .entry)) (now (versions .entry)) (now (kinds .entry)) (now (words .entry)) (now (order .entry)) (now (lengths .entry)) t (now (kept .entry))) (now (payload .entry))) r (stateIn (now (clusters .exit)) (now (keys .exit)) (now (versions .exit)) (now (kinds .exit)) (now (words .exit)) (now (order .exit)) (now (lengths .exit)) (now (asked .exit)) (now (kept .exit))) (now (asked .entry)) (now (asked .exit)) (now (page .exit)) (now (out .entry)) (now (out .exit)) ⌝ }
 {
     let mut blocks = [0u64; BLOCK_WORDS];
     let p = report_kept(payload, &mut blocks);
@@ -426,7 +431,7 @@ fn take_report(
     after_part(asked, kept, next, p.more, out)
 }
 
-// A message from the sign: any bytes, any buffer, any memory.
+// A message from the server: any bytes, any buffer, any memory.
 pub fn receive(
     page: &mut [u8],
     clusters: &mut [u64; CLUSTERS],
@@ -441,7 +446,7 @@ pub fn receive(
     message: &[u8],
     out: &mut [u8],
 ) -> Outcome
-    ensures { λ r. ⌜ Reacted (ofPanel (now (asked .entry)) (now (page .entry)) (stateIn (now (clusters .entry)) (now (keys .entry)) (now (versions .entry)) (now (kinds .entry)) (now (words .entry)) (now (order .entry)) (now (lengths .entry)) (now (asked .entry)) (now (kept .entry))) (received (now (page .entry)) (stateIn (now (clusters .entry)) (now (keys .entry)) (now (versions .entry)) (now (kinds .entry)) (now (words .entry)) (now (order .entry)) (now (lengths .entry)) (now (asked .entry)) (now (kept .entry))) (now (message .entry)) (length (now (out .entry))))) r (stateIn (now (clusters .exit)) (now (keys .exit)) (now (versions .exit)) (now (kinds .exit)) (now (words .exit)) (now (order .exit)) (now (lengths .exit)) (now (asked .exit)) (now (kept .exit))) (now (asked .entry)) (now (asked .exit)) (now (page .exit)) (now (out .entry)) (now (out .exit)) ⌝ }
+    ensures { λ r. ⌜ CacheReacted (ofCache (now (asked .entry)) (now (page .entry)) (stateIn (now (clusters .entry)) (now (keys .entry)) (now (versions .entry)) (now (kinds .entry)) (now (words .entry)) (now (order .entry)) (now (lengths .entry)) (now (asked .entry)) (now (kept .entry))) (received (now (page .entry)) (stateIn (now (clusters .entry)) (now (keys .entry)) (now (versions .entry)) (now (kinds .entry)) (now (words .entry)) (now (order .entry)) (now (lengths .entry)) (now (asked .entry)) (now (kept .entry))) (now (message .entry)) (length (now (out .entry))))) r (stateIn (now (clusters .exit)) (now (keys .exit)) (now (versions .exit)) (now (kinds .exit)) (now (words .exit)) (now (order .exit)) (now (lengths .exit)) (now (asked .exit)) (now (kept .exit))) (now (asked .entry)) (now (asked .exit)) (now (page .exit)) (now (out .entry)) (now (out .exit)) ⌝ }
 {
     let t = read_standing(asked);
     let room = out.len();
@@ -462,7 +467,7 @@ pub fn receive(
     if x.number != DONE {
         return refuse(x.number);
     }
-    let payload = &message[envelope::LENGTH..message.len()];
+    let payload = &message[im_envelope::LENGTH..message.len()];
     if x.opcode == REPORT {
         return take_report(
             page,

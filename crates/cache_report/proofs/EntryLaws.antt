@@ -5,8 +5,8 @@ use mathlib.Core.List.{List}
 use Prim.Native.Nat.{ℕ, _≤_, _<_}
 use native.Mathlib.Omega.{arith}
 use lib.Dec.{eqb}
-use Rattle.tlv.specs.declared.Value.{Value}
-use Rattle.tlv.specs.declared.Value.the-variants as value
+use Rattle.tlv_reader.specs.declared.Value.{Value}
+use Rattle.tlv_reader.specs.declared.Value.the-variants as value
 use Rattle.cache_entries.specs.declared.Cached.{Cached}
 use Rattle.cache_entries.specs.declared.set.Placed.{Placed}
 use Rattle.cache_entries.specs.declared.set.Placed.the-variants as placed
@@ -14,21 +14,21 @@ use Rattle.cache_entries.specs.Limits.{maxEntries, maxClusters, textKind}
 use Rattle.cache_entries.specs.Entries.{clusterWord, keyWord}
 use Rattle.cache_entries.specs.Set.{clusterPlace, entryPlace}
 use Rattle.cache_entries.proofs.SetLaws.{placed-below}
-use Rattle.cache_report.specs.declared.block.Item.{Item}
-use Rattle.cache_report.specs.declared.spot.Spot.the-variants.{At}
-use Rattle.cache_report.specs.Entry.{atEntry, entrySpot, atCluster, spotOf, kindV, textStored}
+use Rattle.cache_report.specs.declared.block.NewEntry.{NewEntry}
+use Rattle.cache_report.specs.declared.position.Position.the-variants.{At}
+use Rattle.cache_report.specs.Entry.{atEntry, entryPosition, atCluster, positionOf, kindV, textStored}
 
 never : {A : Type 0} → _≡_ {A = ℕ} 0 1 → A
 never e = absurd (omega arith)
 
 -- the places that an item goes to
-pub record Goes (c : Cached) (x : Item) (k i : ℕ) : Type 0 where
+pub record Goes (c : Cached) (x : NewEntry) (k i : ℕ) : Type 0 where
   pub cluster : clusterPlace c (clusterWord (x .endpoint) (x .cluster)) ≡ placed.Here k
   pub entry : entryPlace c (keyWord k (x .attribute)) ≡ placed.Here i
 
-pub spot-goes : (c : Cached) (x : Item) (k i : ℕ) → spotOf c x ≡ At k i → Goes c x k i
-unfolding spotOf entrySpot
-spot-goes c x k i e = go (clusterPlace c (clusterWord (x .endpoint) (x .cluster))) refl e
+pub position-goes : (c : Cached) (x : NewEntry) (k i : ℕ) → positionOf c x ≡ At k i → Goes c x k i
+unfolding positionOf entryPosition
+position-goes c x k i e = go (clusterPlace c (clusterWord (x .endpoint) (x .cluster))) refl e
   where
     entry : (m : ℕ) (p : Placed) → clusterPlace c (clusterWord (x .endpoint) (x .cluster)) ≡ placed.Here m → entryPlace c (keyWord m (x .attribute)) ≡ p → atEntry m p ≡ At k i → Goes c x k i
     entry m (placed.Here j) a b q =
@@ -46,10 +46,10 @@ pub record Below (k i : ℕ) : Type 0 where
   pub cluster : k < maxClusters
   pub entry : i < maxEntries
 
-pub spot-below : (c : Cached) → c .«cluster_count» ≤ maxClusters → c .count ≤ maxEntries → (x : Item) (k i : ℕ) → spotOf c x ≡ At k i → Below k i
+pub position-below : (c : Cached) → c .«cluster_count» ≤ maxClusters → c .count ≤ maxEntries → (x : NewEntry) (k i : ℕ) → positionOf c x ≡ At k i → Below k i
 unfolding clusterPlace entryPlace
-spot-below c few-clusters few-entries x k i e =
-    let goes = spot-goes c x k i e in
+position-below c few-clusters few-entries x k i e =
+    let goes = position-goes c x k i e in
     record {
       cluster = placed-below (c .clusters) (c .«cluster_count») maxClusters (clusterWord (x .endpoint) (x .cluster)) k few-clusters (goes .cluster);
       entry = placed-below (c .keys) (c .count) maxEntries (keyWord k (x .attribute)) i few-entries (goes .entry);

@@ -8,27 +8,27 @@ use borrow.Author.Tests.{eq-eqb}
 use types.Run.{miss}
 use lib.Dec.{eqb}
 use lib.ListN.{set}
-use Rattle.tlv.specs.declared.Value.{Value}
-use Rattle.tlv.specs.declared.Value.the-variants as value
-use Rattle.tlv.specs.Octet.{pick}
-use Rattle.kinds.specs.Stored.{wordOf}
-use Rattle.schema.proofs.BoolLaws.{by-test}
-use Rattle.ordered.specs.Order.{orderRight}
+use Rattle.tlv_reader.specs.declared.Value.{Value}
+use Rattle.tlv_reader.specs.declared.Value.the-variants as value
+use Rattle.tlv_reader.specs.Octet.{pick}
+use Rattle.node_kinds.specs.Stored.{wordOf}
+use Rattle.node_schema.proofs.BoolLaws.{by-test}
+use Rattle.cache_order.specs.Order.{orderRight}
 use Rattle.cache_entries.specs.declared.Cached.{Cached}
 use Rattle.cache_entries.specs.Limits.{maxEntries, maxClusters, textPlaces, half, textKind}
 use Rattle.cache_entries.specs.Entries.{clusterOrder, clusterWord, keyWord}
 use Rattle.cache_entries.specs.Texts.{textPlace, Marked, Own}
 use Rattle.cache_entries.specs.Set.{clusterPlace, entryPlace, countWith, withCluster, withEntry}
-use Rattle.cache_entries.specs.Valid.{Whole}
+use Rattle.cache_entries.specs.Valid.{ColumnsSized}
 use Rattle.cache_entries.proofs.OrderWithLaws.{cluster-orders}
 use Rattle.cache_entries.proofs.SetLaws.{placed-next}
 use Rattle.cache_entries.proofs.TextLaws.{place-own}
 use Rattle.cache_entries.proofs.ValidLaws.{RightHeld}
 use Rattle.cache_entries.proofs.ValueLaws.{NoText}
-use Rattle.cache_report.specs.declared.spot.Spot.the-variants.{At}
-use Rattle.cache_report.specs.Entry.{spotOf, kindV, wordAs, withItem, textStored}
+use Rattle.cache_report.specs.declared.position.Position.the-variants.{At}
+use Rattle.cache_report.specs.Entry.{positionOf, kindV, wordAs, withItem, textStored}
 use Rattle.cache_report.specs.Words.{itemWords, lengthV}
-use Rattle.cache_report.proofs.EntryLaws.{spot-goes, spot-below, Form, form}
+use Rattle.cache_report.proofs.EntryLaws.{position-goes, position-below, Form, form}
 use Rattle.cache_report.proofs.EntryLaws.Form.{text, plain}
 use Rattle.cache_report.proofs.RightLaws.{text-word}
 use Rattle.cache_report.proofs.FrameLaws.{word-back}
@@ -72,11 +72,11 @@ pub record Ready (c : Cached) (k i word : ℕ) : Type 0 where
   pub entry-order : orderRight (c .keys) (withCluster c k word .order) (c .count) ≡ true
   pub own : Own (c .kinds) (c .words) (c .count) i (textPlace c i)
 
-pub ready : (page : List ℕ) (c : Cached) → RightHeld page c → Whole c → (a b : ℕ) (v : Value) (k i : ℕ) → spotOf c (itemWords a b v) ≡ At k i → Ready c k i a
+pub ready : (page : List ℕ) (c : Cached) → RightHeld page c → ColumnsSized c → (a b : ℕ) (v : Value) (k i : ℕ) → positionOf c (itemWords a b v) ≡ At k i → Ready c k i a
 unfolding clusterPlace entryPlace withCluster
-ready page c r w a b v k i spot =
-    let goes = spot-goes c (itemWords a b v) k i spot in
-    let low = spot-below c (r .few-clusters) (r .few-entries) (itemWords a b v) k i spot in
+ready page c r w a b v k i position =
+    let goes = position-goes c (itemWords a b v) k i position in
+    let low = position-below c (r .few-clusters) (r .few-entries) (itemWords a b v) k i position in
     let cluster = ap (clusterPlace c) (sym (word-back a)) ∙ goes .cluster in
     let orders = cluster-orders c (record { size = w .order; clusters = r .cluster-order; entries = r .entry-order }) (w .clusters) (r .few-entries) k a (low .cluster) cluster in
     record {

@@ -1,10 +1,10 @@
 pub mod EntryLaws
 pub mod RightLaws
 pub mod MapLaws
-pub mod FateLaws
+pub mod JudgementLaws
 pub mod FrameLaws
 pub mod ItemLaws
-pub mod SpotLaws
+pub mod PositionLaws
 pub mod PlacingLaws
 pub mod TakeLaws
 pub mod JudgeLaws

@@ -1,4 +1,4 @@
--- SETTING AN ENTRY CHANGES THAT ENTRY ALONE: what the panel has for the path of a block is what the block says, and for every other path what it had.
+-- SETTING AN ENTRY CHANGES THAT ENTRY ALONE: what the cache has for the path of a block is what the block says, and for every other path what it had.
 use mathlib.Core.Path.{_≡_, refl, sym, ap, _∙_}
 use mathlib.Core.Bool.{true, false}
 use mathlib.Core.List.{List}
@@ -10,29 +10,29 @@ use lib.ListN.{getD, set, take, drop}
 use lib.Seq.{getD-set-same}
 use mir.Syntax.{w64}
 use mir.ValLaws.{toZ-ofZ}
-use Rattle.tlv.specs.declared.Value.{Value}
-use Rattle.tlv.specs.declared.Value.the-variants as value
-use Rattle.tlv.specs.Decode.Opt.{just}
-use Rattle.tlv.specs.Value.{Datum, datumIn}
-use Rattle.kinds.specs.Stored.{wordOf}
-use Rattle.kinds.proofs.StoredLaws.{Sized}
-use Rattle.schema.specs.declared.Found.{Found}
-use Rattle.schema.specs.declared.Found.the-variants as found
-use Rattle.schema.proofs.BoolLaws.{by-test}
+use Rattle.tlv_reader.specs.declared.Value.{Value}
+use Rattle.tlv_reader.specs.declared.Value.the-variants as value
+use Rattle.tlv_reader.specs.Decode.Opt.{just}
+use Rattle.tlv_reader.specs.Value.{Datum, datumIn}
+use Rattle.node_kinds.specs.Stored.{wordOf}
+use Rattle.node_kinds.proofs.StoredLaws.{Sized}
+use Rattle.node_schema.specs.declared.Found.{Found}
+use Rattle.node_schema.specs.declared.Found.the-variants as found
+use Rattle.node_schema.proofs.BoolLaws.{by-test}
 use Rattle.cache_entries.specs.declared.Cached.{Cached}
 use Rattle.cache_entries.specs.Limits.{maxEntries, maxClusters, half, nullKind, booleanKind, unsignedKind, signedKind, floatKind, textKind}
 use Rattle.cache_entries.specs.Entries.{clusterWord, keyWord, clusterAt, entryAt, textIn, datumBy, entryOf, atEntry, inCluster, pathAt, lookup}
 use Rattle.cache_entries.specs.Texts.{textPlace}
 use Rattle.cache_entries.specs.Set.{clusterPlace, entryPlace, countWith, withCluster, withEntry}
-use Rattle.cache_entries.specs.Valid.{wordRight, Whole}
+use Rattle.cache_entries.specs.Valid.{wordRight, ColumnsSized}
 use Rattle.cache_entries.proofs.SetLaws.{word-stands, Put, put, others-found, word-found}
 use Rattle.cache_entries.proofs.SetLaws.Put.{old, new}
 use Rattle.cache_entries.proofs.ValidLaws.{RightHeld, key-below, entry-word}
-use Rattle.cache_report.specs.declared.block.Item.{Item}
-use Rattle.cache_report.specs.declared.spot.Spot.the-variants.{At}
+use Rattle.cache_report.specs.declared.block.NewEntry.{NewEntry}
+use Rattle.cache_report.specs.declared.position.Position.the-variants.{At}
 use Rattle.cache_entries.specs.Values.{usableIn}
-use Rattle.cache_report.specs.Entry.{spotOf, kindV, wordAs, withItem, textStored}
-use Rattle.cache_report.proofs.EntryLaws.{Goes, spot-goes, Below, spot-below}
+use Rattle.cache_report.specs.Entry.{positionOf, kindV, wordAs, withItem, textStored}
+use Rattle.cache_report.proofs.EntryLaws.{Goes, position-goes, Below, position-below}
 use Rattle.cache_report.proofs.RightLaws.{ItemRight, Row, own-row, other-row, text-set, shown-stays}
 
 never : {A : Type 0} → _≡_ {A = ℕ} 0 1 → A
@@ -60,12 +60,12 @@ datum-same kind word a b same h =
     (λ r. by-test (eqb kind signedKind) (λ t. rw (p, q, r, t) refl)
     (λ s. by-test (eqb kind floatKind) (λ t. rw (p, q, r, s, t) refl) (λ t. ap (datumBy kind word) (same (rw (p, q, r, s, t) at h)))))))
 
-module _ (s page : List ℕ) (c : Cached) (x : Item) (k i : ℕ) (item : ItemRight s x) (r : RightHeld page c) (w : Whole c) (spot : spotOf c x ≡ At k i) where
+module _ (s page : List ℕ) (c : Cached) (x : NewEntry) (k i : ℕ) (item : ItemRight s x) (r : RightHeld page c) (w : ColumnsSized c) (position : positionOf c x ≡ At k i) where
   low : Below k i
-  low = spot-below c (r .few-clusters) (r .few-entries) x k i spot
+  low = position-below c (r .few-clusters) (r .few-entries) x k i position
 
   goes : Goes c x k i
-  goes = spot-goes c x k i spot
+  goes = position-goes c x k i position
 
   abbrev next : Cached
   next = withItem c k i x
@@ -103,13 +103,13 @@ module _ (s page : List ℕ) (c : Cached) (x : Item) (k i : ℕ) (item : ItemRig
       place = textPlace c i
 
       row : Row next i key (x .version) (kindV (x .value)) (wordAs place (x .value))
-      row = own-row s page c x k i item r w spot
+      row = own-row s page c x k i item r w position
 
       kept : entryOf next after i .value ≡ datumBy (kindV (x .value)) (wordAs place (x .value)) (textIn after (next .lengths) (wordAs place (x .value)))
       kept p = datumBy (row .kind p) (row .word p) (textIn after (next .lengths) (row .word p))
 
       shown : (a n : ℕ) → x .value ≡ value.Text a n → textIn after (next .lengths) (wordAs place (x .value)) ≡ take n (drop a s)
-      shown a n e = ap (λ (v : Value). textIn after (next .lengths) (wordAs place v)) e ∙ text-set s page c x k i item r w spot a n e
+      shown a n e = ap (λ (v : Value). textIn after (next .lengths) (wordAs place v)) e ∙ text-set s page c x k i item r w position a n e
 
   -- THE PATH OF THE BLOCK
   pub set-same : lookup next after (x .endpoint) (x .cluster) (x .attribute) ≡ just (record { version = x .version; value = datumIn s (x .value) })
@@ -119,10 +119,10 @@ module _ (s page : List ℕ) (c : Cached) (x : Item) (k i : ℕ) (item : ItemRig
   -- another entry that is found stands elsewhere
   elsewhere : (y j : ℕ) → (y ≡ key → ⊥) → entryAt next y ≡ found.At j → j ≡ i → ⊥
   elsewhere y j apart e q =
-      apart (sym (word-stands (next .keys) (next .count) y j e .1) ∙ ap (λ (n : ℕ). getD (next .keys) n 0) q ∙ own-row s page c x k i item r w spot .key)
+      apart (sym (word-stands (next .keys) (next .count) y j e .1) ∙ ap (λ (n : ℕ). getD (next .keys) n 0) q ∙ own-row s page c x k i item r w position .key)
 
   other-entry : (j : ℕ) → (j ≡ i → ⊥) → j < c .count → entryOf next after j ≡ entryOf c page j
-  other-entry j apart l p = record { version = row .version p; value = (moved ∙ datum-same kind bits (textIn after (next .lengths) bits) (textIn page (c .lengths) bits) (shown-stays s page c x k i item r w spot j l apart) (entry-word c (r .entries) j l)) p }
+  other-entry j apart l p = record { version = row .version p; value = (moved ∙ datum-same kind bits (textIn after (next .lengths) bits) (textIn page (c .lengths) bits) (shown-stays s page c x k i item r w position j l apart) (entry-word c (r .entries) j l)) p }
     where
       kind : ℕ
       kind = getD (c .kinds) j 0
@@ -131,7 +131,7 @@ module _ (s page : List ℕ) (c : Cached) (x : Item) (k i : ℕ) (item : ItemRig
       bits = getD (c .words) j 0
 
       row : Row next j (getD (c .keys) j 0) (getD (c .versions) j 0) kind bits
-      row = other-row s page c x k i item r w spot j apart
+      row = other-row s page c x k i item r w position j apart
 
       moved : entryOf next after j .value ≡ datumBy kind bits (textIn after (next .lengths) bits)
       moved p = datumBy (row .kind p) (row .word p) (textIn after (next .lengths) (row .word p))

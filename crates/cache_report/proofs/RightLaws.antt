@@ -8,51 +8,51 @@ use borrow.Author.Tests.{lt-ltb, le-leb, ltb-true, ltb-false, eqb-true, eqb-fals
 use lib.Dec.{ltb, leb, eqb}
 use lib.ListN.{length, getD, set, take, drop, length-set, length-take, length-drop}
 use lib.Seq.{getD-set-same, getD-set-other, length-take-le}
-use Rattle.octets.specs.Store.{store}
-use Rattle.octets.proofs.StoreLaws.{length-store, store-back, part-after, part-before}
-use Rattle.tlv.specs.declared.Value.{Value}
-use Rattle.tlv.specs.declared.Value.the-variants as value
-use Rattle.tlv.specs.Octet.{pick}
-use Rattle.tlv.specs.Value.{valueIn}
-use Rattle.utf8.specs.WellFormed.{wellFormed}
-use Rattle.kinds.specs.Stored.{wordOf}
-use Rattle.kinds.proofs.StoredLaws.{Sized}
-use Rattle.kinds.proofs.SizedLaws.{value-in-sized}
-use Rattle.blocks.specs.declared.Report.{Report}
-use Rattle.blocks.specs.declared.Report.the-variants as report
-use Rattle.blocks.specs.Data.{ReportOf, reportStruct}
-use Rattle.schema.proofs.BoolLaws.{both, right, by-test}
-use Rattle.schema.proofs.CheckLaws.{every-all}
+use Rattle.base_octets.specs.Store.{store}
+use Rattle.base_octets.proofs.StoreLaws.{length-store, store-back, part-after, part-before}
+use Rattle.tlv_reader.specs.declared.Value.{Value}
+use Rattle.tlv_reader.specs.declared.Value.the-variants as value
+use Rattle.tlv_reader.specs.Octet.{pick}
+use Rattle.tlv_reader.specs.Value.{valueIn}
+use Rattle.base_utf8.specs.WellFormed.{wellFormed}
+use Rattle.node_kinds.specs.Stored.{wordOf}
+use Rattle.node_kinds.proofs.StoredLaws.{Sized}
+use Rattle.node_kinds.proofs.SizedLaws.{value-in-sized}
+use Rattle.im_blocks.specs.declared.Report.{Report}
+use Rattle.im_blocks.specs.declared.Report.the-variants as report
+use Rattle.im_blocks.specs.Data.{ReportOf, reportStruct}
+use Rattle.node_schema.proofs.BoolLaws.{both, right, by-test}
+use Rattle.node_schema.proofs.CheckLaws.{every-all}
 use Rattle.cache_entries.specs.declared.Cached.{Cached}
 use Rattle.cache_entries.specs.Limits.{maxEntries, maxClusters, textPlaces, textSize, half, noVersion, textKind}
 use Rattle.cache_entries.specs.Entries.{clusterWord, keyWord, placeStart, textIn}
 use Rattle.cache_entries.specs.Texts.{isText, textPlace, Own}
 use Rattle.cache_entries.specs.Set.{clusterPlace, entryPlace, countWith, withCluster, withEntry}
-use Rattle.cache_entries.specs.Valid.{wordRight, entryRight, entryRightAt, entriesRight, textRightAt, textsRight, clustersRight, Whole}
+use Rattle.cache_entries.specs.Valid.{wordRight, entryRight, entryRightAt, entriesRight, textRightAt, textsRight, clustersRight, ColumnsSized}
 use Rattle.cache_entries.proofs.SetLaws.{placed-next, counted-here, counted-more, counted-other, counted-within}
 use Rattle.cache_entries.proofs.ValidLaws.{below, RightHeld, cluster-below, key-below, version-right, entry-word, TextRight, text-right, right-text}
 use Rattle.cache_entries.proofs.OrderWithLaws.{Orders, cluster-orders, entry-orders}
 use Rattle.cache_entries.proofs.TextLaws.{TextAt, unused, texts-apart, place-own}
-use Rattle.cache_report.specs.declared.block.Item.{Item}
-use Rattle.cache_report.specs.declared.block.Fate.{Fate}
-use Rattle.cache_report.specs.declared.block.Fate.the-variants.{Taken, Long, Unusable}
-use Rattle.cache_report.specs.declared.spot.Spot.{Spot}
-use Rattle.cache_report.specs.declared.spot.Spot.the-variants.{At, Full}
+use Rattle.cache_report.specs.declared.block.NewEntry.{NewEntry}
+use Rattle.cache_report.specs.declared.block.Judgement.{Judgement}
+use Rattle.cache_report.specs.declared.block.Judgement.the-variants.{Taken, Long, Unusable}
+use Rattle.cache_report.specs.declared.position.Position.{Position}
+use Rattle.cache_report.specs.declared.position.Position.the-variants.{At, Full}
 use Rattle.cache_entries.specs.Values.{usableIn, insideUsable, longV}
-use Rattle.interaction_report.specs.Kept.{concreteP}
-use Rattle.cache_report.specs.Block.{itemOf, fateBy, fateOf}
-use Rattle.cache_report.specs.Entry.{spotOf, kindV, wordAs, withItem, heldAt, heldFor, textStored, pageAt, pageFor}
-use Rattle.cache_report.specs.Part.{fateIn, heldAll, pageAll}
-use Rattle.interaction_report.proofs.KeptLaws.{concrete-widths}
+use Rattle.im_responses.specs.Kept.{concreteP}
+use Rattle.cache_report.specs.Block.{itemOf, judgementBy, judgementOf}
+use Rattle.cache_report.specs.Entry.{positionOf, kindV, wordAs, withItem, heldAt, heldFor, textStored, pageAt, pageFor}
+use Rattle.cache_report.specs.Part.{judgementIn, heldAll, pageAll}
+use Rattle.im_responses.proofs.KeptLaws.{concrete-widths}
 use Rattle.cache_entries.proofs.ValueLaws.{text-inside, text-short}
-use Rattle.cache_report.proofs.EntryLaws.{Goes, spot-goes, Below, spot-below, Form, form}
+use Rattle.cache_report.proofs.EntryLaws.{Goes, position-goes, Below, position-below, Form, form}
 use Rattle.cache_report.proofs.EntryLaws.Form.{text, plain}
 
 never : {A : Type 0} → _≡_ {A = ℕ} 0 1 → A
 never e = absurd (omega arith)
 
 -- an item that is taken: its numbers have their widths, its value can be kept
-pub record ItemRight (s : List ℕ) (x : Item) : Type 0 where
+pub record ItemRight (s : List ℕ) (x : NewEntry) : Type 0 where
   pub endpoint : x .endpoint < 2 ^ 16
   pub cluster : x .cluster < 2 ^ 32
   pub attribute : x .attribute < 2 ^ 32
@@ -61,8 +61,8 @@ pub record ItemRight (s : List ℕ) (x : Item) : Type 0 where
   pub usable : usableIn s (x .value) ≡ true
   pub short : longV (x .value) ≡ false
 
-pub item-right : (s : List ℕ) (r : Report) (x : Item) → fateOf s r ≡ Taken x → ItemRight s x
-unfolding fateOf fateBy
+pub item-right : (s : List ℕ) (r : Report) (x : NewEntry) → judgementOf s r ≡ Taken x → ItemRight s x
+unfolding judgementOf judgementBy
 item-right s (report.Refused a) x e = never (cc)
 item-right s (report.Shown d) x e = go (concreteP (d .path)) (ltb (d .version) noVersion) (usableIn s v) (longV v) refl refl refl refl e
   where
@@ -108,12 +108,12 @@ pub record Row (c : Cached) (j k v t b : ℕ) : Type 0 where
   pub kind : getD (c .kinds) j 0 ≡ t
   pub word : getD (c .words) j 0 ≡ b
 
-module _ (s page : List ℕ) (c : Cached) (x : Item) (k i : ℕ) (item : ItemRight s x) (r : RightHeld page c) (w : Whole c) (spot : spotOf c x ≡ At k i) where
+module _ (s page : List ℕ) (c : Cached) (x : NewEntry) (k i : ℕ) (item : ItemRight s x) (r : RightHeld page c) (w : ColumnsSized c) (position : positionOf c x ≡ At k i) where
   low : Below k i
-  low = spot-below c (r .few-clusters) (r .few-entries) x k i spot
+  low = position-below c (r .few-clusters) (r .few-entries) x k i position
 
   goes : Goes c x k i
-  goes = spot-goes c x k i spot
+  goes = position-goes c x k i position
 
   k-next : k ≤ c .«cluster_count»
   unfolding clusterPlace
@@ -326,7 +326,7 @@ module _ (s page : List ℕ) (c : Cached) (x : Item) (k i : ℕ) (item : ItemRig
     texts = texts-kept;
   }
 
-  pub set-whole : Whole next
+  pub set-whole : ColumnsSized next
   unfolding withItem withEntry withCluster
   set-whole = record {
     clusters = length-set (c .clusters) k word ∙ w .clusters;
@@ -345,23 +345,23 @@ module _ (s page : List ℕ) (c : Cached) (x : Item) (k i : ℕ) (item : ItemRig
 -- what is held keeps the rules
 pub record Good (page : List ℕ) (c : Cached) : Type 0 where
   pub right : RightHeld page c
-  pub whole : Whole c
+  pub whole : ColumnsSized c
 
 -- A BLOCK, whatever it is
-pub block-right : (s page : List ℕ) (c : Cached) → Good page c → (b : Report) → Good (pageFor s c page (fateOf s b)) (heldFor c (fateOf s b))
+pub block-right : (s page : List ℕ) (c : Cached) → Good page c → (b : Report) → Good (pageFor s c page (judgementOf s b)) (heldFor c (judgementOf s b))
 unfolding heldFor pageFor
-block-right s page c g b = go (fateOf s b) refl
+block-right s page c g b = go (judgementOf s b) refl
   where
-    there : (x : Item) → fateOf s b ≡ Taken x → (p : Spot) → spotOf c x ≡ p → Good (pageAt s c page x p) (heldAt c x p)
+    there : (x : NewEntry) → judgementOf s b ≡ Taken x → (p : Position) → positionOf c x ≡ p → Good (pageAt s c page x p) (heldAt c x p)
     there x e (At k i) q =
         let item = item-right s b x e in
         record { right = set-right s page c x k i item (g .right) (g .whole) q; whole = set-whole s page c x k i item (g .right) (g .whole) q }
     there x e Full q = g
 
-    go : (f : Fate) → fateOf s b ≡ f → Good (pageFor s c page f) (heldFor c f)
-    go (Taken x) e = taken (there x e (spotOf c x) refl)
+    go : (f : Judgement) → judgementOf s b ≡ f → Good (pageFor s c page f) (heldFor c f)
+    go (Taken x) e = taken (there x e (positionOf c x) refl)
       where
-        taken : Good (pageAt s c page x (spotOf c x)) (heldAt c x (spotOf c x)) → Good (pageFor s c page (Taken x)) (heldFor c (Taken x))
+        taken : Good (pageAt s c page x (positionOf c x)) (heldAt c x (positionOf c x)) → Good (pageFor s c page (Taken x)) (heldFor c (Taken x))
         taken h = h
     go Long e = g
     go Unusable e = g
@@ -370,4 +370,4 @@ block-right s page c g b = go (fateOf s b) refl
 pub part-right : (s page : List ℕ) (c : Cached) → Good page c → (l : List (ReportOf ℕ)) → Good (pageAll s c page l) (heldAll s c l)
 unfolding heldAll pageAll
 part-right s page c g [] = g
-part-right s page c g (b ∷ l) = part-right s (pageFor s c page (fateIn s b)) (heldFor c (fateIn s b)) (block-right s page c g (reportStruct b)) l
+part-right s page c g (b ∷ l) = part-right s (pageFor s c page (judgementIn s b)) (heldFor c (judgementIn s b)) (block-right s page c g (reportStruct b)) l

@@ -1,13 +1,13 @@
--- A block sets an entry: path, version, value (document 01, The panel); refusal 7: "a 257th entry, a 33rd cluster, or text over 200".
+-- A block sets an entry: path, version, value (RULES 7.8); refusal 7 where there is no room (RULES 6.1).
 use mathlib.Core.List.{List}
 use Prim.Native.Nat.{ℕ}
 use lib.Dec.{eqb}
 use lib.ListN.{take, drop}
-use Rattle.octets.specs.Store.{store}
-use Rattle.tlv.specs.declared.Value.{Value}
-use Rattle.tlv.specs.declared.Value.the-variants as value
-use Rattle.tlv.specs.Octet.{pick}
-use Rattle.kinds.specs.Stored.{wordOf}
+use Rattle.base_octets.specs.Store.{store}
+use Rattle.tlv_reader.specs.declared.Value.{Value}
+use Rattle.tlv_reader.specs.declared.Value.the-variants as value
+use Rattle.tlv_reader.specs.Octet.{pick}
+use Rattle.node_kinds.specs.Stored.{wordOf}
 use Rattle.cache_entries.specs.declared.Cached.{Cached}
 use Rattle.cache_entries.specs.declared.set.Placed.{Placed}
 use Rattle.cache_entries.specs.declared.set.Placed.the-variants as placed
@@ -15,26 +15,26 @@ use Rattle.cache_entries.specs.Limits.{nullKind, booleanKind, unsignedKind, sig
 use Rattle.cache_entries.specs.Entries.{clusterWord, keyWord, placeStart}
 use Rattle.cache_entries.specs.Texts.{textPlace}
 use Rattle.cache_entries.specs.Set.{clusterPlace, entryPlace, withCluster, withEntry}
-use Rattle.cache_report.specs.declared.block.Item.{Item}
-use Rattle.cache_report.specs.declared.block.Fate.{Fate}
-use Rattle.cache_report.specs.declared.block.Fate.the-variants.{Taken, Long, Unusable}
-use Rattle.cache_report.specs.declared.spot.Spot.{Spot}
-use Rattle.cache_report.specs.declared.spot.Spot.the-variants.{At, Full}
+use Rattle.cache_report.specs.declared.block.NewEntry.{NewEntry}
+use Rattle.cache_report.specs.declared.block.Judgement.{Judgement}
+use Rattle.cache_report.specs.declared.block.Judgement.the-variants.{Taken, Long, Unusable}
+use Rattle.cache_report.specs.declared.position.Position.{Position}
+use Rattle.cache_report.specs.declared.position.Position.the-variants.{At, Full}
 
 -- where an entry of the cluster that goes to k goes, and where an item goes
-abbrev pub atEntry : ℕ → Placed → Spot
+abbrev pub atEntry : ℕ → Placed → Position
 atEntry k (placed.Here i) = At k i
 atEntry k placed.Full = Full
 
-unfoldable pub entrySpot : Cached → ℕ → ℕ → Spot
-entrySpot c k attribute = atEntry k (entryPlace c (keyWord k attribute))
+unfoldable pub entryPosition : Cached → ℕ → ℕ → Position
+entryPosition c k attribute = atEntry k (entryPlace c (keyWord k attribute))
 
-abbrev pub atCluster : Cached → ℕ → Placed → Spot
-atCluster c attribute (placed.Here k) = entrySpot c k attribute
+abbrev pub atCluster : Cached → ℕ → Placed → Position
+atCluster c attribute (placed.Here k) = entryPosition c k attribute
 atCluster c attribute placed.Full = Full
 
-unfoldable pub spotOf : Cached → Item → Spot
-spotOf c x = atCluster c (x .attribute) (clusterPlace c (clusterWord (x .endpoint) (x .cluster)))
+unfoldable pub positionOf : Cached → NewEntry → Position
+positionOf c x = atCluster c (x .attribute) (clusterPlace c (clusterWord (x .endpoint) (x .cluster)))
 
 -- the kind under which a value is kept
 unfoldable pub kindV : Value → ℕ
@@ -51,28 +51,28 @@ unfoldable pub wordAs : ℕ → Value → ℕ
 wordAs p v = pick (eqb (kindV v) textKind) p (wordOf v)
 
 -- the entry set
-unfoldable pub withItem : Cached → ℕ → ℕ → Item → Cached
+unfoldable pub withItem : Cached → ℕ → ℕ → NewEntry → Cached
 withItem c k i x =
     withEntry (withCluster c k (clusterWord (x .endpoint) (x .cluster))) i (keyWord k (x .attribute)) (x .version) (kindV (x .value)) (wordAs (textPlace c i) (x .value)) (wordOf (x .value))
 
-abbrev pub heldAt : Cached → Item → Spot → Cached
+abbrev pub heldAt : Cached → NewEntry → Position → Cached
 heldAt c x (At k i) = withItem c k i x
 heldAt c x Full = c
 
-unfoldable pub heldFor : Cached → Fate → Cached
+unfoldable pub heldFor : Cached → Judgement → Cached
 heldFor c Unusable = c
 heldFor c Long = c
-heldFor c (Taken x) = heldAt c x (spotOf c x)
+heldFor c (Taken x) = heldAt c x (positionOf c x)
 
 -- the number that a block gets
-abbrev pub spotNumber : Spot → ℕ
-spotNumber (At k i) = 0
-spotNumber Full = 7
+abbrev pub positionNumber : Position → ℕ
+positionNumber (At k i) = 0
+positionNumber Full = 7
 
-unfoldable pub numberFor : Cached → Fate → ℕ
+unfoldable pub numberFor : Cached → Judgement → ℕ
 numberFor c Unusable = 6
 numberFor c Long = 7
-numberFor c (Taken x) = spotNumber (spotOf c x)
+numberFor c (Taken x) = positionNumber (positionOf c x)
 
 -- 6 before 7 before 0
 unfoldable pub worse : ℕ → ℕ → ℕ
@@ -88,11 +88,11 @@ textStored s page p (value.Float n) = page
 textStored s page p (value.Text a n) = store page (placeStart p) (take n (drop a s))
 textStored s page p value.Other = page
 
-abbrev pub pageAt : List ℕ → Cached → List ℕ → Item → Spot → List ℕ
+abbrev pub pageAt : List ℕ → Cached → List ℕ → NewEntry → Position → List ℕ
 pageAt s c page x (At k i) = textStored s page (textPlace c i) (x .value)
 pageAt s c page x Full = page
 
-unfoldable pub pageFor : List ℕ → Cached → List ℕ → Fate → List ℕ
+unfoldable pub pageFor : List ℕ → Cached → List ℕ → Judgement → List ℕ
 pageFor s c page Unusable = page
 pageFor s c page Long = page
-pageFor s c page (Taken x) = pageAt s c page x (spotOf c x)
+pageFor s c page (Taken x) = pageAt s c page x (positionOf c x)

@@ -4,31 +4,31 @@ use mathlib.Core.List.{List, [], _∷_}
 use Prim.Native.Nat.{ℕ, zero, suc, _+_, _-_, _*_, _/_, _%_}
 use lib.Dec.{ltb}
 use lib.ListN.{set}
-use Rattle.tlv.specs.declared.Value.{Value}
-use Rattle.tlv.specs.declared.Value.the-variants as value
-use Rattle.tlv.specs.Octet.{pick}
-use Rattle.tlv.specs.Value.{valueIn}
-use Rattle.schema.specs.declared.Found.{Found}
-use Rattle.schema.specs.declared.Found.the-variants as found
-use Rattle.ordered.specs.Order.{wordAt}
-use Rattle.interaction_report.specs.Kept.{unshown, blockWord}
+use Rattle.tlv_reader.specs.declared.Value.{Value}
+use Rattle.tlv_reader.specs.declared.Value.the-variants as value
+use Rattle.tlv_reader.specs.Octet.{pick}
+use Rattle.tlv_reader.specs.Value.{valueIn}
+use Rattle.node_schema.specs.declared.Found.{Found}
+use Rattle.node_schema.specs.declared.Found.the-variants as found
+use Rattle.cache_order.specs.Order.{wordAt}
+use Rattle.im_responses.specs.Kept.{unshown, blockWord}
 use Rattle.cache_entries.specs.declared.Cached.{Cached}
 use Rattle.cache_entries.specs.declared.set.Placed.{Placed}
 use Rattle.cache_entries.specs.declared.set.Placed.the-variants as placed
 use Rattle.cache_entries.specs.Limits.{maxEntries, maxClusters, half}
 use Rattle.cache_entries.specs.Entries.{keyWord}
 use Rattle.cache_entries.specs.Set.{placeFor, countWith}
-use Rattle.cache_report.specs.declared.block.Item.{Item}
-use Rattle.cache_report.specs.declared.block.Fate.{Fate}
-use Rattle.cache_report.specs.declared.block.Fate.the-variants.{Taken, Long, Unusable}
-use Rattle.cache_report.specs.declared.spot.Spot.{Spot}
-use Rattle.cache_report.specs.declared.spot.Spot.the-variants.{At, Full}
+use Rattle.cache_report.specs.declared.block.NewEntry.{NewEntry}
+use Rattle.cache_report.specs.declared.block.Judgement.{Judgement}
+use Rattle.cache_report.specs.declared.block.Judgement.the-variants.{Taken, Long, Unusable}
+use Rattle.cache_report.specs.declared.position.Position.{Position}
+use Rattle.cache_report.specs.declared.position.Position.the-variants.{At, Full}
 use Rattle.cache_entries.specs.Values.{usableIn, longV}
 use Rattle.cache_report.specs.Entry.{atEntry, heldFor, numberFor, pageFor, worse}
 use Rattle.cache_report.specs.Part.{Judged}
 
 -- endpoint and cluster, attribute and version
-abbrev pub itemWords : ℕ → ℕ → Value → Item
+abbrev pub itemWords : ℕ → ℕ → Value → NewEntry
 itemWords a b v = record { endpoint = a / half; cluster = a % half; attribute = b / half; version = b % half; value = v }
 
 -- how many bytes a text has, 0 for any other value
@@ -42,38 +42,38 @@ lengthV (value.Text a n) = n
 lengthV value.Other = 0
 
 -- what a block gets by itself
-unfoldable pub fateWords : List ℕ → ℕ → ℕ → ℕ → Fate
-fateWords s a b p =
+unfoldable pub judgementWords : List ℕ → ℕ → ℕ → ℕ → Judgement
+judgementWords s a b p =
     pick (ltb a unshown && usableIn s (valueIn s p)) (pick (longV (valueIn s p)) Long (Taken (itemWords a b (valueIn s p)))) Unusable
 
-abbrev pub fateAt : List ℕ → List ℕ → ℕ → Fate
-fateAt s words j = fateWords s (blockWord words j 0) (blockWord words j 1) (blockWord words j 2)
+abbrev pub judgementAt : List ℕ → List ℕ → ℕ → Judgement
+judgementAt s words j = judgementWords s (blockWord words j 0) (blockWord words j 1) (blockWord words j 2)
 
 -- of the n blocks from j on
-unfoldable pub fatesFrom : List ℕ → List ℕ → ℕ → ℕ → List Fate
-fatesFrom s words zero j = []
-fatesFrom s words (suc n) j = fateAt s words j ∷ fatesFrom s words n (j + 1)
+unfoldable pub judgementsFrom : List ℕ → List ℕ → ℕ → ℕ → List Judgement
+judgementsFrom s words zero j = []
+judgementsFrom s words (suc n) j = judgementAt s words j ∷ judgementsFrom s words n (j + 1)
 
 -- 6, 7 or 0 of each, and of all: 6 before 7
-abbrev pub alone : Fate → ℕ
+abbrev pub alone : Judgement → ℕ
 alone (Taken x) = 0
 alone Long = 7
 alone Unusable = 6
 
-unfoldable pub aloneAll : List Fate → ℕ
+unfoldable pub aloneAll : List Judgement → ℕ
 aloneAll [] = 0
 aloneAll (f ∷ l) = worse (alone f) (aloneAll l)
 
 -- the entries, the page and the number after blocks
-unfoldable pub heldBy : Cached → List Fate → Cached
+unfoldable pub heldBy : Cached → List Judgement → Cached
 heldBy c [] = c
 heldBy c (f ∷ l) = heldBy (heldFor c f) l
 
-unfoldable pub pageBy : List ℕ → Cached → List ℕ → List Fate → List ℕ
+unfoldable pub pageBy : List ℕ → Cached → List ℕ → List Judgement → List ℕ
 pageBy s c page [] = page
 pageBy s c page (f ∷ l) = pageBy s (heldFor c f) (pageFor s c page f) l
 
-unfoldable pub judgedBy : Judged → List Fate → Judged
+unfoldable pub judgedBy : Judged → List Judgement → Judged
 judgedBy j [] = j
 judgedBy j (f ∷ l) = judgedBy (record { number = worse (j .number) (numberFor (j .held) f); held = heldFor (j .held) f }) l
 
@@ -90,14 +90,14 @@ frameOf c = record { clusters = c .clusters; clusterCount = c .«cluster_count»
 abbrev pub keyOf : ℕ → ℕ → ℕ
 keyOf k b = keyWord k (b / half)
 
-abbrev pub inFrame : Frame → ℕ → Placed → Spot
+abbrev pub inFrame : Frame → ℕ → Placed → Position
 inFrame f b (placed.Here k) = atEntry k (placeFor (f .count) maxEntries (wordAt (f .keys) (f .count) (keyOf k b)))
 inFrame f b placed.Full = Full
 
-unfoldable pub spotIn : Frame → ℕ → ℕ → Spot
-spotIn f a b = inFrame f b (placeFor (f .clusterCount) maxClusters (wordAt (f .clusters) (f .clusterCount) a))
+unfoldable pub positionIn : Frame → ℕ → ℕ → Position
+positionIn f a b = inFrame f b (placeFor (f .clusterCount) maxClusters (wordAt (f .clusters) (f .clusterCount) a))
 
-abbrev pub frameAt : Frame → ℕ → ℕ → Spot → Frame
+abbrev pub frameAt : Frame → ℕ → ℕ → Position → Frame
 frameAt f a b (At k i) = record {
   clusters = set (f .clusters) k a;
   clusterCount = countWith (f .clusterCount) k;
@@ -107,27 +107,27 @@ frameAt f a b (At k i) = record {
 frameAt f a b Full = f
 
 abbrev pub frameNext : List ℕ → Frame → ℕ → Frame
-frameNext words f j = frameAt f (blockWord words j 0) (blockWord words j 1) (spotIn f (blockWord words j 0) (blockWord words j 1))
+frameNext words f j = frameAt f (blockWord words j 0) (blockWord words j 1) (positionIn f (blockWord words j 0) (blockWord words j 1))
 
 -- whether there is room for the n blocks from j on
-abbrev pub hasRoom : Spot → Bool
+abbrev pub hasRoom : Position → Bool
 hasRoom (At k i) = true
 hasRoom Full = false
 
 unfoldable pub roomFrom : List ℕ → Frame → ℕ → ℕ → Bool
 roomFrom words f zero j = true
 roomFrom words f (suc n) j =
-    hasRoom (spotIn f (blockWord words j 0) (blockWord words j 1)) && roomFrom words (frameNext words f j) n (j + 1)
+    hasRoom (positionIn f (blockWord words j 0) (blockWord words j 1)) && roomFrom words (frameNext words f j) n (j + 1)
 
 -- their places, a word for each
-abbrev pub spotWord : Spot → ℕ
-spotWord (At k i) = k * maxEntries + i
-spotWord Full = 0
+abbrev pub positionWord : Position → ℕ
+positionWord (At k i) = k * maxEntries + i
+positionWord Full = 0
 
-unfoldable pub spotsFrom : List ℕ → Frame → ℕ → ℕ → List ℕ
-spotsFrom words f zero j = []
-spotsFrom words f (suc n) j =
-    spotWord (spotIn f (blockWord words j 0) (blockWord words j 1)) ∷ spotsFrom words (frameNext words f j) n (j + 1)
+unfoldable pub positionsFrom : List ℕ → Frame → ℕ → ℕ → List ℕ
+positionsFrom words f zero j = []
+positionsFrom words f (suc n) j =
+    positionWord (positionIn f (blockWord words j 0) (blockWord words j 1)) ∷ positionsFrom words (frameNext words f j) n (j + 1)
 
 -- where a word stands among the n that are held, or behind them among the m new ones
 abbrev pub behind : ℕ → Found → Found

@@ -1,19 +1,19 @@
 // What a block of a report gets by itself: an entry to set, 6 or 7.
 ghost use mathlib.Core.Path.{_≡_};
 ghost use Prim.Native.Nat.{ℕ, _≤_};
-ghost use Rattle.interaction_report.specs.Kept.{maxBlocks};
-ghost use Rattle.cache_report.specs.Words.{fateWords, fatesFrom, alone, aloneAll};
+ghost use Rattle.im_responses.specs.Kept.{maxBlocks};
+ghost use Rattle.cache_report.specs.Words.{judgementWords, judgementsFrom, alone, aloneAll};
 use super::NO_ROOM;
 use super::UNUSABLE;
 use cache_entries::values::is_long;
 use cache_entries::values::usable;
-use interaction_report::kept::BLOCK_WORDS;
-use interaction_report::kept::UNSHOWN;
-use tlv::Value;
-use tlv::value_in;
+use im_responses::kept::BLOCK_WORDS;
+use im_responses::kept::UNSHOWN;
+use tlv_reader::Value;
+use tlv_reader::value_in;
 
 // An entry to set: path, version, value. A text is a part of the message. The contracts speak of it; no function takes one.
-pub struct Item {
+pub struct NewEntry {
     pub endpoint: u16,
     pub cluster: u32,
     pub attribute: u32,
@@ -21,8 +21,8 @@ pub struct Item {
     pub value: Value,
 }
 
-pub enum Fate {
-    Taken(Item),
+pub enum Judgement {
+    Taken(NewEntry),
     // A text over the limit: 7.
     Long,
     // 6.
@@ -31,7 +31,7 @@ pub enum Fate {
 
 // What a block gets, by its first word and the place of its data: 6, 7 or 0.
 fn alone(s: &[u8], first: u64, place: u64) -> u8
-    ensures { λ r. ⌜ ((second : ℕ) → r ≡ alone (fateWords (now (s .entry)) first second place)) ⌝ }
+    ensures { λ r. ⌜ ((second : ℕ) → r ≡ alone (judgementWords (now (s .entry)) first second place)) ⌝ }
 {
     if UNSHOWN <= first {
         return UNUSABLE;
@@ -46,7 +46,7 @@ fn alone(s: &[u8], first: u64, place: u64) -> u8
 // What n blocks get, each by itself: 6 before 7 before 0.
 pub fn judge_alone(s: &[u8], blocks: &[u64; BLOCK_WORDS], n: usize) -> u8
     requires { ⌜ n ≤ maxBlocks ⌝ }
-    ensures { λ r. ⌜ r ≡ aloneAll (fatesFrom (now (s .entry)) (now (blocks .entry)) n 0) ⌝ }
+    ensures { λ r. ⌜ r ≡ aloneAll (judgementsFrom (now (s .entry)) (now (blocks .entry)) n 0) ⌝ }
 {
     let mut number: u8 = 0;
     let mut j = 0;

@@ -1,12 +1,12 @@
-// A part of a report as the panel takes it (document 01, The panel, and refusals 6 and 7): judged whole, then each block sets an entry. Its blocks are
-// words that are lent (`interaction_report::kept`), so that each is read once.
+// A part of a report as the cache takes it (RULES 7.7, 7.8; refusals 6 and 7): judged whole, then each block sets an entry. Its blocks are
+// words that are lent (`im_responses::kept`), so that each is read once.
 
 pub mod block; // block.rt: what a block gets by itself
-pub mod spot; // spot.rt: where each block goes
+pub mod position; // spot.rt: where each block goes
 pub mod set; // set.rt: an entry set
 pub mod part; // part.rt: all blocks of a part
 
-// The numbers of document 01.
+// The numbers of RULES 6.1.
 pub const UNUSABLE: u8 = 6;
 
 pub const NO_ROOM: u8 = 7;

@@ -8,10 +8,11 @@ ghost use Rattle.cache_entries.specs.Limits.{textPlaces, pageSize, textKind};
 ghost use Rattle.cache_entries.specs.Entries.{heldOf};
 ghost use Rattle.cache_entries.specs.Values.{usableIn, longV};
 ghost use Rattle.cache_entries.specs.Texts.{textPlace, Marked};
-ghost use Rattle.cache_entries.specs.Valid.{heldRight, Whole};
-ghost use Rattle.cache_report.specs.declared.spot.Spot.the-variants.{At};
-ghost use Rattle.cache_report.specs.Entry.{spotOf, kindV, wordAs, withItem, textStored};
+ghost use Rattle.cache_entries.specs.Valid.{heldRight, ColumnsSized};
+ghost use Rattle.cache_report.specs.declared.position.Position.the-variants.{At};
+ghost use Rattle.cache_report.specs.Entry.{positionOf, kindV, wordAs, withItem, textStored};
 ghost use Rattle.cache_report.specs.Words.{itemWords, lengthV};
+use base_octets::put_bytes;
 use cache_entries::CLUSTERS;
 use cache_entries::ENTRIES;
 use cache_entries::HALF;
@@ -22,9 +23,8 @@ use cache_entries::TEXT_SIZE;
 use cache_entries::set::set_cluster;
 use cache_entries::set::set_entry;
 use cache_entries::texts::move_text;
-use kinds::stored::word_of;
-use octets::put_bytes;
-use tlv::Value;
+use node_kinds::stored::word_of;
+use tlv_reader::Value;
 
 // How many clusters and entries there are.
 pub struct Counts {
@@ -97,7 +97,7 @@ pub fn set_block(
     second: u64,
     v: Value,
 ) -> Counts
-    requires { ⌜ ((primed : Bool) → heldRight (now page) (heldOf (now clusters) (now keys) (now versions) (now kinds) (now words) (now order) (now lengths) (counts .clusters) (counts .entries) primed) ≡ true) × (((primed : Bool) → Whole (heldOf (now clusters) (now keys) (now versions) (now kinds) (now words) (now order) (now lengths) (counts .clusters) (counts .entries) primed)) × (Marked (now kinds) (now words) (counts .entries) (now marks) × ((first < 281474976710656) × ((usableIn (now s) v ≡ true) × ((longV v ≡ false) × ((primed : Bool) → spotOf (heldOf (now clusters) (now keys) (now versions) (now kinds) (now words) (now order) (now lengths) (counts .clusters) (counts .entries) primed) (itemWords first second v) ≡ At p i)))))) ⌝ }
+    requires { ⌜ ((primed : Bool) → heldRight (now page) (heldOf (now clusters) (now keys) (now versions) (now kinds) (now words) (now order) (now lengths) (counts .clusters) (counts .entries) primed) ≡ true) × (((primed : Bool) → ColumnsSized (heldOf (now clusters) (now keys) (now versions) (now kinds) (now words) (now order) (now lengths) (counts .clusters) (counts .entries) primed)) × (Marked (now kinds) (now words) (counts .entries) (now marks) × ((first < 281474976710656) × ((usableIn (now s) v ≡ true) × ((longV v ≡ false) × ((primed : Bool) → positionOf (heldOf (now clusters) (now keys) (now versions) (now kinds) (now words) (now order) (now lengths) (counts .clusters) (counts .entries) primed) (itemWords first second v) ≡ At p i)))))) ⌝ }
     ensures { λ r. ⌜ ((primed : Bool) → heldOf (now (clusters .exit)) (now (keys .exit)) (now (versions .exit)) (now (kinds .exit)) (now (words .exit)) (now (order .exit)) (now (lengths .exit)) (r .clusters) (r .entries) primed ≡ withItem (heldOf (now (clusters .entry)) (now (keys .entry)) (now (versions .entry)) (now (kinds .entry)) (now (words .entry)) (now (order .entry)) (now (lengths .entry)) (counts .clusters) (counts .entries) primed) p i (itemWords first second v)) × ((now (page .exit) ≡ textStored (now (s .entry)) (now (page .entry)) (textPlace (heldOf (now (clusters .entry)) (now (keys .entry)) (now (versions .entry)) (now (kinds .entry)) (now (words .entry)) (now (order .entry)) (now (lengths .entry)) (counts .clusters) (counts .entries) false) i) v) × (Marked (now (kinds .exit)) (now (words .exit)) (r .entries) (now (marks .exit)) × (second < 2 ^ 64))) ⌝ }
 {
     let kind = kind_of(v);

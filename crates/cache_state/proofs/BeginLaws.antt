@@ -7,21 +7,21 @@ use native.Mathlib.Omega.{arith}
 use borrow.Author.Tests.{not-true, ltb-true, ltb-false, lt-ltb, le-ltb}
 use lib.Dec.{ltb}
 use lib.ListN.{drop, length-take}
-use Rattle.tlv.specs.Octet.{pick}
-use Rattle.tlv.specs.declared.Value.{Value}
-use Rattle.tlv.specs.declared.Value.the-variants as value
-use Rattle.tlv.specs.Value.{datumIn}
+use Rattle.tlv_reader.specs.Octet.{pick}
+use Rattle.tlv_reader.specs.declared.Value.{Value}
+use Rattle.tlv_reader.specs.declared.Value.the-variants as value
+use Rattle.tlv_reader.specs.Value.{datumIn}
 use Rattle.tlv_writer.specs.Element.{InPage}
-use Rattle.interaction_writer.specs.Block.{ShortText}
-use Rattle.schema.proofs.BoolLaws.{left, right}
+use Rattle.im_writer.specs.Block.{ShortText}
+use Rattle.node_schema.proofs.BoolLaws.{left, right}
 use Rattle.cache_entries.specs.Values.{usableIn}
 use Rattle.cache_entries.proofs.ValueLaws.{text-inside, text-short}
-use Rattle.envelope.specs.Envelope.{maxMessage}
-use Rattle.interaction_writer.specs.Envelope.{exchangeLimit}
-use Rattle.cache_state.specs.declared.State.{State}
-use Rattle.cache_state.specs.State.{panelRight}
+use Rattle.im_envelope.specs.Envelope.{maxMessage}
+use Rattle.im_writer.specs.Envelope.{exchangeLimit}
+use Rattle.cache_state.specs.declared.CacheState.{CacheState}
+use Rattle.cache_state.specs.State.{cacheRight}
 use Rattle.cache_state.specs.Words.{wordsRight}
-use Rattle.cache_state.specs.Reaction.{Reaction, refusal, ofPanel}
+use Rattle.cache_state.specs.Reaction.{CacheReaction, refusal, ofCache}
 use Rattle.cache_state.specs.Begin.{beginning, sendable, unready}
 
 pub record Fits (src : List ℕ) (v : Value) : Type 0 where
@@ -43,19 +43,19 @@ sendable-fits src value.Other h = record { inside = tt; short = tt }
 
 -- ---- when a request can be begun
 
-pub record Ready (asked page : List ℕ) (s : State) (room : ℕ) : Type 0 where
+pub record Ready (asked page : List ℕ) (s : CacheState) (room : ℕ) : Type 0 where
   pub words : wordsRight asked ≡ true
-  pub panel : panelRight page s ≡ true
+  pub cache : cacheRight page s ≡ true
   pub large : maxMessage ≤ room
   pub used : s .asked .used < exchangeLimit - 1
 
-module _ (asked page : List ℕ) (s : State) (room : ℕ) where
+module _ (asked page : List ℕ) (s : CacheState) (room : ℕ) where
   -- the number says why not
-  pub not-ready : {n : ℕ} → n ≡ unready asked page s room → (n ≡ 0 → ⊥) → (x : Reaction) → ofPanel asked page s (beginning page s room x) ≡ refusal n s page
+  pub not-ready : {n : ℕ} → n ≡ unready asked page s room → (n ≡ 0 → ⊥) → (x : CacheReaction) → ofCache asked page s (beginning page s room x) ≡ refusal n s page
   unfolding unready
-  not-ready = go (wordsRight asked) (panelRight page s) (ltb room maxMessage) (ltb (s .asked .used) (exchangeLimit - 1))
+  not-ready = go (wordsRight asked) (cacheRight page s) (ltb room maxMessage) (ltb (s .asked .used) (exchangeLimit - 1))
     where
-      go : (a b c d : Bool) {n : ℕ} → n ≡ pick (a && b) (pick c 3 (pick d 0 8)) 2 → (n ≡ 0 → ⊥) → (x : Reaction) → pick a (pick b (pick c (refusal 3 s page) (pick d x (refusal 8 s page))) (refusal 2 s page)) (refusal 2 s page) ≡ refusal n s page
+      go : (a b c d : Bool) {n : ℕ} → n ≡ pick (a && b) (pick c 3 (pick d 0 8)) 2 → (n ≡ 0 → ⊥) → (x : CacheReaction) → pick a (pick b (pick c (refusal 3 s page) (pick d x (refusal 8 s page))) (refusal 2 s page)) (refusal 2 s page) ≡ refusal n s page
       go false b c d e z x = ap (λ (k : ℕ). refusal k s page) (sym e)
       go true false c d e z x = ap (λ (k : ℕ). refusal k s page) (sym e)
       go true true true d e z x = ap (λ (k : ℕ). refusal k s page) (sym e)
@@ -64,9 +64,9 @@ module _ (asked page : List ℕ) (s : State) (room : ℕ) where
 
   pub is-ready : unready asked page s room ≡ 0 → Ready asked page s room
   unfolding unready
-  is-ready h = let k = go (wordsRight asked) (panelRight page s) (ltb room maxMessage) (ltb (s .asked .used) (exchangeLimit - 1)) h in record {
+  is-ready h = let k = go (wordsRight asked) (cacheRight page s) (ltb room maxMessage) (ltb (s .asked .used) (exchangeLimit - 1)) h in record {
     words = k .0;
-    panel = k .1 .0;
+    cache = k .1 .0;
     large = ltb-false room maxMessage (k .1 .1 .0);
     used = ltb-true (s .asked .used) (exchangeLimit - 1) (k .1 .1 .1);
   }
@@ -82,5 +82,5 @@ module _ (asked page : List ℕ) (s : State) (room : ℕ) where
       go true true false false e = never e
 
   -- then it is
-  pub ready-as : Ready asked page s room → (x : Reaction) → ofPanel asked page s (beginning page s room x) ≡ x
-  ready-as r x = rw (r .words, r .panel, le-ltb room maxMessage (r .large), lt-ltb (s .asked .used) (exchangeLimit - 1) (r .used)) refl
+  pub ready-as : Ready asked page s room → (x : CacheReaction) → ofCache asked page s (beginning page s room x) ≡ x
+  ready-as r x = rw (r .words, r .cache, le-ltb room maxMessage (r .large), lt-ltb (s .asked .used) (exchangeLimit - 1) (r .used)) refl

@@ -1,4 +1,4 @@
--- What a panel that keeps the rules has.
+-- What a cache that keeps the rules has.
 use mathlib.Core.Path.{_≡_, refl, sym}
 use mathlib.Core.Bool.{Bool, true, false, _&&_, false≢true}
 use mathlib.Core.List.{List}
@@ -6,19 +6,19 @@ use Prim.Native.Nat.{ℕ, _≤_, _<_}
 use borrow.Author.Tests.{leb-true, ltb-true}
 use lib.Dec.{leb, ltb}
 use lib.ListN.{length}
-use Rattle.tlv.specs.Octet.{pick}
-use Rattle.schema.proofs.BoolLaws.{left, right}
+use Rattle.tlv_reader.specs.Octet.{pick}
+use Rattle.node_schema.proofs.BoolLaws.{left, right}
 use Rattle.cache_entries.specs.Valid.{heldRight}
 use Rattle.cache_entries.specs.Limits.{pageSize}
 use Rattle.cache_entries.proofs.ValidLaws.{held-right, key-below, version-right}
 use Rattle.cache_messages.specs.Filters.{Bounded}
-use Rattle.envelope.specs.Envelope.{maxMessage}
-use Rattle.interaction_writer.specs.Envelope.{exchangeLimit}
+use Rattle.im_envelope.specs.Envelope.{maxMessage}
+use Rattle.im_writer.specs.Envelope.{exchangeLimit}
 use Rattle.cache_state.specs.declared.Request.{Request}
-use Rattle.cache_state.specs.declared.State.{State}
+use Rattle.cache_state.specs.declared.CacheState.{CacheState}
 use Rattle.cache_state.specs.Words.{wordsRight}
-use Rattle.cache_state.specs.Reaction.{Reaction, refusal, ofPanel}
-use Rattle.cache_state.specs.State.{isOpen, withStatus, openRight, askedRight, panelRight}
+use Rattle.cache_state.specs.Reaction.{CacheReaction, refusal, ofCache}
+use Rattle.cache_state.specs.State.{isOpen, withStatus, openRight, askedRight, cacheRight}
 
 -- of the request
 pub record RightAsked (x : Request) : Type 0 where
@@ -45,13 +45,13 @@ asked-right x h =
       sent = right (leb (x .len) maxMessage) _ d;
     }
 
-module _ (page : List ℕ) (s : State) (h : panelRight page s ≡ true) where
+module _ (page : List ℕ) (s : CacheState) (h : cacheRight page s ≡ true) where
   pub right-held : heldRight page (s .held) ≡ true
-  unfolding panelRight
+  unfolding cacheRight
   right-held = left _ _ h
 
   pub right-asked : RightAsked (s .asked)
-  unfolding panelRight
+  unfolding cacheRight
   right-asked = asked-right (s .asked) (right (heldRight page (s .held)) _ h)
 
   pub right-size : length page ≡ pageSize
@@ -69,11 +69,11 @@ module _ (page : List ℕ) (s : State) (h : panelRight page s ≡ true) where
         versions-right = version-right (s .held) (r .entries);
       }
 
--- words that are no panel's, or a panel that breaks the rules: refused
-pub broken : (asked page : List ℕ) (s : State) → (wordsRight asked && panelRight page s) ≡ false → (x : Reaction) → ofPanel asked page s (pick (panelRight page s) x (refusal 2 s page)) ≡ refusal 2 s page
-broken asked page s = go (wordsRight asked) (panelRight page s)
+-- words that are no cache's, or a cache that breaks the rules: refused
+pub broken : (asked page : List ℕ) (s : CacheState) → (wordsRight asked && cacheRight page s) ≡ false → (x : CacheReaction) → ofCache asked page s (pick (cacheRight page s) x (refusal 2 s page)) ≡ refusal 2 s page
+broken asked page s = go (wordsRight asked) (cacheRight page s)
   where
-    go : (a b : Bool) → (a && b) ≡ false → (x : Reaction) → pick a (pick b x (refusal 2 s page)) (refusal 2 s page) ≡ refusal 2 s page
+    go : (a b : Bool) → (a && b) ≡ false → (x : CacheReaction) → pick a (pick b x (refusal 2 s page)) (refusal 2 s page) ≡ refusal 2 s page
     go false b h x = refl
     go true false h x = refl
     go true true h x = absurd (false≢true (sym h))

@@ -1,4 +1,4 @@
--- A panel's words: what was put is read back, and what was read and put back changes nothing.
+-- A cache's words: what was put is read back, and what was read and put back changes nothing.
 use mathlib.Core.Path.{_≡_, refl, sym, ap, subst, _∙_}
 use mathlib.Core.Bool.{Bool, true, false}
 use mathlib.Core.List.{List, [], _∷_}
@@ -8,13 +8,13 @@ use borrow.Author.Tests.{leb-true, ltb-true, eqb-true, eqb-false, le-leb, lt-ltb
 use lib.Dec.{eqb, ltb, leb}
 use lib.ListN.{length, getD, set}
 use lib.Seq.{getD-take, set-getD, getD-set-other}
-use Rattle.octets.specs.Store.{store}
-use Rattle.octets.proofs.StoreLaws.{store-back}
-use Rattle.tlv.specs.Octet.{pick}
-use Rattle.schema.specs.Rows.{rowsFrom}
-use Rattle.schema.proofs.BoolLaws.{left, right, by-test}
-use Rattle.cache_state.specs.declared.State.{State}
-use Rattle.cache_state.specs.declared.Standing.{Standing}
+use Rattle.base_octets.specs.Store.{store}
+use Rattle.base_octets.proofs.StoreLaws.{store-back}
+use Rattle.tlv_reader.specs.Octet.{pick}
+use Rattle.node_schema.specs.Rows.{rowsFrom}
+use Rattle.node_schema.proofs.BoolLaws.{left, right, by-test}
+use Rattle.cache_state.specs.declared.CacheState.{CacheState}
+use Rattle.cache_state.specs.declared.CacheStanding.{CacheStanding}
 use Rattle.cache_state.specs.Words.{askedSize, word, standingIn, standingWords, wordsRight, stateIn, standingOf, putState}
 
 -- ---- words stored, one after the other
@@ -38,7 +38,7 @@ standing-same : (w : List ℕ) → store w 0 (standingWords (standingIn w)) ≡ 
 unfolding standingIn standingWords rowsFrom
 standing-same w = words-same w 13 0
 
-standing-back : (w : List ℕ) (t : Standing) → length w ≡ askedSize → standingIn (store w 0 (standingWords t)) ≡ t
+standing-back : (w : List ℕ) (t : CacheStanding) → length w ≡ askedSize → standingIn (store w 0 (standingWords t)) ≡ t
 unfolding standingIn standingWords
 standing-back w t size =
     let there = word-there w (standingWords t) (omega (arith, size)) in
@@ -109,21 +109,21 @@ right-words w r =
     )
 
 -- numbers in their widths
-pub record Narrow (s : State) : Type 0 where
+pub record Narrow (s : CacheState) : Type 0 where
   pub turn : s .asked .turn < 2 ^ 16
   pub status : s .asked .status < 256
   pub endpoint : s .asked .endpoint < 2 ^ 16
   pub cluster : s .asked .cluster < 2 ^ 32
   pub attribute : s .asked .attribute < 2 ^ 32
 
--- as those of a panel's words
+-- as those of a cache's words
 pub narrow-in : (clusters keys versions kinds words order lengths asked kept : List ℕ) → wordsRight asked ≡ true → Narrow (stateIn clusters keys versions kinds words order lengths asked kept)
 unfolding standingIn
 narrow-in clusters keys versions kinds words order lengths asked kept h =
     let r = words-right asked h in
     record { turn = r .turn; status = r .status; endpoint = r .endpoint; cluster = r .cluster; attribute = r .attribute }
 
--- ---- the mark of a panel that is primed
+-- ---- the mark of a cache that is primed
 
 pub mark-same : (p : ℕ) → p ≤ 1 → pick (eqb p 1) 1 0 ≡ p
 mark-same p h =
@@ -139,7 +139,7 @@ mark-low false = omega arith
 
 -- ---- A STATE in its words
 
--- the words of a panel say its state
+-- the words of a cache say its state
 pub standing-read : (clusters keys versions kinds words order lengths asked kept : List ℕ) → wordsRight asked ≡ true → standingOf (stateIn clusters keys versions kinds words order lengths asked kept) ≡ standingIn asked
 unfolding standingIn
 standing-read clusters keys versions kinds words order lengths asked kept h =
@@ -165,16 +165,16 @@ pub state-same : (clusters keys versions kinds words order lengths asked kept : 
 unfolding putState
 state-same clusters keys versions kinds words order lengths asked kept =
     by-test (wordsRight asked)
-    (λ t. rw t (ap (λ (u : Standing). store asked 0 (standingWords u)) (standing-read clusters keys versions kinds words order lengths asked kept t) ∙ standing-same asked))
+    (λ t. rw t (ap (λ (u : CacheStanding). store asked 0 (standingWords u)) (standing-read clusters keys versions kinds words order lengths asked kept t) ∙ standing-same asked))
     (λ t. rw t refl)
 
 module _ (asked : List ℕ) (h : wordsRight asked ≡ true) where
   -- as the code puts it
-  pub put-as : (s : State) {t : Standing} {new : List ℕ} → t ≡ standingOf s → new ≡ store asked 0 (standingWords t) → new ≡ putState asked s
+  pub put-as : (s : CacheState) {t : CacheStanding} {new : List ℕ} → t ≡ standingOf s → new ≡ store asked 0 (standingWords t) → new ≡ putState asked s
   unfolding putState
-  put-as s e n = rw h (n ∙ ap (λ (u : Standing). store asked 0 (standingWords u)) e)
+  put-as s e n = rw h (n ∙ ap (λ (u : CacheStanding). store asked 0 (standingWords u)) e)
 
-  module _ (size : length asked ≡ askedSize) (s : State) where
+  module _ (size : length asked ≡ askedSize) (s : CacheState) where
     put-read : standingIn (putState asked s) ≡ standingOf s
     unfolding putState
     put-read = rw h (standing-back asked (standingOf s) size)
@@ -194,7 +194,7 @@ module _ (asked : List ℕ) (h : wordsRight asked ≡ true) where
             count = put-read j .count;
             order = c .order;
             lengths = c .lengths;
-            primed = (ap (λ (t : Standing). eqb (t .primed) 1) put-read ∙ mark-back (c .primed)) j;
+            primed = (ap (λ (t : CacheStanding). eqb (t .primed) 1) put-read ∙ mark-back (c .primed)) j;
           };
           asked = record {
             used = put-read j .used;
@@ -219,12 +219,12 @@ module _ (asked : List ℕ) (h : wordsRight asked ≡ true) where
         let p = put-read in
         let rest : (i : ℕ) → 13 ≤ i → word (putState asked s) i ≡ word asked i = λ i l. rw h (word-after asked 0 (standingWords (standingOf s)) i (omega arith)) in
         right-words (putState asked s) (record {
-          primed = subst (λ (x : ℕ). x ≤ 1) (sym (ap (λ (t : Standing). t .primed) p)) (mark-low (s .held .primed));
-          turn = subst (λ (x : ℕ). x < 2 ^ 16) (sym (ap (λ (t : Standing). t .turn) p)) (n .turn);
-          status = subst (λ (x : ℕ). x < 256) (sym (ap (λ (t : Standing). t .status) p)) (n .status);
-          endpoint = subst (λ (x : ℕ). x < 2 ^ 16) (sym (ap (λ (t : Standing). t .endpoint) p)) (n .endpoint);
-          cluster = subst (λ (x : ℕ). x < 2 ^ 32) (sym (ap (λ (t : Standing). t .cluster) p)) (n .cluster);
-          attribute = subst (λ (x : ℕ). x < 2 ^ 32) (sym (ap (λ (t : Standing). t .attribute) p)) (n .attribute);
+          primed = subst (λ (x : ℕ). x ≤ 1) (sym (ap (λ (t : CacheStanding). t .primed) p)) (mark-low (s .held .primed));
+          turn = subst (λ (x : ℕ). x < 2 ^ 16) (sym (ap (λ (t : CacheStanding). t .turn) p)) (n .turn);
+          status = subst (λ (x : ℕ). x < 256) (sym (ap (λ (t : CacheStanding). t .status) p)) (n .status);
+          endpoint = subst (λ (x : ℕ). x < 2 ^ 16) (sym (ap (λ (t : CacheStanding). t .endpoint) p)) (n .endpoint);
+          cluster = subst (λ (x : ℕ). x < 2 ^ 32) (sym (ap (λ (t : CacheStanding). t .cluster) p)) (n .cluster);
+          attribute = subst (λ (x : ℕ). x < 2 ^ 32) (sym (ap (λ (t : CacheStanding). t .attribute) p)) (n .attribute);
           spare = rest 13 (omega arith) ∙ r .spare;
           spare-2 = rest 14 (omega arith) ∙ r .spare-2;
           spare-3 = rest 15 (omega arith) ∙ r .spare-3;

@@ -1,27 +1,27 @@
--- A fresh panel, beginning and resending (document 01, The panel, and When either end says no: "For beginning: 2, 3, 8, 10; resending: 2, 3, 9").
+-- A fresh cache, beginning and resending (RULES 7.1 to 7.6), and in which order they are refused (RULES 6.6, 6.7).
 use mathlib.Core.Bool.{Bool, false, _&&_, not}
 use mathlib.Core.List.{List}
 use Prim.Native.Nat.{ℕ, _+_, _-_}
 use lib.Dec.{eqb, ltb}
 use lib.ListN.{length, take, replicate}
-use Rattle.octets.specs.Store.{store}
-use Rattle.tlv.specs.declared.Value.{Value}
-use Rattle.tlv.specs.Octet.{pick}
-use Rattle.tlv.specs.Value.{datumIn}
+use Rattle.base_octets.specs.Store.{store}
+use Rattle.tlv_reader.specs.declared.Value.{Value}
+use Rattle.tlv_reader.specs.Octet.{pick}
+use Rattle.tlv_reader.specs.Value.{datumIn}
 use Rattle.cache_entries.specs.Limits.{maxEntries, maxClusters, orderSize, textPlaces}
 use Rattle.cache_entries.specs.Values.{usableIn, longV}
 use Rattle.cache_messages.specs.Filters.{filtersOf}
 use Rattle.cache_messages.specs.Messages.{readMessage, writeMessage}
-use Rattle.interaction_writer.specs.Envelope.{panelEdition, exchangeLimit}
-use Rattle.envelope.specs.Envelope.{maxMessage}
-use Rattle.exchange.specs.Rules.{firstReply}
+use Rattle.im_writer.specs.Envelope.{cacheEdition, exchangeLimit}
+use Rattle.im_envelope.specs.Envelope.{maxMessage}
+use Rattle.im_exchange.specs.Rules.{firstReply}
 use Rattle.cache_state.specs.declared.Request.{Request}
-use Rattle.cache_state.specs.declared.State.{State}
-use Rattle.cache_state.specs.State.{noneYet, reading, writing, isOpen, panelRight}
+use Rattle.cache_state.specs.declared.CacheState.{CacheState}
+use Rattle.cache_state.specs.State.{noneYet, reading, writing, isOpen, cacheRight}
 use Rattle.cache_state.specs.Words.{wordsRight}
-use Rattle.cache_state.specs.Reaction.{Reaction, refusal}
+use Rattle.cache_state.specs.Reaction.{CacheReaction, refusal}
 
-unfoldable pub fresh : State
+unfoldable pub fresh : CacheState
 fresh =
     record {
       held = record {
@@ -51,7 +51,7 @@ fresh =
       };
     }
 
--- "Beginning anew abandons the old; an abandoned write is `unknown`"
+-- RULES 7.6: a write that is abandoned is `unknown`
 unfoldable pub unknownAfter : Request → ℕ
 unknownAfter x = pick (eqb (x .stage) writing) (x .exchange) (x .unknown)
 
@@ -95,10 +95,10 @@ nextRequest x stage endpoint cluster attribute =
 unfoldable pub askedAs : Request → ℕ → ℕ → ℕ → ℕ → List ℕ → Request
 askedAs x stage endpoint cluster attribute message = keeping (nextRequest x stage endpoint cluster attribute) message
 
-abbrev pub asking : State → ℕ → ℕ → ℕ → ℕ → List ℕ → State
+abbrev pub asking : CacheState → ℕ → ℕ → ℕ → ℕ → List ℕ → CacheState
 asking s stage endpoint cluster attribute message = record { held = s .held; asked = askedAs (s .asked) stage endpoint cluster attribute message }
 
-abbrev pub sent : List ℕ → State → ℕ → ℕ → ℕ → ℕ → List ℕ → Reaction
+abbrev pub sent : List ℕ → CacheState → ℕ → ℕ → ℕ → ℕ → List ℕ → CacheReaction
 sent page s stage endpoint cluster attribute message =
     record {
       number = 0;
@@ -107,40 +107,40 @@ sent page s stage endpoint cluster attribute message =
       reply = message;
     }
 
--- 2, 3, 8: "2^40 - 1 was used"
-abbrev pub beginning : List ℕ → State → ℕ → Reaction → Reaction
+-- RULES 6.6: 2, 3, then 8
+abbrev pub beginning : List ℕ → CacheState → ℕ → CacheReaction → CacheReaction
 beginning page s room next =
-    pick (panelRight page s)
+    pick (cacheRight page s)
     (pick (ltb room maxMessage) (refusal 3 s page) (pick (ltb (s .asked .used) (exchangeLimit - 1)) next (refusal 8 s page)))
     (refusal 2 s page)
 
 -- BEGINNING A READ
-unfoldable pub beginsRead : List ℕ → State → ℕ → Reaction
+unfoldable pub beginsRead : List ℕ → CacheState → ℕ → CacheReaction
 beginsRead page s room =
-    beginning page s room (sent page s reading 0 0 0 (readMessage panelEdition (s .asked .used + 1) (filtersOf (s .held))))
+    beginning page s room (sent page s reading 0 0 0 (readMessage cacheEdition (s .asked .used + 1) (filtersOf (s .held))))
 
--- 10: "value can't be written (text over 200 or not UTF-8)"
+-- refusal 10 (RULES 6.1): whether a value can be written
 unfoldable pub sendable : List ℕ → Value → Bool
 sendable src v = usableIn src v && not (longV v)
 
 -- BEGINNING A WRITE
-unfoldable pub beginsWrite : List ℕ → State → ℕ → ℕ → ℕ → Bool → ℕ → List ℕ → Value → ℕ → Reaction
+unfoldable pub beginsWrite : List ℕ → CacheState → ℕ → ℕ → ℕ → Bool → ℕ → List ℕ → Value → ℕ → CacheReaction
 beginsWrite page s e c a given version src v room =
     beginning page s room
-    (pick (sendable src v) (sent page s writing e c a (writeMessage panelEdition (s .asked .used + 1) given version e c a (datumIn src v))) (refusal 10 s page))
+    (pick (sendable src v) (sent page s writing e c a (writeMessage cacheEdition (s .asked .used + 1) given version e c a (datumIn src v))) (refusal 10 s page))
 
 -- RESENDING
-unfoldable pub resends : List ℕ → State → ℕ → Reaction
+unfoldable pub resends : List ℕ → CacheState → ℕ → CacheReaction
 resends page s room =
-    pick (panelRight page s)
+    pick (cacheRight page s)
     (pick (ltb room maxMessage) (refusal 3 s page)
     (pick (isOpen (s .asked .stage)) (record { number = 0; state = s; page = page; reply = keptMessage (s .asked) }) (refusal 9 s page)))
     (refusal 2 s page)
 
 -- ---- AS THE CODE HAS IT: 2, 3 or 8 where nothing can be begun, else 0
 
-unfoldable pub unready : List ℕ → List ℕ → State → ℕ → ℕ
+unfoldable pub unready : List ℕ → List ℕ → CacheState → ℕ → ℕ
 unready asked page s room =
-    pick (wordsRight asked && panelRight page s)
+    pick (wordsRight asked && cacheRight page s)
     (pick (ltb room maxMessage) 3 (pick (ltb (s .asked .used) (exchangeLimit - 1)) 0 8))
     2

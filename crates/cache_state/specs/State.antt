@@ -1,15 +1,15 @@
--- A panel's whole state, and the rules that it keeps (document 01, refusal 2: "state, page or access table breaks these rules").
+-- A cache's whole state, and the rules that it keeps (refusal 2, RULES 6.1).
 use mathlib.Core.Bool.{Bool, true, _&&_, _||_, not}
 use mathlib.Core.List.{List}
 use Prim.Native.Nat.{ℕ}
 use lib.Dec.{eqb, ltb, leb}
-use Rattle.tlv.specs.Octet.{pick}
+use Rattle.tlv_reader.specs.Octet.{pick}
 use Rattle.cache_entries.specs.Valid.{heldRight}
-use Rattle.interaction_writer.specs.Envelope.{exchangeLimit}
-use Rattle.envelope.specs.Envelope.{maxMessage}
-use Rattle.exchange.specs.Rules.{firstReply}
+use Rattle.im_writer.specs.Envelope.{exchangeLimit}
+use Rattle.im_envelope.specs.Envelope.{maxMessage}
+use Rattle.im_exchange.specs.Rules.{firstReply}
 use Rattle.cache_state.specs.declared.Request.{Request}
-use Rattle.cache_state.specs.declared.State.{State}
+use Rattle.cache_state.specs.declared.CacheState.{CacheState}
 
 -- how the newest request stands: none yet, an open read, an open write, ended on its last part, ended with a status
 abbrev pub noneYet : ℕ
@@ -43,5 +43,5 @@ askedRight x =
     && (leb (x .unknown) (x .used)
     && (leb (x .stage) withStatus && (leb (x .len) maxMessage && pick (isOpen (x .stage)) (openRight x) true))))
 
-unfoldable pub panelRight : List ℕ → State → Bool
-panelRight page s = heldRight page (s .held) && askedRight (s .asked)
+unfoldable pub cacheRight : List ℕ → CacheState → Bool
+cacheRight page s = heldRight page (s .held) && askedRight (s .asked)

@@ -4,13 +4,13 @@ use mathlib.Core.List.{List, [], _∷_}
 use Prim.Native.Nat.{ℕ, _^_}
 use lib.Dec.{eqb, ltb, leb}
 use lib.ListN.{getD}
-use Rattle.octets.specs.Store.{store}
-use Rattle.tlv.specs.Octet.{pick}
+use Rattle.base_octets.specs.Store.{store}
+use Rattle.tlv_reader.specs.Octet.{pick}
 use Rattle.cache_entries.specs.declared.Cached.{Cached}
 use Rattle.cache_entries.specs.Entries.{heldOf}
 use Rattle.cache_state.specs.declared.Request.{Request}
-use Rattle.cache_state.specs.declared.State.{State}
-use Rattle.cache_state.specs.declared.Standing.{Standing}
+use Rattle.cache_state.specs.declared.CacheState.{CacheState}
+use Rattle.cache_state.specs.declared.CacheStanding.{CacheStanding}
 
 abbrev pub askedSize : ℕ
 askedSize = 16
@@ -19,7 +19,7 @@ abbrev pub word : List ℕ → ℕ → ℕ
 word w i = getD w i 0
 
 -- words 0 to 12; what they say goes by value
-unfoldable pub standingIn : List ℕ → Standing
+unfoldable pub standingIn : List ℕ → CacheStanding
 standingIn w =
     record {
       «cluster_count» = word w 0;
@@ -37,12 +37,12 @@ standingIn w =
       len = word w 12;
     }
 
-unfoldable pub standingWords : Standing → List ℕ
+unfoldable pub standingWords : CacheStanding → List ℕ
 standingWords t =
     t .«cluster_count» ∷ t .count ∷ t .primed ∷ t .used ∷ t .exchange ∷ t .stage ∷ t .turn ∷ t .status ∷ t .endpoint ∷ t .cluster ∷ t .attribute ∷ t .unknown
     ∷ t .len ∷ []
 
--- numbers in their widths; words 13 to 15 are spare. What breaks this is no panel's
+-- numbers in their widths; words 13 to 15 are spare. What breaks this is no cache's
 unfoldable pub wordsRight : List ℕ → Bool
 wordsRight w =
     leb (word w 2) 1
@@ -53,7 +53,7 @@ wordsRight w =
 
 -- ---- THE STATE that is lent
 
-abbrev pub requestOf : Standing → List ℕ → Request
+abbrev pub requestOf : CacheStanding → List ℕ → Request
 requestOf t kept =
     record {
       used = t .used;
@@ -69,20 +69,20 @@ requestOf t kept =
       len = t .len;
     }
 
-abbrev pub heldIn : List ℕ → List ℕ → List ℕ → List ℕ → List ℕ → List ℕ → List ℕ → Standing → Cached
+abbrev pub heldIn : List ℕ → List ℕ → List ℕ → List ℕ → List ℕ → List ℕ → List ℕ → CacheStanding → Cached
 heldIn clusters keys versions kinds words order lengths t =
     heldOf clusters keys versions kinds words order lengths (t .«cluster_count») (t .count) (eqb (t .primed) 1)
 
-abbrev pub stateWith : List ℕ → List ℕ → List ℕ → List ℕ → List ℕ → List ℕ → List ℕ → Standing → List ℕ → State
+abbrev pub stateWith : List ℕ → List ℕ → List ℕ → List ℕ → List ℕ → List ℕ → List ℕ → CacheStanding → List ℕ → CacheState
 stateWith clusters keys versions kinds words order lengths t kept =
     record { held = heldIn clusters keys versions kinds words order lengths t; asked = requestOf t kept }
 
-abbrev pub stateIn : List ℕ → List ℕ → List ℕ → List ℕ → List ℕ → List ℕ → List ℕ → List ℕ → List ℕ → State
+abbrev pub stateIn : List ℕ → List ℕ → List ℕ → List ℕ → List ℕ → List ℕ → List ℕ → List ℕ → List ℕ → CacheState
 stateIn clusters keys versions kinds words order lengths asked kept =
     stateWith clusters keys versions kinds words order lengths (standingIn asked) kept
 
 -- what a state says in words
-abbrev pub standingOf : State → Standing
+abbrev pub standingOf : CacheState → CacheStanding
 standingOf s =
     record {
       «cluster_count» = s .held .«cluster_count»;
@@ -100,6 +100,6 @@ standingOf s =
       len = s .asked .len;
     }
 
--- a state stored over the words of another; spare words stay, and so do words that are no panel's
-unfoldable pub putState : List ℕ → State → List ℕ
+-- a state stored over the words of another; spare words stay, and so do words that are no cache's
+unfoldable pub putState : List ℕ → CacheState → List ℕ
 putState old s = pick (wordsRight old) (store old 0 (standingWords (standingOf s))) old

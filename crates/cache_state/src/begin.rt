@@ -1,17 +1,18 @@
-// A fresh panel, a request begun, and the newest message again.
+// A fresh cache, a request begun, and the newest message again.
 ghost use mathlib.Core.Path.{_≡_};
 ghost use mathlib.Core.Bool.{true};
 ghost use mathlib.Core.List.{List};
 ghost use Prim.Native.Nat.{ℕ, _+_, _≤_, _<_};
 ghost use lib.ListN.{length, take, replicate};
-ghost use Rattle.octets.specs.Store.{store};
-ghost use Rattle.interaction_writer.specs.Envelope.{exchangeLimit};
-ghost use Rattle.envelope.specs.Envelope.{maxMessage};
+ghost use Rattle.base_octets.specs.Store.{store};
+ghost use Rattle.im_writer.specs.Envelope.{exchangeLimit};
+ghost use Rattle.im_envelope.specs.Envelope.{maxMessage};
 ghost use Rattle.cache_state.specs.Words.{askedSize, wordsRight, standingIn, requestOf, stateWith, stateIn, standingOf};
 ghost use Rattle.cache_state.specs.Begin.{fresh, unknownAfter, asking, sendable, beginsRead, beginsWrite, resends, unready};
-ghost use Rattle.cache_state.specs.Reaction.{ofPanel, Leaves, Reacted};
+ghost use Rattle.cache_state.specs.Reaction.{ofCache, Leaves, CacheReacted};
 use super::ASKED_WORDS;
 use super::BROKEN;
+use super::CacheStanding;
 use super::DONE;
 use super::NOT_OPEN;
 use super::NOT_WRITABLE;
@@ -19,14 +20,14 @@ use super::NUMBERS_USED;
 use super::Outcome;
 use super::READING;
 use super::SMALL_BUFFER;
-use super::Standing;
 use super::WRITING;
+use super::cache_ok;
 use super::is_open;
-use super::panel_ok;
 use super::refuse;
 use super::words::keep;
 use super::words::put_standing;
 use super::words::read_standing;
+use base_octets::put_bytes;
 use cache_entries::CLUSTERS;
 use cache_entries::ENTRIES;
 use cache_entries::ORDER_SIZE;
@@ -35,17 +36,16 @@ use cache_entries::values::is_long;
 use cache_entries::values::usable;
 use cache_messages::other::put_write;
 use cache_messages::read::put_read;
-use envelope::MAX_MESSAGE;
-use exchange::FIRST_REPLY;
-use interaction_writer::envelope::EXCHANGE_LIMIT;
-use interaction_writer::envelope::PANEL_EDITION;
-use octets::put_bytes;
-use tlv::Value;
+use im_envelope::MAX_MESSAGE;
+use im_exchange::FIRST_REPLY;
+use im_writer::envelope::CACHE_EDITION;
+use im_writer::envelope::EXCHANGE_LIMIT;
+use tlv_reader::Value;
 
 // The last exchange number.
 pub const LAST_EXCHANGE: u64 = EXCHANGE_LIMIT - 1;
 
-// A fresh panel in the memory that is lent; its page may be any bytes of its size.
+// A fresh cache in the memory that is lent; its page may be any bytes of its size.
 pub fn fresh(
     clusters: &mut [u64; CLUSTERS],
     keys: &mut [u64; ENTRIES],
@@ -71,7 +71,7 @@ pub fn fresh(
 }
 
 // Beginning anew abandons an open request; an abandoned write is unknown.
-fn unknown_after(t: Standing) -> u64
+fn unknown_after(t: CacheStanding) -> u64
     ensures { λ r. ⌜ ((kept : List ℕ) → r ≡ unknownAfter (requestOf t kept)) ⌝ }
 {
     if t.stage == WRITING {
@@ -82,17 +82,17 @@ fn unknown_after(t: Standing) -> u64
 
 // The next request, open, with a message of so many bytes.
 fn asked_as(
-    t: Standing,
+    t: CacheStanding,
     stage: u64,
     endpoint: u16,
     cluster: u32,
     attribute: u32,
     len: usize,
-) -> Standing
+) -> CacheStanding
     requires { ⌜ (t .used + 1 < exchangeLimit) × (t .primed ≤ 1) ⌝ }
     ensures { λ r. ⌜ ((clusters keys versions kinds words order lengths kept message : List ℕ) → length message ≡ len → r ≡ standingOf (asking (stateWith clusters keys versions kinds words order lengths t kept) stage endpoint cluster attribute message)) ⌝ }
 {
-    Standing {
+    CacheStanding {
         cluster_count: t.cluster_count,
         count: t.count,
         primed: t.primed,
@@ -113,7 +113,7 @@ fn asked_as(
 fn ask(
     asked: &mut [u64; ASKED_WORDS],
     kept: &mut [u8; MAX_MESSAGE],
-    t: Standing,
+    t: CacheStanding,
     stage: u64,
     endpoint: u16,
     cluster: u32,
@@ -141,12 +141,12 @@ fn cannot_begin<'a>(
     order: &'a [u8; ORDER_SIZE],
     lengths: &'a [u16; TEXT_PLACES],
     asked: &'a [u64; ASKED_WORDS],
-    t: Standing,
+    t: CacheStanding,
     room: usize,
 ) -> u8
     ensures { λ r. ⌜ ((kept : List ℕ) → r ≡ unready (now (asked .entry)) (now (page .entry)) (stateWith (now (clusters .entry)) (now (keys .entry)) (now (versions .entry)) (now (kinds .entry)) (now (words .entry)) (now (order .entry)) (now (lengths .entry)) t kept) room) ⌝ }
 {
-    if !panel_ok(
+    if !cache_ok(
         page,
         clusters,
         keys,
@@ -183,7 +183,7 @@ pub fn begin_read<'a>(
     kept: &mut [u8; MAX_MESSAGE],
     out: &mut [u8],
 ) -> Outcome
-    ensures { λ r. ⌜ Reacted (ofPanel (now (asked .entry)) (now (page .entry)) (stateIn (now (clusters .entry)) (now (keys .entry)) (now (versions .entry)) (now (kinds .entry)) (now (words .entry)) (now (order .entry)) (now (lengths .entry)) (now (asked .entry)) (now (kept .entry))) (beginsRead (now (page .entry)) (stateIn (now (clusters .entry)) (now (keys .entry)) (now (versions .entry)) (now (kinds .entry)) (now (words .entry)) (now (order .entry)) (now (lengths .entry)) (now (asked .entry)) (now (kept .entry))) (length (now (out .entry))))) r (stateIn (now (clusters .entry)) (now (keys .entry)) (now (versions .entry)) (now (kinds .entry)) (now (words .entry)) (now (order .entry)) (now (lengths .entry)) (now (asked .exit)) (now (kept .exit))) (now (asked .entry)) (now (asked .exit)) (now (page .entry)) (now (out .entry)) (now (out .exit)) ⌝ }
+    ensures { λ r. ⌜ CacheReacted (ofCache (now (asked .entry)) (now (page .entry)) (stateIn (now (clusters .entry)) (now (keys .entry)) (now (versions .entry)) (now (kinds .entry)) (now (words .entry)) (now (order .entry)) (now (lengths .entry)) (now (asked .entry)) (now (kept .entry))) (beginsRead (now (page .entry)) (stateIn (now (clusters .entry)) (now (keys .entry)) (now (versions .entry)) (now (kinds .entry)) (now (words .entry)) (now (order .entry)) (now (lengths .entry)) (now (asked .entry)) (now (kept .entry))) (length (now (out .entry))))) r (stateIn (now (clusters .entry)) (now (keys .entry)) (now (versions .entry)) (now (kinds .entry)) (now (words .entry)) (now (order .entry)) (now (lengths .entry)) (now (asked .exit)) (now (kept .exit))) (now (asked .entry)) (now (asked .exit)) (now (page .entry)) (now (out .entry)) (now (out .exit)) ⌝ }
 {
     let t = read_standing(asked);
     let room = out.len();
@@ -212,7 +212,7 @@ pub fn begin_read<'a>(
         t.count,
         t.primed == 1,
         out,
-        PANEL_EDITION,
+        CACHE_EDITION,
         t.used + 1,
     );
     ask(asked, kept, t, READING, 0, 0, 0, &out[0..end])
@@ -249,7 +249,7 @@ pub fn begin_write<'a>(
     src: &'a [u8],
     out: &mut [u8],
 ) -> Outcome
-    ensures { λ r. ⌜ Reacted (ofPanel (now (asked .entry)) (now (page .entry)) (stateIn (now (clusters .entry)) (now (keys .entry)) (now (versions .entry)) (now (kinds .entry)) (now (words .entry)) (now (order .entry)) (now (lengths .entry)) (now (asked .entry)) (now (kept .entry))) (beginsWrite (now (page .entry)) (stateIn (now (clusters .entry)) (now (keys .entry)) (now (versions .entry)) (now (kinds .entry)) (now (words .entry)) (now (order .entry)) (now (lengths .entry)) (now (asked .entry)) (now (kept .entry))) endpoint cluster attribute given version (now (src .entry)) new (length (now (out .entry))))) r (stateIn (now (clusters .entry)) (now (keys .entry)) (now (versions .entry)) (now (kinds .entry)) (now (words .entry)) (now (order .entry)) (now (lengths .entry)) (now (asked .exit)) (now (kept .exit))) (now (asked .entry)) (now (asked .exit)) (now (page .entry)) (now (out .entry)) (now (out .exit)) ⌝ }
+    ensures { λ r. ⌜ CacheReacted (ofCache (now (asked .entry)) (now (page .entry)) (stateIn (now (clusters .entry)) (now (keys .entry)) (now (versions .entry)) (now (kinds .entry)) (now (words .entry)) (now (order .entry)) (now (lengths .entry)) (now (asked .entry)) (now (kept .entry))) (beginsWrite (now (page .entry)) (stateIn (now (clusters .entry)) (now (keys .entry)) (now (versions .entry)) (now (kinds .entry)) (now (words .entry)) (now (order .entry)) (now (lengths .entry)) (now (asked .entry)) (now (kept .entry))) endpoint cluster attribute given version (now (src .entry)) new (length (now (out .entry))))) r (stateIn (now (clusters .entry)) (now (keys .entry)) (now (versions .entry)) (now (kinds .entry)) (now (words .entry)) (now (order .entry)) (now (lengths .entry)) (now (asked .exit)) (now (kept .exit))) (now (asked .entry)) (now (asked .exit)) (now (page .entry)) (now (out .entry)) (now (out .exit)) ⌝ }
 {
     let t = read_standing(asked);
     let room = out.len();
@@ -274,7 +274,7 @@ pub fn begin_write<'a>(
     }
     let end = put_write(
         out,
-        PANEL_EDITION,
+        CACHE_EDITION,
         t.used + 1,
         given,
         version,
@@ -312,10 +312,10 @@ pub fn resend<'a>(
     kept: &'a [u8; MAX_MESSAGE],
     out: &mut [u8],
 ) -> Outcome
-    ensures { λ r. ⌜ Reacted (ofPanel (now (asked .entry)) (now (page .entry)) (stateIn (now (clusters .entry)) (now (keys .entry)) (now (versions .entry)) (now (kinds .entry)) (now (words .entry)) (now (order .entry)) (now (lengths .entry)) (now (asked .entry)) (now (kept .entry))) (resends (now (page .entry)) (stateIn (now (clusters .entry)) (now (keys .entry)) (now (versions .entry)) (now (kinds .entry)) (now (words .entry)) (now (order .entry)) (now (lengths .entry)) (now (asked .entry)) (now (kept .entry))) (length (now (out .entry))))) r (stateIn (now (clusters .entry)) (now (keys .entry)) (now (versions .entry)) (now (kinds .entry)) (now (words .entry)) (now (order .entry)) (now (lengths .entry)) (now (asked .entry)) (now (kept .entry))) (now (asked .entry)) (now (asked .entry)) (now (page .entry)) (now (out .entry)) (now (out .exit)) ⌝ }
+    ensures { λ r. ⌜ CacheReacted (ofCache (now (asked .entry)) (now (page .entry)) (stateIn (now (clusters .entry)) (now (keys .entry)) (now (versions .entry)) (now (kinds .entry)) (now (words .entry)) (now (order .entry)) (now (lengths .entry)) (now (asked .entry)) (now (kept .entry))) (resends (now (page .entry)) (stateIn (now (clusters .entry)) (now (keys .entry)) (now (versions .entry)) (now (kinds .entry)) (now (words .entry)) (now (order .entry)) (now (lengths .entry)) (now (asked .entry)) (now (kept .entry))) (length (now (out .entry))))) r (stateIn (now (clusters .entry)) (now (keys .entry)) (now (versions .entry)) (now (kinds .entry)) (now (words .entry)) (now (order .entry)) (now (lengths .entry)) (now (asked .entry)) (now (kept .entry))) (now (asked .entry)) (now (asked .entry)) (now (page .entry)) (now (out .entry)) (now (out .exit)) ⌝ }
 {
     let t = read_standing(asked);
-    if !panel_ok(
+    if !cache_ok(
         page,
         clusters,
         keys,

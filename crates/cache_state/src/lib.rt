@@ -1,9 +1,9 @@
-// The panel: the client's copy of a sign. Every call takes any bytes, any buffer, any memory, and answers one of document 01's numbers.
+// The cache: the client's copy of a server. Every call takes any bytes, any buffer, any memory, and answers a number of RULES 6.1.
 ghost use mathlib.Core.Path.{_≡_};
 ghost use mathlib.Core.Bool.{_&&_};
 ghost use mathlib.Core.List.{List};
 ghost use Prim.Native.Nat.{ℕ};
-ghost use Rattle.cache_state.specs.State.{isOpen, openRight, askedRight, panelRight};
+ghost use Rattle.cache_state.specs.State.{isOpen, openRight, askedRight, cacheRight};
 ghost use Rattle.cache_state.specs.Words.{wordsRight, requestOf, stateWith};
 use cache_entries::CLUSTERS;
 use cache_entries::Cached;
@@ -11,11 +11,11 @@ use cache_entries::ENTRIES;
 use cache_entries::ORDER_SIZE;
 use cache_entries::TEXT_PLACES;
 use cache_entries::valid::held_ok;
-use envelope::MAX_MESSAGE;
-use exchange::FIRST_REPLY;
-use interaction_writer::envelope::EXCHANGE_LIMIT;
+use im_envelope::MAX_MESSAGE;
+use im_exchange::FIRST_REPLY;
+use im_writer::envelope::EXCHANGE_LIMIT;
 
-pub mod begin; // begin.rt: a fresh panel, a read or a write begun, the newest message again
+pub mod begin; // begin.rt: a fresh cache, a read or a write begun, the newest message again
 pub mod words; // words.rt: how the newest request stands, in the words that are lent for it
 
 // How the newest request stands.
@@ -46,21 +46,21 @@ pub struct Request {
     pub endpoint: u16,
     pub cluster: u32,
     pub attribute: u32,
-    // The exchange of the newest abandoned write, 0 if there is none (document 01: unknown).
+    // The exchange of the newest abandoned write, 0 if there is none (RULES 7.6: unknown).
     pub unknown: u64,
     // The newest message.
     pub kept: [u8; MAX_MESSAGE],
     pub len: usize,
 }
 
-// What a panel holds, and its newest request. Its texts lie in a lent page. The contracts speak of it; no function takes one.
-pub struct State {
+// What a cache holds, and its newest request. Its texts lie in a lent page. The contracts speak of it; no function takes one.
+pub struct CacheState {
     pub held: Cached,
     pub asked: Request,
 }
 
 // What is read from the words at the start of a call and put back at its end, in their order.
-pub struct Standing {
+pub struct CacheStanding {
     pub cluster_count: usize,
     pub count: usize,
     pub primed: u64,
@@ -76,13 +76,13 @@ pub struct Standing {
     pub len: usize,
 }
 
-// Document 01's number, and the message's length in the buffer.
+// The number of RULES 6.1, and the message's length in the buffer.
 pub struct Outcome {
     pub number: u8,
     pub len: usize,
 }
 
-// The numbers of document 01, When either end says no.
+// The numbers of RULES 6.1.
 pub const DONE: u8 = 0;
 
 pub const NOTHING: u8 = 1;
@@ -113,7 +113,7 @@ pub fn is_open(stage: u64) -> bool
 }
 
 // While a request is open: an exchange, a turn to await, of a write the first, and a message that was sent.
-fn open_ok(t: Standing) -> bool
+fn open_ok(t: CacheStanding) -> bool
     ensures { λ r. ⌜ ((kept : List ℕ) → r ≡ openRight (requestOf t kept)) ⌝ }
 {
     if t.exchange == 0 {
@@ -131,7 +131,7 @@ fn open_ok(t: Standing) -> bool
 }
 
 // Numbers of 40 bits that were used, a stage that there is, and what an open request needs.
-fn asked_ok(t: Standing) -> bool
+fn asked_ok(t: CacheStanding) -> bool
     ensures { λ r. ⌜ ((kept : List ℕ) → r ≡ askedRight (requestOf t kept)) ⌝ }
 {
     if EXCHANGE_LIMIT <= t.used {
@@ -155,8 +155,8 @@ fn asked_ok(t: Standing) -> bool
     open_ok(t)
 }
 
-// Whether what is lent is a panel that keeps the rules of document 01; t was read from its words.
-pub fn panel_ok<'a>(
+// Whether what is lent is a cache that keeps the rules (refusal 2, RULES 6.1); t was read from its words.
+pub fn cache_ok<'a>(
     page: &'a [u8],
     clusters: &'a [u64; CLUSTERS],
     keys: &'a [u64; ENTRIES],
@@ -166,9 +166,9 @@ pub fn panel_ok<'a>(
     order: &'a [u8; ORDER_SIZE],
     lengths: &'a [u16; TEXT_PLACES],
     asked: &'a [u64; ASKED_WORDS],
-    t: Standing,
+    t: CacheStanding,
 ) -> bool
-    ensures { λ r. ⌜ ((kept : List ℕ) → r ≡ (wordsRight (now (asked .entry)) && panelRight (now (page .entry)) (stateWith (now (clusters .entry)) (now (keys .entry)) (now (versions .entry)) (now (kinds .entry)) (now (words .entry)) (now (order .entry)) (now (lengths .entry)) t kept))) ⌝ }
+    ensures { λ r. ⌜ ((kept : List ℕ) → r ≡ (wordsRight (now (asked .entry)) && cacheRight (now (page .entry)) (stateWith (now (clusters .entry)) (now (keys .entry)) (now (versions .entry)) (now (kinds .entry)) (now (words .entry)) (now (order .entry)) (now (lengths .entry)) t kept))) ⌝ }
 {
     if !words::words_ok(asked) {
         return false;

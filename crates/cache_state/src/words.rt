@@ -2,20 +2,20 @@
 ghost use mathlib.Core.Path.{_≡_};
 ghost use Prim.Native.Nat.{_≤_};
 ghost use lib.ListN.{length};
-ghost use Rattle.octets.specs.Store.{store};
-ghost use Rattle.envelope.specs.Envelope.{maxMessage};
+ghost use Rattle.base_octets.specs.Store.{store};
+ghost use Rattle.im_envelope.specs.Envelope.{maxMessage};
 ghost use Rattle.cache_state.specs.Words.{askedSize, standingIn, standingWords, wordsRight};
 use super::ASKED_WORDS;
-use super::Standing;
-use envelope::MAX_MESSAGE;
-use octets::put_bytes;
+use super::CacheStanding;
+use base_octets::put_bytes;
+use im_envelope::MAX_MESSAGE;
 
-pub fn read_standing(asked: &[u64; ASKED_WORDS]) -> Standing
+pub fn read_standing(asked: &[u64; ASKED_WORDS]) -> CacheStanding
     ensures { λ r. ⌜ r ≡ standingIn (now (asked .entry)) ⌝ }
     ensures whole { λ _. ⌜ length (now (asked .entry)) ≡ askedSize ⌝ }
 {
     let w: &[u64] = asked;
-    Standing {
+    CacheStanding {
         cluster_count: w[0] as usize,
         count: w[1] as usize,
         primed: w[2],
@@ -33,7 +33,7 @@ pub fn read_standing(asked: &[u64; ASKED_WORDS]) -> Standing
 }
 
 // The spare words stay as they are.
-pub fn put_standing(asked: &mut [u64; ASKED_WORDS], t: Standing)
+pub fn put_standing(asked: &mut [u64; ASKED_WORDS], t: CacheStanding)
     ensures { λ _. ⌜ now (asked .exit) ≡ store (now (asked .entry)) 0 (standingWords t) ⌝ }
 {
     asked[0] = t.cluster_count as u64;

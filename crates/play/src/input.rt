@@ -1,9 +1,9 @@
 // Standard input, read in pieces behind what is left of the last one, and taken line by line.
 use super::print::wrong;
 use libc::STDIN_FILENO;
-use script::sizes::clip;
-use script::sizes::least;
 use script_answer::OVERLONG;
+use script_lines::sizes::clip;
+use script_lines::sizes::least;
 
 // A line has fewer bytes than this, its end counted.
 pub const INPUT: usize = 65_536;

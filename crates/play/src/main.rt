@@ -2,11 +2,11 @@
 // two capital hex digits. A line that can't be read, or has nothing to work on, is named on standard error and stops the run; what was answered so far
 // stands. The lines of a script are listed in docs/SCRIPTS.md.
 use cache_entries::PAGE_SIZE;
-use envelope::MAX_MESSAGE;
+use im_envelope::MAX_MESSAGE;
 use input::INPUT;
-use player::ends::Player;
-use player::play_line;
-use schema::WORDS;
+use node_schema::WORDS;
+use script_player::ends::Player;
+use script_player::play_line;
 use script_setup::PAGE;
 use script_setup::SETUP;
 
@@ -52,7 +52,7 @@ fn main() {
     let mut edits = [0u8; PAGE];
     let mut page = [0u8; PAGE_SIZE];
     let mut out = [0u8; MAX_MESSAGE];
-    let p = player::ends::fresh();
+    let p = script_player::ends::fresh();
     run(
         &mut input,
         p,

@@ -1,15 +1,15 @@
 // What the program writes: one line an answer on standard output, and what is wrong on standard error.
-use envelope::MAX_MESSAGE;
+use im_envelope::MAX_MESSAGE;
 use libc::STDERR_FILENO;
 use libc::STDOUT_FILENO;
-use script::sizes::clip;
-use script_answer::NO_SIGN;
+use script_answer::LineSaid;
+use script_answer::NO_SERVER;
 use script_answer::NOT_REPLIED;
 use script_answer::NOT_SENT;
 use script_answer::OVERLONG;
-use script_answer::Said;
 use script_answer::text::TEXT;
 use script_answer::text::answer_line;
+use script_lines::sizes::clip;
 
 fn answer(number: u8, out: &[u8; MAX_MESSAGE], len: usize) {
     let mut text = [0u8; TEXT];
@@ -26,7 +26,7 @@ fn complain(text: &[u8]) {
 
 // What is wrong, by its number.
 fn reason(fault: u8) {
-    if fault == NO_SIGN {
+    if fault == NO_SERVER {
         complain(b"there is no sign\n");
     } else if fault == NOT_SENT {
         complain(b"the panel has sent nothing yet\n");
@@ -48,14 +48,14 @@ pub fn wrong(number: u64, fault: u8) {
 }
 
 // What a line says; answers whether the run goes on.
-pub fn show(said: Said, number: u64, out: &[u8; MAX_MESSAGE]) -> bool {
+pub fn show(said: LineSaid, number: u64, out: &[u8; MAX_MESSAGE]) -> bool {
     match said {
-        Said::Nothing => true,
-        Said::Line { number, len } => {
+        LineSaid::Nothing => true,
+        LineSaid::Line { number, len } => {
             answer(number, out, len);
             true
         }
-        Said::Wrong(fault) => {
+        LineSaid::Wrong(fault) => {
             wrong(number, fault);
             false
         }

@@ -6,7 +6,7 @@ use Prim.Native.Nat.{ℕ, zero, suc, _+_, _*_, _/_, _%_, _<_, _≤_}
 use native.Mathlib.Omega.{arith}
 use lib.Dec.{ltb}
 use lib.ListN.{length, take, getD}
-use Rattle.tlv.specs.Octet.{pick}
+use Rattle.tlv_reader.specs.Octet.{pick}
 use Rattle.script_answer.specs.Text.{digitOf, decimalText, hexText}
 
 three : (a b : Bool) (u v w x y z : ℕ) → length (pick a (u ∷ []) (pick b (v ∷ w ∷ []) (x ∷ y ∷ z ∷ []))) ≤ 3

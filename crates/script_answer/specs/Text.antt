@@ -1,8 +1,8 @@
--- An answer's line of text (document 01: its number in decimal, then for each byte a space and two capital hex digits).
+-- An answer's line of text (RULES 1.4): its number in decimal, then a space and two capital hex digits for each byte.
 use mathlib.Core.List.{List, [], _∷_, _++_}
 use Prim.Native.Nat.{ℕ, _+_, _/_, _%_}
 use lib.Dec.{ltb}
-use Rattle.tlv.specs.Octet.{pick}
+use Rattle.tlv_reader.specs.Octet.{pick}
 
 -- the digit of a number below 16: 0 to 9 are the bytes 48 to 57, A to F 65 to 70
 unfoldable pub digitOf : ℕ → ℕ

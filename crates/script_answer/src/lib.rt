@@ -3,7 +3,7 @@ pub mod message; // message.rt: messages spelled on a line or kept of an end
 pub mod text; // text.rt: an answer as a line of text
 
 // What a line says: nothing; a line of answer, its bytes at the start of the buffer; or what is wrong, which stops the run.
-pub enum Said {
+pub enum LineSaid {
     Nothing,
     Line { number: u8, len: usize },
     Wrong(u8),
@@ -12,7 +12,7 @@ pub enum Said {
 // What can be wrong; 0 for nothing.
 pub const UNREADABLE: u8 = 1;
 
-pub const NO_SIGN: u8 = 2;
+pub const NO_SERVER: u8 = 2;
 
 pub const NOT_SENT: u8 = 3;
 
@@ -21,10 +21,10 @@ pub const NOT_REPLIED: u8 = 4;
 pub const OVERLONG: u8 = 5;
 
 // Nothing to say, or a line that could not be read.
-pub fn quietly(ok: bool) -> Said {
+pub fn quietly(ok: bool) -> LineSaid {
     if ok {
-        Said::Nothing
+        LineSaid::Nothing
     } else {
-        Said::Wrong(UNREADABLE)
+        LineSaid::Wrong(UNREADABLE)
     }
 }

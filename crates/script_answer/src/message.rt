@@ -1,39 +1,39 @@
 // The messages that lines hand over: spelled on the line, or the newest one that an end has made.
 use super::UNREADABLE;
-use envelope::MAX_MESSAGE;
-use script::Scan;
-use script::hex::SPELLED;
-use script::hex::rest;
-use script::is_done;
-use script::sizes::least;
+use im_envelope::MAX_MESSAGE;
+use script_lines::Scan;
+use script_lines::hex::SPELLED;
+use script_lines::hex::rest;
+use script_lines::is_done;
+use script_lines::sizes::least;
 
 // The first len of the bytes; an end that has made no message yet has one of length 0.
-pub struct Message {
+pub struct MessageWords {
     pub bytes: [u8; SPELLED],
     pub len: usize,
 }
 
 // The message that a line hands over, or what is wrong with the line.
 pub struct Handed {
-    pub message: Message,
+    pub message: MessageWords,
     pub fault: u8,
 }
 
-pub fn no_message() -> Message {
-    Message {
+pub fn no_message() -> MessageWords {
+    MessageWords {
         bytes: [0u8; SPELLED],
         len: 0,
     }
 }
 
 // The newest message of an end that has just answered: what stands in the buffer, or what it was if nothing was sent.
-pub fn newer(old: Message, out: &[u8; MAX_MESSAGE], len: usize) -> Message {
+pub fn newer(old: MessageWords, out: &[u8; MAX_MESSAGE], len: usize) -> MessageWords {
     if len == 0 {
         return old;
     }
     let mut bytes = [0u8; SPELLED];
-    octets::put_bytes(&mut bytes, 0, out);
-    Message {
+    base_octets::put_bytes(&mut bytes, 0, out);
+    MessageWords {
         bytes,
         len: least(len, MAX_MESSAGE),
     }
@@ -57,13 +57,13 @@ pub fn spelled(line: &[u8], s: Scan) -> Handed {
         return nothing(UNREADABLE);
     }
     Handed {
-        message: Message { bytes, len: b.len },
+        message: MessageWords { bytes, len: b.len },
         fault: 0,
     }
 }
 
 // The newest message of an end, for a line that has no word more; what is wrong if there is none.
-pub fn newest(s: Scan, m: Message, none: u8) -> Handed {
+pub fn newest(s: Scan, m: MessageWords, none: u8) -> Handed {
     if !is_done(s) {
         return nothing(UNREADABLE);
     }

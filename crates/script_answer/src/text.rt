@@ -3,11 +3,11 @@ ghost use mathlib.Core.Path.{_≡_};
 ghost use mathlib.Core.List.{[], _∷_};
 ghost use Prim.Native.Nat.{_+_, _*_, _/_, _%_, _<_, _≤_};
 ghost use lib.ListN.{length};
-ghost use Rattle.octets.specs.Store.{Stored};
+ghost use Rattle.base_octets.specs.Store.{Stored};
 ghost use Rattle.script_answer.specs.Text.{digitOf, decimalText, hexText, answerText};
-use envelope::MAX_MESSAGE;
-use octets::put1;
-use octets::put2;
+use base_octets::put1;
+use base_octets::put2;
+use im_envelope::MAX_MESSAGE;
 
 // Room for a number of three digits, a space and two digits a byte, and the line's end.
 pub const TEXT: usize = 3 + 3 * MAX_MESSAGE + 1;

@@ -1,16 +1,16 @@
 // The access table as the lines give it.
-use acl::Entry;
-use bounds::ACCESS_ENTRIES;
-use script::Scan;
-use script::is_done;
-use script::number::read_marked;
-use script::number::read_number;
-use script::path::ENDPOINT_MAX;
-use script::path::ID_MAX;
+use base_bounds::ACCESS_ENTRIES;
+use node_access::AccessEntry;
+use script_lines::Scan;
+use script_lines::is_done;
+use script_lines::number::read_marked;
+use script_lines::number::read_number;
+use script_lines::path::ENDPOINT_MAX;
+use script_lines::path::ID_MAX;
 
 // The first `count` of the entries are in use.
 pub struct Table {
-    pub entries: [Entry; ACCESS_ENTRIES],
+    pub entries: [AccessEntry; ACCESS_ENTRIES],
     pub count: usize,
 }
 
@@ -20,7 +20,7 @@ pub struct Given {
     pub ok: bool,
 }
 
-const ANYBODY: Entry = Entry {
+const ANYBODY: AccessEntry = AccessEntry {
     privilege: 0,
     any_subject: true,
     subject: 0,
@@ -37,8 +37,8 @@ pub fn no_entries() -> Table {
     }
 }
 
-// A table with one entry more; the seventeenth is counted and not kept, and the sign refuses the table.
-fn with_entry(t: Table, e: Entry) -> Table {
+// A table with one entry more; the seventeenth is counted and not kept, and the server refuses the table.
+fn with_entry(t: Table, e: AccessEntry) -> Table {
     let n = t.count;
     let mut entries = t.entries;
     if n < ACCESS_ENTRIES {
@@ -62,7 +62,7 @@ pub fn access_line(line: &[u8], s: Scan, table: Table) -> Given {
     if !is_done(cluster.next) {
         return Given { table, ok: false };
     }
-    let e = Entry {
+    let e = AccessEntry {
         privilege: privilege.value as u8,
         any_subject: !subject.given,
         subject: subject.value,

@@ -1,43 +1,43 @@
 // The setup line of an attribute: its row of the schema's words, and its factory text.
 ghost use Prim.Native.Nat.{_≤_, _<_};
-ghost use Rattle.bounds.specs.Bounds.{attributeLimit};
+ghost use Rattle.base_bounds.specs.Bounds.{attributeLimit};
 use super::PAGE;
 use super::PATHS;
 use super::SETUP;
 use super::count_up;
-use bounds::ATTRIBUTES;
-use kinds::stored::same_bytes;
-use node::FLOAT;
-use node::SIGNED;
-use node::UNSIGNED;
-use schema::ATTRIBUTE_COUNT_WORD;
-use schema::FIRST;
-use schema::HALF;
-use schema::HIGH;
-use schema::KEY;
-use schema::LOW;
-use schema::NULLABLE_PART;
-use schema::READ_PART;
-use schema::TEXT;
-use schema::TEXT_SIZE;
-use schema::TRAITS;
-use schema::WRITE_PART;
-use script::Scan;
-use script::hex::SPELLED;
-use script::hex::rest;
-use script::is_done;
-use script::next_word;
-use script::number::Marked;
-use script::number::read_flag;
-use script::number::read_float;
-use script::number::read_marked;
-use script::number::read_number;
-use script::number::read_signed;
-use script::path::read_path;
-use script::sizes::clip;
+use base_bounds::ATTRIBUTES;
+use node_kinds::stored::same_bytes;
+use node_plan::FLOAT;
+use node_plan::SIGNED;
+use node_plan::UNSIGNED;
+use node_schema::ATTRIBUTE_COUNT_WORD;
+use node_schema::FIRST;
+use node_schema::HALF;
+use node_schema::HIGH;
+use node_schema::KEY;
+use node_schema::LOW;
+use node_schema::NULLABLE_PART;
+use node_schema::READ_PART;
+use node_schema::TEXT;
+use node_schema::TEXT_SIZE;
+use node_schema::TRAITS;
+use node_schema::WRITE_PART;
+use script_lines::Scan;
+use script_lines::hex::SPELLED;
+use script_lines::hex::rest;
+use script_lines::is_done;
+use script_lines::next_word;
+use script_lines::number::MarkedNumber;
+use script_lines::number::read_flag;
+use script_lines::number::read_float;
+use script_lines::number::read_marked;
+use script_lines::number::read_number;
+use script_lines::number::read_signed;
+use script_lines::path::read_path;
+use script_lines::sizes::clip;
 
 // A kind with its limits and first value, as words of the schema; of a text its length as the highest, until its rank is known.
-struct Limits {
+struct KindWords {
     code: u64,
     low: u64,
     high: u64,
@@ -47,11 +47,11 @@ struct Limits {
 
 const BOOLEAN: u64 = 0;
 
-fn boolean(line: &[u8], s: Scan) -> Limits
+fn boolean(line: &[u8], s: Scan) -> KindWords
     ensures { λ r. ⌜ r .code < 256 ⌝ }
 {
     let first = read_flag(line, s);
-    Limits {
+    KindWords {
         code: BOOLEAN,
         low: 0,
         high: 0,
@@ -60,13 +60,13 @@ fn boolean(line: &[u8], s: Scan) -> Limits
     }
 }
 
-fn unsigned(line: &[u8], s: Scan) -> Limits
+fn unsigned(line: &[u8], s: Scan) -> KindWords
     ensures { λ r. ⌜ r .code < 256 ⌝ }
 {
     let low = read_number(line, s, u64::MAX);
     let high = read_number(line, low.next, u64::MAX);
     let first = read_number(line, high.next, u64::MAX);
-    Limits {
+    KindWords {
         code: UNSIGNED,
         low: low.value,
         high: high.value,
@@ -75,13 +75,13 @@ fn unsigned(line: &[u8], s: Scan) -> Limits
     }
 }
 
-fn integer(line: &[u8], s: Scan) -> Limits
+fn integer(line: &[u8], s: Scan) -> KindWords
     ensures { λ r. ⌜ r .code < 256 ⌝ }
 {
     let low = read_signed(line, s);
     let high = read_signed(line, low.next);
     let first = read_signed(line, high.next);
-    Limits {
+    KindWords {
         code: SIGNED,
         low: low.value,
         high: high.value,
@@ -90,13 +90,13 @@ fn integer(line: &[u8], s: Scan) -> Limits
     }
 }
 
-fn real(line: &[u8], s: Scan) -> Limits
+fn real(line: &[u8], s: Scan) -> KindWords
     ensures { λ r. ⌜ r .code < 256 ⌝ }
 {
     let low = read_float(line, s);
     let high = read_float(line, low.next);
     let first = read_float(line, high.next);
-    Limits {
+    KindWords {
         code: FLOAT,
         low: low.value,
         high: high.value,
@@ -105,11 +105,11 @@ fn real(line: &[u8], s: Scan) -> Limits
     }
 }
 
-fn text(line: &[u8], s: Scan, bytes: &mut [u8]) -> Limits
+fn text(line: &[u8], s: Scan, bytes: &mut [u8]) -> KindWords
     ensures { λ r. ⌜ r .code < 256 ⌝ }
 {
     let b = rest(line, s, bytes);
-    Limits {
+    KindWords {
         code: TEXT,
         low: 0,
         high: b.len as u64,
@@ -119,7 +119,7 @@ fn text(line: &[u8], s: Scan, bytes: &mut [u8]) -> Limits
 }
 
 // bool FIRST | unsigned LOW HIGH FIRST | signed LOW HIGH FIRST | float LOW HIGH FIRST | text BYTES..
-fn read_limits(line: &[u8], s: Scan, bytes: &mut [u8]) -> Limits
+fn read_limits(line: &[u8], s: Scan, bytes: &mut [u8]) -> KindWords
     ensures { λ r. ⌜ r .code < 256 ⌝ }
 {
     let w = next_word(line, s);
@@ -141,7 +141,7 @@ fn read_limits(line: &[u8], s: Scan, bytes: &mut [u8]) -> Limits
     if same_bytes(kind, b"text") {
         return text(line, w.next, bytes);
     }
-    Limits {
+    KindWords {
         code: BOOLEAN,
         low: 0,
         high: 0,
@@ -151,7 +151,7 @@ fn read_limits(line: &[u8], s: Scan, bytes: &mut [u8]) -> Limits
 }
 
 // The privilege as the schema has it, 0 for none. A line's 0 is no privilege: it becomes 5, which is none either and is refused.
-fn privilege(m: Marked) -> u64
+fn privilege(m: MarkedNumber) -> u64
     requires { ⌜ m .value < 256 ⌝ }
     ensures { λ r. ⌜ r < 256 ⌝ }
 {
@@ -165,20 +165,20 @@ fn privilege(m: Marked) -> u64
 }
 
 // What a line says of an attribute. Of a text the bytes stand in a buffer.
-struct Row {
+struct AttributeLine {
     path: u64,
     id: u64,
     traits: u64,
-    limits: Limits,
+    limits: KindWords,
 }
 
-fn read_row(line: &[u8], s: Scan, bytes: &mut [u8]) -> Row {
+fn read_row(line: &[u8], s: Scan, bytes: &mut [u8]) -> AttributeLine {
     let p = read_path(line, s);
     let read = read_marked(line, p.next, b'-', 255);
     let write = read_marked(line, read.next, b'-', 255);
     let nullable = read_flag(line, write.next);
     let limits = read_limits(line, nullable.next, bytes);
-    Row {
+    AttributeLine {
         path: p.endpoint as u64 * HALF + p.cluster as u64,
         id: p.attribute as u64,
         traits: limits.code
@@ -202,7 +202,7 @@ fn next_row(setup: &mut [u64; SETUP]) -> usize
 }
 
 // The words of a row.
-fn set_row(setup: &mut [u64; SETUP], i: usize, row: Row)
+fn set_row(setup: &mut [u64; SETUP], i: usize, row: AttributeLine)
     requires { ⌜ i < attributeLimit ⌝ }
 {
     let limits = row.limits;
@@ -223,13 +223,13 @@ fn set_text(setup: &mut [u64; SETUP], texts: &mut [u8], i: usize, bytes: &[u8])
     if bytes.len() <= TEXT_SIZE {
         if at <= texts.len() {
             if bytes.len() <= texts.len() - at {
-                octets::put_bytes(texts, at, bytes);
+                base_octets::put_bytes(texts, at, bytes);
             }
         }
     }
 }
 
-fn add_row(setup: &mut [u64; SETUP], texts: &mut [u8; PAGE], row: Row, bytes: &[u8]) {
+fn add_row(setup: &mut [u64; SETUP], texts: &mut [u8; PAGE], row: AttributeLine, bytes: &[u8]) {
     let i = next_row(setup);
     if ATTRIBUTES <= i {
         return;

@@ -1,20 +1,20 @@
 // Setup lines: the schema's words as the lines give them, row by row. A row past a limit is counted and not kept: the schema is then refused,
 // as it is for every other rule that the lines break. No input and no output.
-use bounds::ATTRIBUTES;
-use bounds::CLUSTERS;
-use kinds::stored::same_bytes;
-use schema::CLUSTER_COUNT_WORD;
-use schema::HALF;
-use schema::PATH;
-use schema::SUBJECT_WORD;
-use schema::TEXT_SIZE;
-use schema::VERSION;
-use schema::WORDS;
-use script::Scan;
-use script::is_done;
-use script::number::read_number;
-use script::path::ID_MAX;
-use script::path::read_place;
+use base_bounds::ATTRIBUTES;
+use base_bounds::CLUSTERS;
+use node_kinds::stored::same_bytes;
+use node_schema::CLUSTER_COUNT_WORD;
+use node_schema::HALF;
+use node_schema::PATH;
+use node_schema::SUBJECT_WORD;
+use node_schema::TEXT_SIZE;
+use node_schema::VERSION;
+use node_schema::WORDS;
+use script_lines::Scan;
+use script_lines::is_done;
+use script_lines::number::read_number;
+use script_lines::path::ID_MAX;
+use script_lines::path::read_place;
 
 pub mod access; // access.rt: the access table
 pub mod attribute; // attribute.rt: the line of an attribute

@@ -1,22 +1,22 @@
 // The schema of all lines so far.
 ghost use Prim.Native.Nat.{_≤_, _<_, _+_};
-ghost use Rattle.bounds.specs.Bounds.{clusterLimit, attributeLimit};
+ghost use Rattle.base_bounds.specs.Bounds.{clusterLimit, attributeLimit};
 use super::PATHS;
 use super::SETUP;
-use bounds::ATTRIBUTES;
-use bounds::CLUSTERS;
-use schema::FACTORY;
-use schema::FIRST;
-use schema::Found;
-use schema::HALF;
-use schema::HIGH;
-use schema::KEY;
-use schema::LOW;
-use schema::TEXTS;
-use schema::WORDS;
-use schema::find::find_cluster;
-use schema::is_text;
-use script::sizes::least;
+use base_bounds::ATTRIBUTES;
+use base_bounds::CLUSTERS;
+use node_schema::FACTORY;
+use node_schema::FIRST;
+use node_schema::Found;
+use node_schema::HALF;
+use node_schema::HIGH;
+use node_schema::KEY;
+use node_schema::LOW;
+use node_schema::TEXTS;
+use node_schema::WORDS;
+use node_schema::find::find_cluster;
+use node_schema::is_text;
+use script_lines::sizes::least;
 
 // Where the cluster of a path stands among the rows; past the last row where it has none, so that the schema is refused.
 fn row_of(words: &[u64; WORDS], path: u64) -> u64
@@ -65,7 +65,7 @@ fn set_words(setup: &[u64; SETUP], words: &mut [u64; WORDS]) {
 
 // All clusters are known now: the keys of all attributes, and the ranks and factory texts of all texts.
 fn set_keys(setup: &[u64; SETUP], words: &mut [u64; WORDS]) {
-    let n = least(schema::attribute_count(words), ATTRIBUTES);
+    let n = least(node_schema::attribute_count(words), ATTRIBUTES);
     let mut rank = 0;
     let mut i = 0;
     while i < n {

@@ -5,23 +5,23 @@ use mathlib.Core.List.{List}
 use Prim.Native.Nat.{ℕ, _*_}
 use native.Mathlib.Omega.{arith}
 use lib.ListN.{length}
-use Rattle.tlv.specs.Octet.{pick}
-use Rattle.schema.specs.Layout.{textSize}
-use Rattle.schema.specs.Check.{textCount}
-use Rattle.schema.specs.Check as Schema
-use Rattle.schema.proofs.BoolLaws.{left, right}
-use Rattle.node.specs.Check.{numbersRight, textsRight, accepted, done, schemaRefused, checked}
-use Rattle.node.specs.Rules.{SchemaRules}
-use Rattle.node.proofs.RulesLaws.{check-done}
-use Rattle.values.specs.Fresh.{freshValues}
-use Rattle.values.proofs.FreshLaws.{fresh-right, fresh-whole}
-use Rattle.replies.specs.Sign.{Sign}
-use Rattle.replies.specs.Row.{rowRight, standingIn}
-use Rattle.replies.proofs.RowLaws.{right-row}
+use Rattle.tlv_reader.specs.Octet.{pick}
+use Rattle.node_schema.specs.Layout.{textSize}
+use Rattle.node_schema.specs.Check.{textCount}
+use Rattle.node_schema.specs.Check as Schema
+use Rattle.node_schema.proofs.BoolLaws.{left, right}
+use Rattle.node_plan.specs.Check.{numbersRight, textsRight, accepted, done, schemaRefused, checked}
+use Rattle.node_plan.specs.Rules.{SchemaRules}
+use Rattle.node_plan.proofs.RulesLaws.{check-done}
+use Rattle.server_values.specs.Fresh.{freshValues}
+use Rattle.server_values.proofs.FreshLaws.{fresh-right, fresh-whole}
+use Rattle.server_replies.specs.Server.{Server}
+use Rattle.server_replies.specs.Row.{rowRight, standingIn}
+use Rattle.server_replies.proofs.RowLaws.{right-row}
 use Rattle.server.specs.Start.{freshRow, started}
-use Rattle.server.proofs.SignLaws.{RightSign, right-sign}
+use Rattle.server.proofs.ServerLaws.{RightServer, right-server}
 use Rattle.server.proofs.StartLaws.{accepted-schema}
-use Rattle.server.proofs.KeptLaws.{ValidSign}
+use Rattle.server.proofs.KeptLaws.{ValidServer}
 
 pub fresh-row-right : rowRight freshRow ≡ true
 unfolding freshRow standingIn
@@ -30,11 +30,11 @@ fresh-row-right =
     (record { exchange = omega arith; turn = omega arith; next = omega arith; closed = omega arith; asked = omega arith; phase = refl; path = omega arith; index = omega arith; sent = refl; len = omega arith })
 
 module _ (w defaults : List ℕ) (h : accepted w defaults ≡ true) where
-  -- a sign with this page of edits
-  abbrev fresh : List ℕ → Sign
+  -- a server with this page of edits
+  abbrev fresh : List ℕ → Server
   fresh edits = record { schema = w; defaults = defaults; state = started w defaults edits .state }
 
-  abbrev made : List ℕ → Sign
+  abbrev made : List ℕ → Server
   made edits = record { schema = w; defaults = defaults; state = record { values = freshValues w; edits = edits; row = freshRow } }
 
   fresh-made : (edits : List ℕ) → fresh edits ≡ made edits
@@ -49,12 +49,12 @@ module _ (w defaults : List ℕ) (h : accepted w defaults ≡ true) where
   unfolding checked
   fresh-rules = check-done w defaults .0 (ap (λ (b : Bool). pick b done schemaRefused) h)
 
-  pub fresh-valid : (edits : List ℕ) → length edits ≡ textSize * textCount w → ValidSign (fresh edits)
+  pub fresh-valid : (edits : List ℕ) → length edits ≡ textSize * textCount w → ValidServer (fresh edits)
   fresh-valid edits size =
-      let r : RightSign (made edits) = record {
+      let r : RightServer (made edits) = record {
         schema = accepted-schema w defaults h;
         numbers = fresh-numbers;
         values = fresh-right w defaults fresh-rules edits size;
         row = fresh-row-right;
       } in
-      rw (fresh-made edits) (record { whole = fresh-whole w; right = right-sign (made edits) r })
+      rw (fresh-made edits) (record { whole = fresh-whole w; right = right-server (made edits) r })

@@ -1,65 +1,65 @@
--- A VALID SIGN STAYS VALID: a local change and a received message, whatever they are, leave a sign that keeps the rules.
+-- A VALID SIGN STAYS VALID: a local change and a received message, whatever they are, leave a server that keeps the rules.
 use mathlib.Core.Path.{_≡_, refl, subst, sym}
 use mathlib.Core.Bool.{true}
 use mathlib.Core.List.{List}
 use Prim.Native.Nat.{ℕ, _<_}
 use native.Mathlib.Omega.{arith}
 use lib.Dec.{eqb}
-use Rattle.tlv.specs.declared.Value.{Value}
-use Rattle.tlv.proofs.Picks.{pick-elim}
-use Rattle.envelope.specs.declared.Fields.{Fields}
-use Rattle.interaction_write.specs.Write.{writeIn, writeRead}
-use Rattle.kinds.proofs.StoredLaws.{Sized}
-use Rattle.schema.specs.Rules.{Rules}
-use Rattle.schema.proofs.RulesLaws.{well-formed-rules}
-use Rattle.acl.specs.declared.Grants.{Grants}
-use Rattle.values.proofs.ValidLaws.{Whole}
-use Rattle.exchange.specs.declared.Step.{Step}
-use Rattle.exchange.specs.declared.Step.the-variants.{Silence, Begin, Repeat, Next, Close}
-use Rattle.exchange.specs.Rules.{maxTurn}
-use Rattle.writes.specs.Offer.{Held, changed}
-use Rattle.writes.specs.Entry.{heldAfter}
-use Rattle.writes.proofs.HeldLaws.{Right, changed-keeps, writes-keep}
-use Rattle.replies.specs.declared.Row.{Row}
-use Rattle.replies.specs.Sign.{State, Sign, Caller, Reaction, heldBy, stateWith, withRow, withState}
-use Rattle.replies.specs.Row.{rowRight, nextPart}
-use Rattle.replies.specs.Refusal.{writeRefusal}
-use Rattle.replies.specs.Begin.{once, entriesOf, responseTo, readBegun, writeBegun, refusalOf}
-use Rattle.replies.proofs.KeptLaws.{next-right, read-right, write-right}
-use Rattle.replies.proofs.RowLaws.{row-right, right-row}
-use Rattle.interaction_writer.specs.Envelope.{exchangeLimit}
-use Rattle.exchange.specs.declared.Action.{Action}
-use Rattle.exchange.specs.declared.Action.the-variants.{Status, Read, Write, Other}
-use Rattle.server.specs.State.{signRight}
+use Rattle.tlv_reader.specs.declared.Value.{Value}
+use Rattle.tlv_reader.proofs.Picks.{pick-elim}
+use Rattle.im_envelope.specs.declared.Fields.{Fields}
+use Rattle.im_requests.specs.Write.{writeIn, writeRead}
+use Rattle.node_kinds.proofs.StoredLaws.{Sized}
+use Rattle.node_schema.specs.Rules.{Rules}
+use Rattle.node_schema.proofs.RulesLaws.{well-formed-rules}
+use Rattle.node_access.specs.declared.Grants.{Grants}
+use Rattle.server_values.proofs.ValidLaws.{Whole}
+use Rattle.im_exchange.specs.declared.Step.{Step}
+use Rattle.im_exchange.specs.declared.Step.the-variants.{Silence, Begin, Repeat, Next, Close}
+use Rattle.im_exchange.specs.Rules.{maxTurn}
+use Rattle.server_writes.specs.Offer.{HeldValues, changed}
+use Rattle.server_writes.specs.Entry.{heldAfter}
+use Rattle.server_writes.proofs.HeldLaws.{Right, changed-keeps, writes-keep}
+use Rattle.server_replies.specs.declared.ExchangeRow.{ExchangeRow}
+use Rattle.server_replies.specs.Server.{ServerState, Server, Caller, ServerReaction, heldBy, stateWith, withRow, withState}
+use Rattle.server_replies.specs.Row.{rowRight, nextPart}
+use Rattle.server_replies.specs.Refusal.{writeRefusal}
+use Rattle.server_replies.specs.Begin.{once, entriesOf, responseTo, readBegun, writeBegun, refusalOf}
+use Rattle.server_replies.proofs.KeptLaws.{next-right, read-right, write-right}
+use Rattle.server_replies.proofs.RowLaws.{row-right, right-row}
+use Rattle.im_writer.specs.Envelope.{exchangeLimit}
+use Rattle.im_exchange.specs.declared.Action.{Action}
+use Rattle.im_exchange.specs.declared.Action.the-variants.{Status, Read, Write, Other}
+use Rattle.server.specs.State.{serverRight}
 use Rattle.server.specs.Start.{alteredBy}
 use Rattle.server.specs.Receive.{closing, reacted, received}
-use Rattle.server.proofs.SignLaws.{RightSign, sign-right, right-sign}
+use Rattle.server.proofs.ServerLaws.{RightServer, server-right, right-server}
 use Rattle.server.proofs.StartLaws.{altered-right}
 use Rattle.server.proofs.ReceivedLaws.{received-holds}
 
--- a sign that keeps the rules; its arrays have their lengths, as those of the code do
-pub record ValidSign (s : Sign) : Type 0 where
+-- a server that keeps the rules; its arrays have their lengths, as those of the code do
+pub record ValidServer (s : Server) : Type 0 where
   pub whole : Whole (s .state .values)
-  pub right : signRight s ≡ true
+  pub right : serverRight s ≡ true
 
 -- a write keeps what is held right
-write-keeps : (s : Sign) → Rules (s .schema) → Right (s .schema) (s .defaults) (heldBy (s .state)) → (g : Grants) (exchange : ℕ) (payload : List ℕ) → Right (s .schema) (s .defaults) (heldBy (writeBegun s g exchange payload))
+write-keeps : (s : Server) → Rules (s .schema) → Right (s .schema) (s .defaults) (heldBy (s .state)) → (g : Grants) (exchange : ℕ) (payload : List ℕ) → Right (s .schema) (s .defaults) (heldBy (writeBegun s g exchange payload))
 unfolding writeBegun
 write-keeps s rules r g exchange payload =
     let q = writeRead (writeIn payload) in
-    pick-elim (λ (u : State). Right (s .schema) (s .defaults) (heldBy u)) (eqb (writeRefusal q) 0)
+    pick-elim (λ (u : ServerState). Right (s .schema) (s .defaults) (heldBy u)) (eqb (writeRefusal q) 0)
     (stateWith (heldAfter (s .schema) g (s .defaults) payload (heldBy (s .state)) (entriesOf q)) (once (s .state .row) exchange (responseTo s g exchange payload q)))
     (withRow (s .state) (once (s .state .row) exchange (refusalOf exchange (writeRefusal q))))
     (λ _. writes-keep (s .schema) (s .defaults) rules (heldBy (s .state)) r g payload (entriesOf q)) (λ _. r)
 
-closing-right : (x : Row) → rowRight x ≡ true → rowRight (closing x) ≡ true
+closing-right : (x : ExchangeRow) → rowRight x ≡ true → rowRight (closing x) ≡ true
 closing-right x h =
     let r = row-right x h in
     right-row (closing x) (record { exchange = r .exchange; turn = r .turn; next = r .next; closed = omega arith; asked = r .asked; phase = r .phase; path = r .path; index = r .index; sent = r .sent; len = r .len })
 
-module _ (s : Sign) (valid : ValidSign s) where
-  parts : RightSign s
-  parts = sign-right s (valid .right)
+module _ (s : Server) (valid : ValidServer s) where
+  parts : RightServer s
+  parts = server-right s (valid .right)
 
   rules : Rules (s .schema)
   rules = well-formed-rules (s .schema) .0 (parts .schema)
@@ -68,26 +68,26 @@ module _ (s : Sign) (valid : ValidSign s) where
   held-right = record { whole = valid .whole; right = parts .values }
 
   -- with what is held and the row replaced by right ones
-  moved : (u : State) → Right (s .schema) (s .defaults) (heldBy u) → rowRight (u .row) ≡ true → ValidSign (withState s u)
+  moved : (u : ServerState) → Right (s .schema) (s .defaults) (heldBy u) → rowRight (u .row) ≡ true → ValidServer (withState s u)
   moved u r h =
       record {
         whole = r .whole;
-        right = right-sign (withState s u) (record { schema = parts .schema; numbers = parts .numbers; values = r .right; row = h });
+        right = right-server (withState s u) (record { schema = parts .schema; numbers = parts .numbers; values = r .right; row = h });
       }
 
-  with-row : (x : Row) → rowRight x ≡ true → ValidSign (withState s (withRow (s .state) x))
+  with-row : (x : ExchangeRow) → rowRight x ≡ true → ValidServer (withState s (withRow (s .state) x))
   with-row x = moved (withRow (s .state) x) held-right
 
   -- A LOCAL CHANGE
-  pub change-kept : (e c a : ℕ) (src : List ℕ) (new : Value) → Sized new → ValidSign (withState s (alteredBy s e c a src new .state))
+  pub change-kept : (e c a : ℕ) (src : List ℕ) (new : Value) → Sized new → ValidServer (withState s (alteredBy s e c a src new .state))
   change-kept e c a src new sized =
-      let h : Held = heldBy (s .state) in
+      let h : HeldValues = heldBy (s .state) in
       let k = changed (s .schema) (s .defaults) h e c a src new .held in
-      subst (λ (x : Reaction). ValidSign (withState s (x .state))) (sym (altered-right s e c a src new (valid .right)))
+      subst (λ (x : ServerReaction). ValidServer (withState s (x .state))) (sym (altered-right s e c a src new (valid .right)))
       (moved (stateWith k (s .state .row)) (changed-keeps (s .schema) (s .defaults) rules h held-right e c a src new sized) (parts .row))
 
   -- what a message gets
-  reacted-kept : (g : Grants) (e : Fields) → e .exchange < exchangeLimit → (payload : List ℕ) (action : Action) (step : Step) → (step ≡ Next → s .state .row .progress .turn < maxTurn) → ValidSign (withState s (reacted s g e payload action step .state))
+  reacted-kept : (g : Grants) (e : Fields) → e .exchange < exchangeLimit → (payload : List ℕ) (action : Action) (step : Step) → (step ≡ Next → s .state .row .progress .turn < maxTurn) → ValidServer (withState s (reacted s g e payload action step .state))
   unfolding reacted
   reacted-kept g e below payload action Silence t = valid
   reacted-kept g e below payload Read Begin t = with-row (readBegun s g (e .exchange) payload) (read-right s g (e .exchange) below (parts .row) payload)
@@ -100,6 +100,6 @@ module _ (s : Sign) (valid : ValidSign s) where
   reacted-kept g e below payload action Close t = with-row (closing (s .state .row)) (closing-right (s .state .row) (parts .row))
 
   -- A MESSAGE, any bytes from anyone, with any access table and buffer
-  pub received-kept : (c : Caller) (m : List ℕ) (room : ℕ) → ValidSign (withState s (received s c m room .state))
+  pub received-kept : (c : Caller) (m : List ℕ) (room : ℕ) → ValidServer (withState s (received s c m room .state))
   received-kept c m room =
-      received-holds (λ (x : Reaction). ValidSign (withState s (x .state))) s c valid valid (reacted-kept (c .grants)) m room (λ _. valid) valid
+      received-holds (λ (x : ServerReaction). ValidServer (withState s (x .state))) s c valid valid (reacted-kept (c .grants)) m room (λ _. valid) valid

@@ -1,5 +1,5 @@
 pub mod StepLaws
-pub mod SignLaws
+pub mod ServerLaws
 pub mod StartLaws
 pub mod FreshLaws
 pub mod ReactLaws

@@ -6,32 +6,32 @@ use Prim.Native.Nat.{ℕ, _≤_, _<_}
 use native.Mathlib.Omega.{arith}
 use borrow.Author.Tests.{eq-eqb, lt-ltb}
 use lib.ListN.{length, getD, drop}
-use Rattle.tlv.specs.Decode.Opt.{just}
-use Rattle.envelope.specs.declared.Fields.{Fields}
-use Rattle.envelope.specs.declared.Envelope.the-variants.{Whole}
-use Rattle.envelope.specs.Envelope.{envelopeIn}
-use Rattle.interaction.specs.Status.{responseIn}
-use Rattle.schema.specs.Layout.{subjectWord}
-use Rattle.exchange.specs.declared.Progress.{Progress}
-use Rattle.exchange.specs.declared.Step.the-variants.{Next}
-use Rattle.exchange.specs.declared.Action.the-variants.{Status}
-use Rattle.exchange.specs.Rules.{statusOpcode, maxTurn, part, actionOf, onStatus}
-use Rattle.exchange.proofs.ActionLaws.{status-action}
-use Rattle.replies.specs.Messages.{envelopeLength, maxMessage}
-use Rattle.replies.specs.Sign.{Sign, Caller, withRow}
-use Rattle.replies.specs.Row.{keptReply, nextPart}
-use Rattle.replies.proofs.KeptLaws.{next-right, next-some}
-use Rattle.interaction_writer.specs.Envelope.{panelEdition}
-use Rattle.server.specs.State.{signRight}
+use Rattle.tlv_reader.specs.Decode.Opt.{just}
+use Rattle.im_envelope.specs.declared.Fields.{Fields}
+use Rattle.im_envelope.specs.declared.Envelope.the-variants.{Whole}
+use Rattle.im_envelope.specs.Envelope.{envelopeIn}
+use Rattle.im_requests.specs.Status.{responseIn}
+use Rattle.node_schema.specs.Layout.{subjectWord}
+use Rattle.im_exchange.specs.declared.Progress.{Progress}
+use Rattle.im_exchange.specs.declared.Step.the-variants.{Next}
+use Rattle.im_exchange.specs.declared.Action.the-variants.{Status}
+use Rattle.im_exchange.specs.Rules.{statusOpcode, maxTurn, part, actionOf, onStatus}
+use Rattle.im_exchange.proofs.ActionLaws.{status-action}
+use Rattle.server_replies.specs.Messages.{envelopeLength, maxMessage}
+use Rattle.server_replies.specs.Server.{Server, Caller, withRow}
+use Rattle.server_replies.specs.Row.{keptReply, nextPart}
+use Rattle.server_replies.proofs.KeptLaws.{next-right, next-some}
+use Rattle.im_writer.specs.Envelope.{cacheEdition}
+use Rattle.server.specs.State.{serverRight}
 use Rattle.server.specs.Receive.{numberFor, replied, stepOf, reacted, received, forServer}
 use Rattle.server.proofs.ReactLaws.{kept-length, next-whole, len-of}
 use Rattle.server.proofs.ReceiveLaws.{served, right-row-of}
 
 -- a success for the newest reply of an exchange that promised more and was not closed
-pub record Success (s : Sign) (c : Caller) (m : List ℕ) (e : Fields) : Type 0 where
+pub record Success (s : Server) (c : Caller) (m : List ℕ) (e : Fields) : Type 0 where
   pub found : envelopeIn m ≡ Whole e
   pub fits : length m ≤ maxMessage
-  pub edition : e .edition ≡ panelEdition
+  pub edition : e .edition ≡ cacheEdition
   pub opcode : e .opcode ≡ statusOpcode
   pub ours : c .subject ≡ getD (s .schema) subjectWord 0
   pub exchange : e .exchange ≡ s .state .row .progress .last
@@ -48,7 +48,7 @@ unfolding stepOf onStatus
 step-next x e payload a b c p =
     rw (c, eq-eqb (e .exchange) (x .last) a, p .unclosed, eq-eqb (e .turn) (x .turn) b, p .promised, lt-ltb (x .turn) maxTurn (p .left)) refl
 
-for-status : (edition : ℕ) → edition ≡ panelEdition → forServer edition Status ≡ true
+for-status : (edition : ℕ) → edition ≡ cacheEdition → forServer edition Status ≡ true
 unfolding forServer
 for-status edition e = rw e refl
 
@@ -56,7 +56,7 @@ some-number : (l : List ℕ) → envelopeLength ≤ length l → numberFor l ≡
 some-number [] h = absurd (omega arith)
 some-number (x ∷ l) h = refl
 
-module _ (s : Sign) (c : Caller) (m : List ℕ) (room : ℕ) (h : signRight s ≡ true) (table : c .table ≡ true) (enough : maxMessage ≤ room) {e : Fields} (y : Success s c m e) (p : Promised (s .state .row .progress)) where
+module _ (s : Server) (c : Caller) (m : List ℕ) (room : ℕ) (h : serverRight s ≡ true) (table : c .table ≡ true) (enough : maxMessage ≤ room) {e : Fields} (y : Success s c m e) (p : Promised (s .state .row .progress)) where
   pub promised-part : received s c m room ≡ replied (withRow (s .state) (nextPart s (c .grants)))
   unfolding reacted
   promised-part =

@@ -8,34 +8,34 @@ use borrow.Author.Tests.{eq-eqb, ne-eqb, le-leb, lt-leb, lt-ltb, le-ltb, ltb-fal
 use lib.Dec.{ltb}
 use lib.ListN.{length, getD, drop, take, length-drop}
 use lib.Seq.{take-all}
-use Rattle.tlv.specs.Octet.{pick}
-use Rattle.envelope.specs.declared.Fields.{Fields}
-use Rattle.envelope.specs.declared.Envelope.the-variants.{Whole, Short}
-use Rattle.envelope.specs.Envelope.{envelopeIn, fieldsOf}
-use Rattle.interaction_writer.specs.Envelope.{bigNumber, exchangeLimit}
-use Rattle.schema.specs.Layout.{subjectWord, textSize}
-use Rattle.schema.specs.Check.{wellFormed, textCount}
-use Rattle.schema.proofs.BoolLaws.{left, right, by-test}
-use Rattle.node.specs.Check.{numbersRight}
-use Rattle.exchange.specs.declared.Step.{Step}
-use Rattle.values.specs.Valid.{valuesRight}
-use Rattle.values.proofs.ValidLaws.{edits-size}
-use Rattle.replies.specs.Messages.{envelopeLength, maxMessage}
-use Rattle.replies.specs.Sign.{Sign, Caller}
-use Rattle.replies.specs.Row.{rowRight}
-use Rattle.exchange.specs.declared.Action.{Action}
-use Rattle.exchange.specs.Rules.{actionOf}
-use Rattle.server.specs.State.{signRight}
+use Rattle.tlv_reader.specs.Octet.{pick}
+use Rattle.im_envelope.specs.declared.Fields.{Fields}
+use Rattle.im_envelope.specs.declared.Envelope.the-variants.{Whole, Short}
+use Rattle.im_envelope.specs.Envelope.{envelopeIn, fieldsOf}
+use Rattle.im_writer.specs.Envelope.{bigNumber, exchangeLimit}
+use Rattle.node_schema.specs.Layout.{subjectWord, textSize}
+use Rattle.node_schema.specs.Check.{wellFormed, textCount}
+use Rattle.node_schema.proofs.BoolLaws.{left, right, by-test}
+use Rattle.node_plan.specs.Check.{numbersRight}
+use Rattle.im_exchange.specs.declared.Step.{Step}
+use Rattle.server_values.specs.Valid.{valuesRight}
+use Rattle.server_values.proofs.ValidLaws.{edits-size}
+use Rattle.server_replies.specs.Messages.{envelopeLength, maxMessage}
+use Rattle.server_replies.specs.Server.{Server, Caller}
+use Rattle.server_replies.specs.Row.{rowRight}
+use Rattle.im_exchange.specs.declared.Action.{Action}
+use Rattle.im_exchange.specs.Rules.{actionOf}
+use Rattle.server.specs.State.{serverRight}
 use Rattle.server.specs.Receive.{refusal, silence, stepOf, reacted, inEnvelope, received, forServer, byAction}
 
--- what a valid sign has
-module _ (s : Sign) (h : signRight s ≡ true) where
+-- what a valid server has
+module _ (s : Server) (h : serverRight s ≡ true) where
   pub right-schema : wellFormed (s .schema) ≡ true
-  unfolding signRight
+  unfolding serverRight
   right-schema = left _ _ h
 
   rest : (valuesRight (s .schema) (s .defaults) (s .state .edits) (s .state .values) && rowRight (s .state .row)) ≡ true
-  unfolding signRight
+  unfolding serverRight
   rest = right (numbersRight (s .schema)) _ (right (wellFormed (s .schema)) _ h)
 
   pub right-values : valuesRight (s .schema) (s .defaults) (s .state .edits) (s .state .values) ≡ true
@@ -61,16 +61,16 @@ pub long-enough : (m : List ℕ) {e : Fields} → envelopeIn m ≡ Whole e → e
 unfolding envelopeIn
 long-enough m {e} h = by-test (ltb (length m) envelopeLength) (λ t. let q : Short ≡ Whole e = rw t at h in let z : _≡_ {A = ℕ} 0 1 = cc in absurd (omega arith)) (λ f. ltb-false _ _ f)
 
-module _ (s : Sign) (c : Caller) (m : List ℕ) (room : ℕ) where
-  pub broken : signRight s ≡ false → received s c m room ≡ refusal 2 (s .state)
+module _ (s : Server) (c : Caller) (m : List ℕ) (room : ℕ) where
+  pub broken : serverRight s ≡ false → received s c m room ≡ refusal 2 (s .state)
   unfolding received
   broken h = rw h refl
 
-  pub bad-table : signRight s ≡ true → c .table ≡ false → received s c m room ≡ refusal 2 (s .state)
+  pub bad-table : serverRight s ≡ true → c .table ≡ false → received s c m room ≡ refusal 2 (s .state)
   unfolding received
   bad-table h t = rw (h, t) refl
 
-  module _ (h : signRight s ≡ true) (t : c .table ≡ true) where
+  module _ (h : serverRight s ≡ true) (t : c .table ≡ true) where
     pub small : room < maxMessage → received s c m room ≡ refusal 3 (s .state)
     unfolding received
     small l = rw (h, t, lt-ltb room maxMessage l) refl

@@ -1,4 +1,4 @@
--- What receiving answers, over all its cases: no 2 from a valid sign, refusals touch nothing, silence has no reply.
+-- What receiving answers, over all its cases: no 2 from a valid server, refusals touch nothing, silence has no reply.
 use mathlib.Core.Path.{_≡_, refl, sym, _∙_}
 use mathlib.Core.Bool.{true, false, _&&_, true≢false}
 use mathlib.Core.List.{List, [], _∷_}
@@ -6,26 +6,26 @@ use Prim.Native.Nat.{ℕ, _<_}
 use native.Mathlib.Omega.{arith}
 use lib.Dec.{eqb, ltb, leb}
 use lib.ListN.{length, getD, take, drop}
-use Rattle.tlv.specs.Octet.{pick}
-use Rattle.tlv.proofs.Picks.{pick-elim}
-use Rattle.envelope.specs.declared.Fields.{Fields}
-use Rattle.envelope.specs.declared.Envelope.{Envelope}
-use Rattle.envelope.specs.declared.Envelope.the-variants as envelope
-use Rattle.envelope.specs.Envelope.{fieldsOf, envelopeIn}
-use Rattle.interaction_writer.specs.Envelope.{bigNumber, exchangeLimit}
-use Rattle.schema.specs.Layout.{subjectWord}
-use Rattle.schema.proofs.BoolLaws.{both}
-use Rattle.exchange.specs.declared.Step.{Step}
-use Rattle.exchange.specs.declared.Step.the-variants.{Silence, Begin, Repeat, Next, Close}
-use Rattle.exchange.specs.Rules.{maxTurn, actionOf}
-use Rattle.replies.specs.Messages.{envelopeLength, maxMessage}
-use Rattle.replies.specs.Sign.{State, Sign, Caller, Reaction}
-use Rattle.replies.specs.Row.{keptReply, nextPart}
-use Rattle.replies.specs.Begin.{readBegun, writeBegun}
-use Rattle.exchange.specs.declared.Action.{Action}
-use Rattle.exchange.specs.declared.Action.the-variants.{Status, Read, Write, Other}
+use Rattle.tlv_reader.specs.Octet.{pick}
+use Rattle.tlv_reader.proofs.Picks.{pick-elim}
+use Rattle.im_envelope.specs.declared.Fields.{Fields}
+use Rattle.im_envelope.specs.declared.Envelope.{Envelope}
+use Rattle.im_envelope.specs.declared.Envelope.the-variants as envelope
+use Rattle.im_envelope.specs.Envelope.{fieldsOf, envelopeIn}
+use Rattle.im_writer.specs.Envelope.{bigNumber, exchangeLimit}
+use Rattle.node_schema.specs.Layout.{subjectWord}
+use Rattle.node_schema.proofs.BoolLaws.{both}
+use Rattle.im_exchange.specs.declared.Step.{Step}
+use Rattle.im_exchange.specs.declared.Step.the-variants.{Silence, Begin, Repeat, Next, Close}
+use Rattle.im_exchange.specs.Rules.{maxTurn, actionOf}
+use Rattle.server_replies.specs.Messages.{envelopeLength, maxMessage}
+use Rattle.server_replies.specs.Server.{ServerState, Server, Caller, ServerReaction}
+use Rattle.server_replies.specs.Row.{keptReply, nextPart}
+use Rattle.server_replies.specs.Begin.{readBegun, writeBegun}
+use Rattle.im_exchange.specs.declared.Action.{Action}
+use Rattle.im_exchange.specs.declared.Action.the-variants.{Status, Read, Write, Other}
 use Rattle.server.proofs.StepLaws.{next-turn}
-use Rattle.server.specs.State.{signRight}
+use Rattle.server.specs.State.{serverRight}
 use Rattle.server.specs.Receive.{refusal, numberFor, answering, silence, stepOf, reacted, inEnvelope, received, forServer}
 
 -- ---- an envelope's exchange has 40 bits
@@ -44,7 +44,7 @@ envelope-below m = pick-elim Below (ltb (length m) envelopeLength) envelope.Shor
 
 -- ---- a property of what is answered: of the refusals, of silence, and of every reaction
 
-module _ (P : Reaction → Type 0) (s : Sign) (c : Caller) where
+module _ (P : ServerReaction → Type 0) (s : Server) (c : Caller) where
   module _ (no-message : P (refusal 4 (s .state))) (silent : P (silence (s .state))) (each : (e : Fields) → e .exchange < exchangeLimit → (payload : List ℕ) (action : Action) (step : Step) → (step ≡ Next → s .state .row .progress .turn < maxTurn) → P (reacted s (c .grants) e payload action step)) where
     enveloped : (m : List ℕ) (x : Envelope) → Below x → P (inEnvelope s c m x)
     enveloped m envelope.Short b = no-message
@@ -56,16 +56,16 @@ module _ (P : Reaction → Type 0) (s : Sign) (c : Caller) where
         (λ _. pick-elim P (eqb (c .subject) (getD (s .schema) subjectWord 0)) r (silence (s .state)) (λ _. each e b payload action (stepOf (s .state .row .progress) action e payload) (λ z. next-turn (s .state .row .progress) action e payload z)) (λ _. silent))
         (λ _. no-message)
 
-    pub received-holds : (m : List ℕ) (room : ℕ) → ((signRight s && c .table) ≡ false → P (refusal 2 (s .state))) → P (refusal 3 (s .state)) → P (received s c m room)
+    pub received-holds : (m : List ℕ) (room : ℕ) → ((serverRight s && c .table) ≡ false → P (refusal 2 (s .state))) → P (refusal 3 (s .state)) → P (received s c m room)
     unfolding received
     received-holds m room broken small =
         let x = inEnvelope s c m (envelopeIn m) in
-        pick-elim P (signRight s && c .table) (pick (ltb room maxMessage) (refusal 3 (s .state)) x) (refusal 2 (s .state))
+        pick-elim P (serverRight s && c .table) (pick (ltb room maxMessage) (refusal 3 (s .state)) x) (refusal 2 (s .state))
         (λ _. pick-elim P (ltb room maxMessage) (refusal 3 (s .state)) x (λ _. small) (λ _. enveloped m (envelopeIn m) (envelope-below m)))
         broken
 
   -- every reaction answers with a reply or with silence
-  reacted-holds : ((u : State) (reply : List ℕ) → P (answering u reply)) → (e : Fields) (payload : List ℕ) (action : Action) (step : Step) → P (reacted s (c .grants) e payload action step)
+  reacted-holds : ((u : ServerState) (reply : List ℕ) → P (answering u reply)) → (e : Fields) (payload : List ℕ) (action : Action) (step : Step) → P (reacted s (c .grants) e payload action step)
   unfolding reacted
   reacted-holds f e payload action Silence = f (s .state) []
   reacted-holds f e payload Read Begin = f _ (keptReply (readBegun s (c .grants) (e .exchange) payload))
@@ -76,13 +76,13 @@ module _ (P : Reaction → Type 0) (s : Sign) (c : Caller) where
   reacted-holds f e payload action Next = f _ (keptReply (nextPart s (c .grants)))
   reacted-holds f e payload action Close = f _ []
 
-  answers-hold : ((u : State) (reply : List ℕ) → P (answering u reply)) → P (refusal 4 (s .state)) → (m : List ℕ) (room : ℕ) → ((signRight s && c .table) ≡ false → P (refusal 2 (s .state))) → P (refusal 3 (s .state)) → P (received s c m room)
+  answers-hold : ((u : ServerState) (reply : List ℕ) → P (answering u reply)) → P (refusal 4 (s .state)) → (m : List ℕ) (room : ℕ) → ((serverRight s && c .table) ≡ false → P (refusal 2 (s .state))) → P (refusal 3 (s .state)) → P (received s c m room)
   answers-hold f no-message = received-holds no-message (f (s .state) []) (λ e b payload action step t. reacted-holds f e payload action step)
 
 -- ---- the laws
 
 -- nothing moved, and no reply was written
-pub record Untouched (u : State) (x : Reaction) : Type 0 where
+pub record Untouched (u : ServerState) (x : ServerReaction) : Type 0 where
   pub state : x .state ≡ u
   pub reply : x .reply ≡ []
 
@@ -94,11 +94,11 @@ no-reply : (reply : List ℕ) → numberFor reply ≡ 1 → reply ≡ []
 no-reply [] h = refl
 no-reply (x ∷ l) h = absurd (omega arith)
 
-module _ (s : Sign) (c : Caller) (m : List ℕ) (room : ℕ) where
-  -- NEVER 2 from a right sign whose access table is right
-  pub never-2 : signRight s ≡ true → c .table ≡ true → received s c m room .number ≡ 2 → ⊥
+module _ (s : Server) (c : Caller) (m : List ℕ) (room : ℕ) where
+  -- NEVER 2 from a right server whose access table is right
+  pub never-2 : serverRight s ≡ true → c .table ≡ true → received s c m room .number ≡ 2 → ⊥
   never-2 h t =
-      answers-hold (λ (x : Reaction). x .number ≡ 2 → ⊥) s c
+      answers-hold (λ (x : ServerReaction). x .number ≡ 2 → ⊥) s c
       (λ _ reply q. let l : numberFor reply < 2 = reply-number reply in omega (arith, l, q)) (λ q. omega (arith, q)) m room
       (λ f _. absurd (true≢false (sym (both _ _ h t) ∙ f))) (λ q. omega (arith, q))
 
@@ -106,11 +106,11 @@ module _ (s : Sign) (c : Caller) (m : List ℕ) (room : ℕ) where
   pub refused-untouched : 1 < received s c m room .number → Untouched (s .state) (received s c m room)
   refused-untouched =
       let still : (n : ℕ) → 1 < n → Untouched (s .state) (refusal n (s .state)) = λ n _. record { state = refl; reply = refl } in
-      answers-hold (λ (x : Reaction). 1 < x .number → Untouched (s .state) x) s c
+      answers-hold (λ (x : ServerReaction). 1 < x .number → Untouched (s .state) x) s c
       (λ _ reply q. let l : numberFor reply < 2 = reply-number reply in absurd (omega (arith, l, q))) (still 4) m room (λ _. still 2) (still 3)
 
   -- SILENCE has no reply: the buffer is as it was
   pub silence-untouched : received s c m room .number ≡ 1 → received s c m room .reply ≡ []
   silence-untouched =
-      answers-hold (λ (x : Reaction). x .number ≡ 1 → x .reply ≡ []) s c (λ _. no-reply) (λ _. refl) m room
+      answers-hold (λ (x : ServerReaction). x .number ≡ 1 → x .reply ≡ []) s c (λ _. no-reply) (λ _. refl) m room
       (λ _ _. refl) (λ _. refl)

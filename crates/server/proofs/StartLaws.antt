@@ -1,23 +1,23 @@
--- A fresh sign and a local change, case by case for the code.
+-- A fresh server and a local change, case by case for the code.
 use mathlib.Core.Path.{_≡_, refl, sym, ap, _∙_}
 use mathlib.Core.Bool.{Bool, true, false}
 use mathlib.Core.List.{List}
 use Prim.Native.Nat.{ℕ}
 use native.Mathlib.Omega.{arith}
-use Rattle.tlv.specs.declared.Value.{Value}
-use Rattle.tlv.specs.Octet.{pick}
-use Rattle.schema.specs.Check as Schema
-use Rattle.schema.proofs.BoolLaws.{left, by-test}
-use Rattle.node.specs.Check.{accepted, done, schemaRefused, checked}
-use Rattle.values.specs.declared.Values.{Values}
-use Rattle.values.specs.Fresh.{freshValues}
-use Rattle.writes.specs.Offer.{Outcome, changed}
-use Rattle.replies.specs.Sign.{Sign, Reaction, heldBy}
-use Rattle.server.specs.State.{signRight}
+use Rattle.tlv_reader.specs.declared.Value.{Value}
+use Rattle.tlv_reader.specs.Octet.{pick}
+use Rattle.node_schema.specs.Check as Schema
+use Rattle.node_schema.proofs.BoolLaws.{left, by-test}
+use Rattle.node_plan.specs.Check.{accepted, done, schemaRefused, checked}
+use Rattle.server_values.specs.declared.Values.{Values}
+use Rattle.server_values.specs.Fresh.{freshValues}
+use Rattle.server_writes.specs.Offer.{StoreOutcome, changed}
+use Rattle.server_replies.specs.Server.{Server, ServerReaction, heldBy}
+use Rattle.server.specs.State.{serverRight}
 use Rattle.server.specs.Start.{freshWords, freshKept, started, Starts, altered, alteredBy, Alters}
 use Rattle.server.specs.Receive.{refusal}
 
--- ---- a fresh sign
+-- ---- a fresh server
 
 done-if : (b : Bool) → pick b done schemaRefused ≡ done → b ≡ true
 done-if true h = refl
@@ -50,30 +50,30 @@ module _ (w defaults : List ℕ) where
 
 -- ---- a local change
 
-module _ (s : Sign) (e c a : ℕ) (src : List ℕ) (new : Value) where
+module _ (s : Server) (e c a : ℕ) (src : List ℕ) (new : Value) where
   -- the change of what is held
-  abbrev made : Outcome
+  abbrev made : StoreOutcome
   made = changed (s .schema) (s .defaults) (heldBy (s .state)) e c a src new
 
-  pub altered-right : signRight s ≡ true → alteredBy s e c a src new ≡ altered (s .state) made
+  pub altered-right : serverRight s ≡ true → alteredBy s e c a src new ≡ altered (s .state) made
   unfolding alteredBy
   altered-right h = rw h
 
-  altered-broken : signRight s ≡ false → alteredBy s e c a src new ≡ refusal 2 (s .state)
+  altered-broken : serverRight s ≡ false → alteredBy s e c a src new ≡ refusal 2 (s .state)
   unfolding alteredBy
   altered-broken h = rw h
 
-  -- a broken sign: 2, and nothing moves
-  pub broken-alters : signRight s ≡ false → Alters (alteredBy s e c a src new) 2 (heldBy (s .state))
+  -- a broken server: 2, and nothing moves
+  pub broken-alters : serverRight s ≡ false → Alters (alteredBy s e c a src new) 2 (heldBy (s .state))
   broken-alters h =
       let q = sym (altered-broken h) in
-      record { code = ap (λ (x : Reaction). x .number) q; held = ap (λ (x : Reaction). heldBy (x .state)) q }
+      record { code = ap (λ (x : ServerReaction). x .number) q; held = ap (λ (x : ServerReaction). heldBy (x .state)) q }
 
   -- a right one
-  pub right-alters : signRight s ≡ true → {o : Outcome} → o ≡ made → Alters (alteredBy s e c a src new) (o .code) (o .held)
+  pub right-alters : serverRight s ≡ true → {o : StoreOutcome} → o ≡ made → Alters (alteredBy s e c a src new) (o .code) (o .held)
   right-alters h {o} p =
       let q = sym (altered-right h) in
       record {
-        code = ap (λ (x : Outcome). x .code) p ∙ ap (λ (x : Reaction). x .number) q;
-        held = ap (λ (x : Outcome). x .held) p ∙ ap (λ (x : Reaction). heldBy (x .state)) q;
+        code = ap (λ (x : StoreOutcome). x .code) p ∙ ap (λ (x : ServerReaction). x .number) q;
+        held = ap (λ (x : StoreOutcome). x .held) p ∙ ap (λ (x : ServerReaction). heldBy (x .state)) q;
       }

@@ -6,16 +6,16 @@ use Prim.Native.Nat.{ℕ, _<_, _+_}
 use native.Mathlib.Omega.{arith}
 use borrow.Author.Tests.{ltb-true}
 use lib.Dec.{eqb, ltb, leb}
-use Rattle.tlv.specs.Octet.{pick}
-use Rattle.tlv.specs.Decode.{Opt}
-use Rattle.tlv.specs.Decode.Opt.{just, nothing}
-use Rattle.interaction.specs.declared.StatusResponse.the-variants.{Code, BadResponse}
-use Rattle.interaction.specs.Status.{responseRead, responseIn}
-use Rattle.envelope.specs.declared.Fields.{Fields}
-use Rattle.exchange.specs.declared.Progress.{Progress}
-use Rattle.exchange.specs.declared.Step.the-variants.{Silence, Begin, Repeat, Next, Close}
-use Rattle.exchange.specs.Rules.{maxTurn, beginning, onRequest, onPromised, onEarlier, onStatus, firstReply}
-use Rattle.exchange.specs.declared.Action.{Action}
+use Rattle.tlv_reader.specs.Octet.{pick}
+use Rattle.tlv_reader.specs.Decode.{Opt}
+use Rattle.tlv_reader.specs.Decode.Opt.{just, nothing}
+use Rattle.im_requests.specs.declared.StatusResponse.the-variants.{Code, BadResponse}
+use Rattle.im_requests.specs.Status.{responseRead, responseIn}
+use Rattle.im_envelope.specs.declared.Fields.{Fields}
+use Rattle.im_exchange.specs.declared.Progress.{Progress}
+use Rattle.im_exchange.specs.declared.Step.the-variants.{Silence, Begin, Repeat, Next, Close}
+use Rattle.im_exchange.specs.Rules.{maxTurn, beginning, onRequest, onPromised, onEarlier, onStatus, firstReply}
+use Rattle.im_exchange.specs.declared.Action.{Action}
 use Rattle.server.specs.Receive.{byStatus, stepOf}
 
 never : {A : Type 0} → _≡_ {A = ℕ} 0 1 → A

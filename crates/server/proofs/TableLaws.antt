@@ -6,29 +6,29 @@ use Prim.Native.Nat.{ℕ, _<_}
 use native.Mathlib.Omega.{arith}
 use borrow.Author.Tests.{lt-leb, le-leb}
 use lib.ListN.{length}
-use Rattle.bounds.specs.Bounds.{entryLimit}
-use Rattle.schema.specs.Layout.{administer}
-use Rattle.schema.proofs.BoolLaws.{by-test, both}
-use Rattle.acl.specs.declared.Entry.{Entry}
-use Rattle.acl.specs.Access.{view, privilegeOk, tableOk}
-use Rattle.acl.specs.Table.{tableRight}
-use Rattle.acl.proofs.RuleLaws.{table-exactly}
-use Rattle.replies.specs.Sign.{Sign, Caller}
-use Rattle.server.specs.State.{signRight}
+use Rattle.base_bounds.specs.Bounds.{entryLimit}
+use Rattle.node_schema.specs.Layout.{administer}
+use Rattle.node_schema.proofs.BoolLaws.{by-test, both}
+use Rattle.node_access.specs.declared.AccessEntry.{AccessEntry}
+use Rattle.node_access.specs.Access.{view, privilegeOk, tableOk}
+use Rattle.node_access.specs.Table.{tableRight}
+use Rattle.node_access.proofs.RuleLaws.{table-exactly}
+use Rattle.server_replies.specs.Server.{Server, Caller}
+use Rattle.server.specs.State.{serverRight}
 use Rattle.server.specs.Receive.{refusal, received}
 
-module _ (s : Sign) (c : Caller) (m : List ℕ) (room : ℕ) where
+module _ (s : Server) (c : Caller) (m : List ℕ) (room : ℕ) where
   broken-table : c .table ≡ false → received s c m room ≡ refusal 2 (s .state)
   unfolding received
-  broken-table f = rw (f, and-false (signRight s)) refl
+  broken-table f = rw (f, and-false (serverRight s)) refl
 
   -- more than 16 entries
-  pub too-many : (es : List Entry) → c .table ≡ tableOk es → entryLimit < length es → received s c m room ≡ refusal 2 (s .state)
+  pub too-many : (es : List AccessEntry) → c .table ≡ tableOk es → entryLimit < length es → received s c m room ≡ refusal 2 (s .state)
   too-many es t l =
       broken-table (t ∙ by-test (tableOk es) (λ h. absurd (omega (arith, table-exactly es .0 h .0))) (λ h. h))
 
   -- an entry whose privilege there is none of: 0, or above Administer
-  pub no-privilege : (es : List Entry) (e : Entry) → c .table ≡ tableOk es → List·Memᴰ e es → privilegeOk (e .privilege) ≡ false → received s c m room ≡ refusal 2 (s .state)
+  pub no-privilege : (es : List AccessEntry) (e : AccessEntry) → c .table ≡ tableOk es → List·Memᴰ e es → privilegeOk (e .privilege) ≡ false → received s c m room ≡ refusal 2 (s .state)
   unfolding privilegeOk
   no-privilege es e t i f =
       broken-table
@@ -41,6 +41,6 @@ module _ (s : Sign) (c : Caller) (m : List ℕ) (room : ℕ) where
       (λ h. h))
 
   -- a count above 16, whatever the entries are
-  pub count-above : (n : ℕ) (es : List Entry) → c .table ≡ tableRight n es → entryLimit < n → received s c m room ≡ refusal 2 (s .state)
+  pub count-above : (n : ℕ) (es : List AccessEntry) → c .table ≡ tableRight n es → entryLimit < n → received s c m room ≡ refusal 2 (s .state)
   unfolding tableRight
   count-above n es t l = let q : tableRight n es ≡ false = rw (lt-leb n entryLimit l) in broken-table (t ∙ q)

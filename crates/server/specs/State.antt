@@ -1,23 +1,23 @@
--- The rules that a sign keeps (document 01, refusal 2: "state, page or access table breaks these rules").
+-- The rules that a server keeps (refusal 2, RULES 6.1).
 use mathlib.Core.Bool.{Bool, _&&_}
 use mathlib.Core.List.{List}
 use Prim.Native.Nat.{ℕ}
-use Rattle.schema.specs.Check as Schema
-use Rattle.node.specs.Check.{numbersRight}
-use Rattle.values.specs.Valid.{valuesRight}
-use Rattle.writes.specs.Offer.{Held}
-use Rattle.replies.specs.Sign.{State, Sign, stateWith, signWith}
-use Rattle.replies.specs.Row.{rowRight, rowOf}
+use Rattle.node_schema.specs.Check as Schema
+use Rattle.node_plan.specs.Check.{numbersRight}
+use Rattle.server_values.specs.Valid.{valuesRight}
+use Rattle.server_writes.specs.Offer.{HeldValues}
+use Rattle.server_replies.specs.Server.{ServerState, Server, stateWith, serverWith}
+use Rattle.server_replies.specs.Row.{rowRight, rowOf}
 
--- what a sign holds, and the sign, of what is lent: the row in words, the kept reply in bytes
-abbrev pub stateIn : Held → List ℕ → List ℕ → State
+-- what a server holds, and the server, of what is lent: the row in words, the kept reply in bytes
+abbrev pub stateIn : HeldValues → List ℕ → List ℕ → ServerState
 stateIn h row kept = stateWith h (rowOf row kept)
 
-abbrev pub signIn : List ℕ → List ℕ → Held → List ℕ → List ℕ → Sign
-signIn w defaults h row kept = signWith w defaults h (rowOf row kept)
+abbrev pub serverIn : List ℕ → List ℕ → HeldValues → List ℕ → List ℕ → Server
+serverIn w defaults h row kept = serverWith w defaults h (rowOf row kept)
 
 -- schema words that break the plan's rules count as state
-unfoldable pub signRight : Sign → Bool
-signRight s =
+unfoldable pub serverRight : Server → Bool
+serverRight s =
     Schema.wellFormed (s .schema)
     && (numbersRight (s .schema) && (valuesRight (s .schema) (s .defaults) (s .state .edits) (s .state .values) && rowRight (s .state .row)))

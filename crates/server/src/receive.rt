@@ -4,57 +4,57 @@ ghost use mathlib.Core.Bool.{true, _&&_};
 ghost use mathlib.Core.List.{List};
 ghost use Prim.Native.Nat.{ℕ, _≤_, _<_};
 ghost use lib.ListN.{length, take};
-ghost use Rattle.interaction_writer.specs.Envelope.{exchangeLimit};
-ghost use Rattle.exchange.specs.declared.Step.the-variants as steps;
-ghost use Rattle.exchange.specs.Rules.{maxTurn};
-ghost use Rattle.acl.specs.Access.{grantsOf, tableOk};
-ghost use Rattle.acl.specs.Table.{tableRight};
-ghost use Rattle.writes.specs.Offer.{heldOf};
-ghost use Rattle.replies.specs.Messages.{maxMessage};
-ghost use Rattle.replies.specs.Row.{rowIn, standingIn};
-ghost use Rattle.server.specs.State.{signRight, signIn};
-ghost use Rattle.server.specs.Receive.{closing, stepOf, begun, reacted, forServer, inEnvelope, received, outcomeWith, Reacted};
+ghost use Rattle.im_writer.specs.Envelope.{exchangeLimit};
+ghost use Rattle.im_exchange.specs.declared.Step.the-variants as steps;
+ghost use Rattle.im_exchange.specs.Rules.{maxTurn};
+ghost use Rattle.node_access.specs.Access.{grantsOf, tableOk};
+ghost use Rattle.node_access.specs.Table.{tableRight};
+ghost use Rattle.server_writes.specs.Offer.{heldOf};
+ghost use Rattle.server_replies.specs.Messages.{maxMessage};
+ghost use Rattle.server_replies.specs.Row.{rowIn, standingIn};
+ghost use Rattle.server.specs.State.{serverRight, serverIn};
+ghost use Rattle.server.specs.Receive.{closing, stepOf, begun, reacted, forServer, inEnvelope, received, outcomeWith, ServerReacted};
 use super::BROKEN;
 use super::DONE;
 use super::NO_MESSAGE;
 use super::Outcome;
 use super::SILENT;
 use super::SMALL_BUFFER;
-use super::sign_ok;
-use acl::Entry;
-use acl::Grants;
-use acl::table::search;
-use acl::table::search_in;
-use bounds::ACCESS_ENTRIES;
-use bounds::ATTRIBUTES;
-use bounds::CLUSTERS;
-use envelope::Envelope;
-use envelope::Fields;
-use envelope::envelope_of;
-use exchange::Action;
-use exchange::Progress;
-use exchange::Step;
-use exchange::action_of;
-use exchange::begins;
-use exchange::on_request;
-use exchange::on_status;
-use exchange::server_takes;
-use interaction::StatusResponse;
-use interaction::status_response;
-use interaction_writer::envelope::PANEL_EDITION;
-use replies::ENVELOPE;
-use replies::MAX_MESSAGE;
-use replies::Standing;
-use replies::begin::begin_read;
-use replies::begin::begin_write;
-use replies::kept::next_part;
-use replies::kept::resend;
-use replies::words::put_standing;
-use replies::words::read_standing;
-use schema::TEXTS;
-use schema::WORDS;
-use schema::subject_served;
-use selection::request::ROW_WORDS;
+use super::server_ok;
+use base_bounds::ACCESS_ENTRIES;
+use base_bounds::ATTRIBUTES;
+use base_bounds::CLUSTERS;
+use im_envelope::Envelope;
+use im_envelope::Fields;
+use im_envelope::envelope_of;
+use im_exchange::Action;
+use im_exchange::Progress;
+use im_exchange::Step;
+use im_exchange::action_of;
+use im_exchange::begins;
+use im_exchange::on_request;
+use im_exchange::on_status;
+use im_exchange::server_takes;
+use im_requests::StatusResponse;
+use im_requests::status_response;
+use im_writer::envelope::CACHE_EDITION;
+use node_access::AccessEntry;
+use node_access::Grants;
+use node_access::table::search;
+use node_access::table::search_in;
+use node_schema::TEXTS;
+use node_schema::WORDS;
+use node_schema::subject_served;
+use server_replies::ENVELOPE;
+use server_replies::MAX_MESSAGE;
+use server_replies::RowStanding;
+use server_replies::begin::begin_read;
+use server_replies::begin::begin_write;
+use server_replies::kept::next_part;
+use server_replies::kept::resend;
+use server_replies::words::put_standing;
+use server_replies::words::read_standing;
+use server_selection::request::ROW_WORDS;
 
 // A refusal, which leaves everything as it was.
 fn refuse(number: u8) -> Outcome
@@ -89,12 +89,12 @@ fn step_of(x: Progress, action: Action, e: Fields, payload: &[u8]) -> Step
     on_status(x, e.exchange, e.turn, code)
 }
 
-fn closed(t: Standing) -> Standing
+fn closed(t: RowStanding) -> RowStanding
     ensures { λ r. ⌜ ((row kept : List ℕ) → rowIn row r kept ≡ closing (rowIn row t kept)) ⌝ }
 {
     let was = t.progress;
     let place = t.place;
-    Standing {
+    RowStanding {
         progress: Progress {
             last: was.last,
             turn: was.turn,
@@ -118,15 +118,15 @@ fn begin<'a>(
     versions: &mut [u32; CLUSTERS],
     row: &mut [u64; ROW_WORDS],
     kept: &mut [u8; MAX_MESSAGE],
-    t: Standing,
+    t: RowStanding,
     g: Grants,
     action: Action,
     e: Fields,
     payload: &'a [u8],
     out: &mut [u8],
 ) -> Outcome
-    requires { ⌜ (t ≡ standingIn (now row)) × ((signRight (signIn (now w) (now defaults) (heldOf (now words) (now nulls) (now texts) (now versions) (now edits)) (now row) (now kept)) ≡ true) × ((e .exchange < exchangeLimit) × (maxMessage ≤ length (now out)))) ⌝ }
-    ensures { λ r. ⌜ Reacted (begun (signIn (now (w .entry)) (now (defaults .entry)) (heldOf (now (words .entry)) (now (nulls .entry)) (now (texts .entry)) (now (versions .entry)) (now (edits .entry))) (now (row .entry)) (now (kept .entry))) g e (now (payload .entry)) action) r (heldOf (now (words .exit)) (now (nulls .exit)) (now (texts .exit)) (now (versions .exit)) (now (edits .exit))) (now (row .entry)) (now (row .exit)) (now (kept .exit)) (now (out .entry)) (now (out .exit)) ⌝ }
+    requires { ⌜ (t ≡ standingIn (now row)) × ((serverRight (serverIn (now w) (now defaults) (heldOf (now words) (now nulls) (now texts) (now versions) (now edits)) (now row) (now kept)) ≡ true) × ((e .exchange < exchangeLimit) × (maxMessage ≤ length (now out)))) ⌝ }
+    ensures { λ r. ⌜ ServerReacted (begun (serverIn (now (w .entry)) (now (defaults .entry)) (heldOf (now (words .entry)) (now (nulls .entry)) (now (texts .entry)) (now (versions .entry)) (now (edits .entry))) (now (row .entry)) (now (kept .entry))) g e (now (payload .entry)) action) r (heldOf (now (words .exit)) (now (nulls .exit)) (now (texts .exit)) (now (versions .exit)) (now (edits .exit))) (now (row .entry)) (now (row .exit)) (now (kept .exit)) (now (out .entry)) (now (out .exit)) ⌝ }
 {
     match action {
         Action::Read => {
@@ -184,7 +184,7 @@ fn react<'a>(
     versions: &mut [u32; CLUSTERS],
     row: &mut [u64; ROW_WORDS],
     kept: &mut [u8; MAX_MESSAGE],
-    t: Standing,
+    t: RowStanding,
     g: Grants,
     action: Action,
     e: Fields,
@@ -192,8 +192,8 @@ fn react<'a>(
     step: Step,
     out: &mut [u8],
 ) -> Outcome
-    requires { ⌜ (t ≡ standingIn (now row)) × ((signRight (signIn (now w) (now defaults) (heldOf (now words) (now nulls) (now texts) (now versions) (now edits)) (now row) (now kept)) ≡ true) × ((e .exchange < exchangeLimit) × ((step ≡ steps.Next → t .progress .turn < maxTurn) × (maxMessage ≤ length (now out))))) ⌝ }
-    ensures { λ r. ⌜ Reacted (reacted (signIn (now (w .entry)) (now (defaults .entry)) (heldOf (now (words .entry)) (now (nulls .entry)) (now (texts .entry)) (now (versions .entry)) (now (edits .entry))) (now (row .entry)) (now (kept .entry))) g e (now (payload .entry)) action step) r (heldOf (now (words .exit)) (now (nulls .exit)) (now (texts .exit)) (now (versions .exit)) (now (edits .exit))) (now (row .entry)) (now (row .exit)) (now (kept .exit)) (now (out .entry)) (now (out .exit)) ⌝ }
+    requires { ⌜ (t ≡ standingIn (now row)) × ((serverRight (serverIn (now w) (now defaults) (heldOf (now words) (now nulls) (now texts) (now versions) (now edits)) (now row) (now kept)) ≡ true) × ((e .exchange < exchangeLimit) × ((step ≡ steps.Next → t .progress .turn < maxTurn) × (maxMessage ≤ length (now out))))) ⌝ }
+    ensures { λ r. ⌜ ServerReacted (reacted (serverIn (now (w .entry)) (now (defaults .entry)) (heldOf (now (words .entry)) (now (nulls .entry)) (now (texts .entry)) (now (versions .entry)) (now (edits .entry))) (now (row .entry)) (now (kept .entry))) g e (now (payload .entry)) action step) r (heldOf (now (words .exit)) (now (nulls .exit)) (now (texts .exit)) (now (versions .exit)) (now (edits .exit))) (now (row .entry)) (now (row .exit)) (now (kept .exit)) (now (out .entry)) (now (out .exit)) ⌝ }
 {
     match step {
         Step::Silence => answer(0),
@@ -243,11 +243,11 @@ fn react<'a>(
     }
 }
 
-// Whether a message is for a sign: in the edition of a panel's exchanges, and an action that a server takes.
+// Whether a message is for a server: in the edition of a cache's exchanges, and an action that a server takes.
 fn is_for_server(edition: u64, action: Action) -> bool
     ensures { λ r. ⌜ r ≡ forServer edition action ⌝ }
 {
-    if edition != PANEL_EDITION as u64 {
+    if edition != CACHE_EDITION as u64 {
         return false;
     }
     server_takes(action)
@@ -270,10 +270,10 @@ pub fn serve<'a>(
     message: &'a [u8],
     out: &mut [u8],
 ) -> Outcome
-    ensures { λ r. ⌜ Reacted (received (signIn (now (w .entry)) (now (defaults .entry)) (heldOf (now (words .entry)) (now (nulls .entry)) (now (texts .entry)) (now (versions .entry)) (now (edits .entry))) (now (row .entry)) (now (kept .entry))) (record { subject = subject; grants = g; table = table }) (now (message .entry)) (length (now (out .entry)))) r (heldOf (now (words .exit)) (now (nulls .exit)) (now (texts .exit)) (now (versions .exit)) (now (edits .exit))) (now (row .entry)) (now (row .exit)) (now (kept .exit)) (now (out .entry)) (now (out .exit)) ⌝ }
+    ensures { λ r. ⌜ ServerReacted (received (serverIn (now (w .entry)) (now (defaults .entry)) (heldOf (now (words .entry)) (now (nulls .entry)) (now (texts .entry)) (now (versions .entry)) (now (edits .entry))) (now (row .entry)) (now (kept .entry))) (record { subject = subject; grants = g; table = table }) (now (message .entry)) (length (now (out .entry)))) r (heldOf (now (words .exit)) (now (nulls .exit)) (now (texts .exit)) (now (versions .exit)) (now (edits .exit))) (now (row .entry)) (now (row .exit)) (now (kept .exit)) (now (out .entry)) (now (out .exit)) ⌝ }
 {
     let t = read_standing(row);
-    if !sign_ok(w, defaults, edits, words, nulls, texts, t) {
+    if !server_ok(w, defaults, edits, words, nulls, texts, t) {
         return refuse(BROKEN);
     }
     if !table {
@@ -328,12 +328,12 @@ pub fn receive<'a>(
     versions: &mut [u32; CLUSTERS],
     row: &mut [u64; ROW_WORDS],
     kept: &mut [u8; MAX_MESSAGE],
-    table: &[Entry],
+    table: &[AccessEntry],
     subject: u64,
     message: &'a [u8],
     out: &mut [u8],
 ) -> Outcome
-    ensures { λ r. ⌜ Reacted (received (signIn (now (w .entry)) (now (defaults .entry)) (heldOf (now (words .entry)) (now (nulls .entry)) (now (texts .entry)) (now (versions .entry)) (now (edits .entry))) (now (row .entry)) (now (kept .entry))) (record { subject = subject; grants = grantsOf (now (table .entry)) subject (now (w .entry)); table = tableOk (now (table .entry)) }) (now (message .entry)) (length (now (out .entry)))) r (heldOf (now (words .exit)) (now (nulls .exit)) (now (texts .exit)) (now (versions .exit)) (now (edits .exit))) (now (row .entry)) (now (row .exit)) (now (kept .exit)) (now (out .entry)) (now (out .exit)) ⌝ }
+    ensures { λ r. ⌜ ServerReacted (received (serverIn (now (w .entry)) (now (defaults .entry)) (heldOf (now (words .entry)) (now (nulls .entry)) (now (texts .entry)) (now (versions .entry)) (now (edits .entry))) (now (row .entry)) (now (kept .entry))) (record { subject = subject; grants = grantsOf (now (table .entry)) subject (now (w .entry)); table = tableOk (now (table .entry)) }) (now (message .entry)) (length (now (out .entry)))) r (heldOf (now (words .exit)) (now (nulls .exit)) (now (texts .exit)) (now (versions .exit)) (now (edits .exit))) (now (row .entry)) (now (row .exit)) (now (kept .exit)) (now (out .entry)) (now (out .exit)) ⌝ }
 {
     let access = search(table, table.len(), subject, w);
     serve(
@@ -365,13 +365,13 @@ pub fn receive_in<'a>(
     versions: &mut [u32; CLUSTERS],
     row: &mut [u64; ROW_WORDS],
     kept: &mut [u8; MAX_MESSAGE],
-    entries: [Entry; ACCESS_ENTRIES],
+    entries: [AccessEntry; ACCESS_ENTRIES],
     count: usize,
     subject: u64,
     message: &'a [u8],
     out: &mut [u8],
 ) -> Outcome
-    ensures { λ r. ⌜ Reacted (received (signIn (now (w .entry)) (now (defaults .entry)) (heldOf (now (words .entry)) (now (nulls .entry)) (now (texts .entry)) (now (versions .entry)) (now (edits .entry))) (now (row .entry)) (now (kept .entry))) (record { subject = subject; grants = grantsOf (take count entries) subject (now (w .entry)); table = tableRight count entries }) (now (message .entry)) (length (now (out .entry)))) r (heldOf (now (words .exit)) (now (nulls .exit)) (now (texts .exit)) (now (versions .exit)) (now (edits .exit))) (now (row .entry)) (now (row .exit)) (now (kept .exit)) (now (out .entry)) (now (out .exit)) ⌝ }
+    ensures { λ r. ⌜ ServerReacted (received (serverIn (now (w .entry)) (now (defaults .entry)) (heldOf (now (words .entry)) (now (nulls .entry)) (now (texts .entry)) (now (versions .entry)) (now (edits .entry))) (now (row .entry)) (now (kept .entry))) (record { subject = subject; grants = grantsOf (take count entries) subject (now (w .entry)); table = tableRight count entries }) (now (message .entry)) (length (now (out .entry)))) r (heldOf (now (words .exit)) (now (nulls .exit)) (now (texts .exit)) (now (versions .exit)) (now (edits .exit))) (now (row .entry)) (now (row .exit)) (now (kept .exit)) (now (out .entry)) (now (out .exit)) ⌝ }
 {
     let access = search_in(entries, count, subject, w);
     let grants = access.grants;

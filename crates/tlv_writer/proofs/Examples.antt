@@ -1,11 +1,11 @@
--- Worked examples, by computing: S5 of document 01, the ends of widths, and values of the examples of the Matter Core
+-- Worked examples, by computing: S5 (RULES 8.5), the ends of widths, and values of the examples of the Matter Core
 -- Specification, Appendix A.
 use mathlib.Core.Path.{_≡_, refl}
 use mathlib.Core.Bool.{true}
 use mathlib.Core.List.{[], _∷_, _++_}
 use lib.IntN.{pos, negsuc}
-use Rattle.octets.specs.Number.{bytesOf}
-use Rattle.tlv.specs.Octet.{tagWidth, numberWidth, headOctets}
+use Rattle.base_octets.specs.Number.{bytesOf}
+use Rattle.tlv_reader.specs.Octet.{tagWidth, numberWidth, headOctets}
 use Rattle.tlv_writer.specs.declared.Tag.the-variants.{Anonymous, Context}
 use Rattle.tlv_writer.specs.Width.{leastOf, leastWidth, leastSignedWidth, twos, widthCode}
 use Rattle.tlv_writer.specs.Element.{formOf, labelOf, headFor, unsignedOctets, signedOctets, booleanOctets, nullOctets, floatOctets, textOctets, openOctets, endOctets}

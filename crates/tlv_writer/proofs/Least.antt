@@ -8,13 +8,13 @@ use borrow.Author.Tests.{ltb-true, ltb-false, lt-ltb, le-ltb}
 use lib.Dec.{ltb}
 use lib.IntN.{ℤ}
 use lib.ListN.{length, length-append}
-use Rattle.octets.specs.Number.{bytesOf}
-use Rattle.octets.proofs.NumberLaws.{length-bytes}
-use Rattle.tlv.specs.Octet.{pick, tagWidth, numberWidth, isString, structure, headOctets}
-use Rattle.tlv.specs.Tree.{Primitive, Spells, complement, scalarOf, primitiveOf, tagOf}
-use Rattle.tlv.specs.Tree.Tree.{primitive}
-use Rattle.tlv.specs.Tree.Primitive.{unsigned, signed, text}
-use Rattle.tlv.specs.Value.{datumP}
+use Rattle.base_octets.specs.Number.{bytesOf}
+use Rattle.base_octets.proofs.NumberLaws.{length-bytes}
+use Rattle.tlv_reader.specs.Octet.{pick, tagWidth, numberWidth, isString, structure, headOctets}
+use Rattle.tlv_reader.specs.Tree.{Primitive, Spells, complement, scalarOf, primitiveOf, tagOf}
+use Rattle.tlv_reader.specs.Tree.Tree.{primitive}
+use Rattle.tlv_reader.specs.Tree.Primitive.{unsigned, signed, text}
+use Rattle.tlv_reader.specs.Value.{datumP}
 use Rattle.tlv_writer.specs.declared.Tag.{Tag}
 use Rattle.tlv_writer.specs.declared.Tag.the-variants.{Anonymous, Context}
 use Rattle.tlv_writer.specs.Element.{formOf, headLength, unsignedOctets, signedOctets, textOctets, datumOctets}

@@ -7,11 +7,11 @@ use native.Mathlib.Omega.{arith}
 use lib.IntN.{ℤ}
 use lib.ListN.{length, length-append}
 use lib.Signed.{mag}
-use Rattle.octets.specs.Number.{bytesOf}
-use Rattle.octets.specs.Store.{Stored}
-use Rattle.octets.proofs.NumberLaws.{length-bytes}
-use Rattle.octets.proofs.StoreLaws.{then}
-use Rattle.tlv.specs.Octet.{tagWidth, numberWidth, headOctets, structure, endOfContainer}
+use Rattle.base_octets.specs.Number.{bytesOf}
+use Rattle.base_octets.specs.Store.{Stored}
+use Rattle.base_octets.proofs.NumberLaws.{length-bytes}
+use Rattle.base_octets.proofs.StoreLaws.{then}
+use Rattle.tlv_reader.specs.Octet.{tagWidth, numberWidth, headOctets, structure, endOfContainer}
 use Rattle.tlv_writer.specs.declared.Tag.{Tag}
 use Rattle.tlv_writer.specs.declared.Tag.the-variants.{Anonymous, Context}
 use Rattle.tlv_writer.specs.Width.{leastWidth, leastSignedWidth, twos}

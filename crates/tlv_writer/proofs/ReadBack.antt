@@ -4,12 +4,12 @@ use mathlib.Core.List.{List, _++_}
 use Prim.Native.Nat.{ℕ, _+_, _<_}
 use native.Mathlib.Omega.{arith}
 use lib.ListN.{length}
-use Rattle.tlv.specs.Tree.{Primitive, depth}
-use Rattle.tlv.specs.Tree.Tree.{primitive}
-use Rattle.tlv.specs.Value.{datumP}
-use Rattle.tlv.specs.Walk.Got.{got}
-use Rattle.tlv.specs.Decode.{treeAt}
-use Rattle.tlv.proofs.Completeness.{tree-back}
+use Rattle.tlv_reader.specs.Tree.{Primitive, depth}
+use Rattle.tlv_reader.specs.Tree.Tree.{primitive}
+use Rattle.tlv_reader.specs.Value.{datumP}
+use Rattle.tlv_reader.specs.Walk.Got.{got}
+use Rattle.tlv_reader.specs.Decode.{treeAt}
+use Rattle.tlv_reader.proofs.Completeness.{tree-back}
 use Rattle.tlv_writer.specs.declared.Tag.{Tag}
 use Rattle.tlv_writer.specs.Element.{labelOf, datumOctets}
 use Rattle.tlv_writer.specs.Meaning.{treeTag, Writable}

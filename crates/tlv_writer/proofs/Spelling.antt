@@ -8,12 +8,12 @@ use borrow.Author.Tests.{lt-ltb, le-ltb}
 use lib.IntN.{ℤ}
 use lib.ListN.{length}
 use lib.Signed.{mag}
-use Rattle.tlv.specs.Octet.{pick, tagWidth, numberWidth, isString, structure, endOfContainer}
-use Rattle.tlv.specs.Tree.{Tree, Trees, Primitive, Spells, SpellsAll, complement, scalarOf, primitiveOf, tagOf, stands, tagOfTree}
-use Rattle.tlv.specs.Tree.Tree.{primitive, container}
-use Rattle.tlv.specs.Tree.Trees.{none, more}
-use Rattle.tlv.specs.Tree.Primitive.{null, boolean, unsigned, signed, float32, float64, text, octets}
-use Rattle.tlv.specs.Value.{datumP}
+use Rattle.tlv_reader.specs.Octet.{pick, tagWidth, numberWidth, isString, structure, endOfContainer}
+use Rattle.tlv_reader.specs.Tree.{Tree, Trees, Primitive, Spells, SpellsAll, complement, scalarOf, primitiveOf, tagOf, stands, tagOfTree}
+use Rattle.tlv_reader.specs.Tree.Tree.{primitive, container}
+use Rattle.tlv_reader.specs.Tree.Trees.{none, more}
+use Rattle.tlv_reader.specs.Tree.Primitive.{null, boolean, unsigned, signed, float32, float64, text, octets}
+use Rattle.tlv_reader.specs.Value.{datumP}
 use Rattle.tlv_writer.specs.declared.Tag.{Tag}
 use Rattle.tlv_writer.specs.declared.Tag.the-variants.{Anonymous, Context}
 use Rattle.tlv_writer.specs.Width.{leastSignedWidth, twos}

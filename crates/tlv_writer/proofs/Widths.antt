@@ -10,9 +10,9 @@ use borrow.Author.Tests.{ltb-true, leb-true, leb-false, lt-ltb, le-leb, lt-leb}
 use lib.Dec.{ltb, leb}
 use lib.IntN.{ℤ, pos, negsuc}
 use lib.Signed.{mag}
-use Rattle.octets.specs.Number.{bytesOf}
-use Rattle.tlv.specs.Octet.{pick, numberWidth}
-use Rattle.tlv.specs.Tree.{complement}
+use Rattle.base_octets.specs.Number.{bytesOf}
+use Rattle.tlv_reader.specs.Octet.{pick, numberWidth}
+use Rattle.tlv_reader.specs.Tree.{complement}
 use Rattle.tlv_writer.specs.Width.{leastOf, leastWidth, leastSignedWidth, twos, widthCode}
 
 -- the widths of a number in TLV

@@ -1,16 +1,15 @@
--- Elements as we write them, in octets (Matter Core Specification, Appendix A; document 01, Spelling: integers and lengths
--- in the least width).
+-- Elements as we write them, in octets (Matter Core Specification, Appendix A; RULES 4.3: the least width).
 use Prim.Native.Nat.{ℕ, _+_, _*_, _≤_}
 use mathlib.Core.List.{List, [], _∷_, _++_}
 use mathlib.Core.Bool.{Bool}
 use lib.IntN.{ℤ}
 use lib.ListN.{length}
-use Rattle.octets.specs.Number.{bytesOf}
-use Rattle.tlv.specs.Octet.{pick, tagWidth, headOctets, endOfContainer}
-use Rattle.tlv.specs.Value.{Datum}
-use Rattle.tlv.specs.Value.Datum.{null, boolean, unsigned, signed, float, text, other}
-use Rattle.tlv.specs.declared.Value.{Value}
-use Rattle.tlv.specs.declared.Value.the-variants.{Null, Boolean, Unsigned, Signed, Float, Text, Other}
+use Rattle.base_octets.specs.Number.{bytesOf}
+use Rattle.tlv_reader.specs.Octet.{pick, tagWidth, headOctets, endOfContainer}
+use Rattle.tlv_reader.specs.Value.{Datum}
+use Rattle.tlv_reader.specs.Value.Datum.{null, boolean, unsigned, signed, float, text, other}
+use Rattle.tlv_reader.specs.declared.Value.{Value}
+use Rattle.tlv_reader.specs.declared.Value.the-variants.{Null, Boolean, Unsigned, Signed, Float, Text, Other}
 use Rattle.tlv_writer.specs.declared.Tag.{Tag}
 use Rattle.tlv_writer.specs.declared.Tag.the-variants.{Anonymous, Context}
 use Rattle.tlv_writer.specs.Width.{leastWidth, leastSignedWidth, twos, widthCode}

@@ -2,9 +2,9 @@
 use Prim.Native.Nat.{_^_, _<_}
 use lib.ListN.{length}
 use lib.Signed.{mag}
-use Rattle.tlv.specs.Tree.{Primitive}
-use Rattle.tlv.specs.Tree.Primitive.{null, boolean, unsigned, signed, float32, float64, text, octets}
-use Rattle.tlv.specs.Tree as Tree
+use Rattle.tlv_reader.specs.Tree.{Primitive}
+use Rattle.tlv_reader.specs.Tree.Primitive.{null, boolean, unsigned, signed, float32, float64, text, octets}
+use Rattle.tlv_reader.specs.Tree as Tree
 use Rattle.tlv_writer.specs.declared.Tag.{Tag}
 use Rattle.tlv_writer.specs.declared.Tag.the-variants.{Anonymous, Context}
 

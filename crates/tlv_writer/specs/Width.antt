@@ -1,10 +1,10 @@
--- How many octets a number is written in (document 01, Spelling: we write integers and lengths in the least width).
+-- How many octets a number is written in: the least width (RULES 4.3).
 use Prim.Native.Nat.{ℕ, suc, _-_, _/_, _^_}
 use mathlib.Core.Bool.{Bool}
 use lib.Dec.{ltb, eqb}
 use lib.IntN.{ℤ, pos, negsuc}
 use lib.Signed.{mag}
-use Rattle.tlv.specs.Octet.{pick}
+use Rattle.tlv_reader.specs.Octet.{pick}
 
 -- the least of 1, 2, 4 and 8 octets of which a test holds, or 8
 unfoldable pub leastOf : (ℕ → Bool) → ℕ

@@ -2,13 +2,13 @@
 ghost use mathlib.Core.Path.{_≡_};
 ghost use Prim.Native.Nat.{_+_, _≤_};
 ghost use lib.ListN.{length};
-ghost use Rattle.tlv.specs.Value.{datumIn};
+ghost use Rattle.tlv_reader.specs.Value.{datumIn};
 ghost use Rattle.tlv_writer.specs.Element.{headLength, unsignedOctets, signedOctets, floatOctets, textOctets, datumOctets, InPage};
 use super::Tag;
 use super::width::length_width;
 use super::width::signed_width;
 use super::width::unsigned_width;
-use tlv::Value;
+use tlv_reader::Value;
 
 // Control octet and tag: an opening, a boolean or null whole.
 pub fn head_len(tag: Tag) -> usize

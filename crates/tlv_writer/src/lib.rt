@@ -3,11 +3,11 @@
 ghost use mathlib.Core.Path.{_≡_};
 ghost use Prim.Native.Nat.{_+_, _≤_, _<_};
 ghost use lib.ListN.{length};
-ghost use Rattle.octets.specs.Store.{Stored};
-ghost use Rattle.tlv.specs.Octet.{numberWidth, structure, endOfContainer};
-ghost use Rattle.tlv.specs.Value.{datumIn};
+ghost use Rattle.base_octets.specs.Store.{Stored};
+ghost use Rattle.tlv_reader.specs.Octet.{numberWidth, structure, endOfContainer};
+ghost use Rattle.tlv_reader.specs.Value.{datumIn};
 ghost use Rattle.tlv_writer.specs.Element.{startOctets, headFor, unsignedOctets, signedOctets, booleanOctets, nullOctets, floatOctets, textOctets, openOctets, endOctets, datumOctets, InPage};
-use tlv::Value;
+use tlv_reader::Value;
 
 pub mod lengths; // lengths.rt: how long an element will be
 pub mod width; // width.rt: the least width of a number
@@ -36,8 +36,8 @@ pub fn put_head(b: &mut [u8], at: usize, tag: Tag, kind: u8) -> usize
     ensures { λ r. ⌜ Stored (now (b .entry)) at (startOctets tag kind) (now (b .exit)) r ⌝ }
 {
     match tag {
-        Tag::Anonymous => octets::put1(b, at, kind),
-        Tag::Context(number) => octets::put2(b, at, 32 + kind, number),
+        Tag::Anonymous => base_octets::put1(b, at, kind),
+        Tag::Context(number) => base_octets::put2(b, at, 32 + kind, number),
     }
 }
 
@@ -47,7 +47,7 @@ fn put_numbered(b: &mut [u8], at: usize, tag: Tag, kind: u8, w: usize, v: u64) -
     ensures { λ r. ⌜ Stored (now (b .entry)) at (headFor tag kind v) (now (b .exit)) r ⌝ }
 {
     let p = put_head(b, at, tag, kind);
-    octets::put_number(b, p, w, v)
+    base_octets::put_number(b, p, w, v)
 }
 
 pub fn put_unsigned(b: &mut [u8], at: usize, tag: Tag, v: u64) -> usize
@@ -102,10 +102,10 @@ pub fn put_text(b: &mut [u8], at: usize, tag: Tag, text: &[u8]) -> usize
     let w = width::length_width(n);
     let kind = TEXT + width::width_code(w);
     let p = put_numbered(b, at, tag, kind, w, n as u64);
-    octets::put_bytes(b, p, text)
+    base_octets::put_bytes(b, p, text)
 }
 
-// The opening of a container of an element type: tlv::STRUCTURE, tlv::ARRAY or tlv::LIST.
+// The opening of a container of an element type: tlv_reader::STRUCTURE, tlv_reader::ARRAY or tlv_reader::LIST.
 pub fn put_open(b: &mut [u8], at: usize, tag: Tag, kind: u8) -> usize
     requires { ⌜ (structure ≤ kind) × ((kind < endOfContainer) × (at + length (openOctets tag kind) ≤ length (now b))) ⌝ }
     ensures { λ r. ⌜ Stored (now (b .entry)) at (openOctets tag kind) (now (b .exit)) r ⌝ }
@@ -117,7 +117,7 @@ pub fn put_end(b: &mut [u8], at: usize) -> usize
     requires { ⌜ at + length endOctets ≤ length (now b) ⌝ }
     ensures { λ r. ⌜ Stored (now (b .entry)) at endOctets (now (b .exit)) r ⌝ }
 {
-    octets::put1(b, at, tlv::END)
+    base_octets::put1(b, at, tlv_reader::END)
 }
 
 // A value, its text in the page; of one that is Other, nothing.

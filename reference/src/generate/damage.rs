@@ -1,4 +1,4 @@
-//! Messages that break the rules of spelling or of their fields (01, Spelling: malformed). What
+//! Messages that break the rules of spelling or of their fields (RULES 4.13). What
 //! the damage comes to is left to the ends: some of it is harmless.
 
 use super::disguise;

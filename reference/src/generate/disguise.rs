@@ -1,5 +1,5 @@
 //! Other legal spellings of the same message: any width, any field order, extra members that are
-//! walked and ignored (01, Spelling).
+//! walked and ignored (RULES 4.10).
 
 use crate::limits::{DEPTH, PAYLOAD};
 use crate::rng::Rng;

@@ -1,8 +1,8 @@
-use Rattle.cache_state.specs.declared.Standing.{Standing}
-use Rattle.cache_state.specs.declared.State.{State}
+use Rattle.cache_state.specs.declared.CacheStanding.{CacheStanding}
+use Rattle.cache_state.specs.declared.CacheState.{CacheState}
 use Rattle.cache_state.specs.Words.{wordsRight, standingIn, stateWith}
-use Rattle.cache_state.specs.State.{panelRight}
-use Rattle.schema.proofs.BoolLaws.{left, right}
+use Rattle.cache_state.specs.State.{cacheRight}
+use Rattle.node_schema.proofs.BoolLaws.{left, right}
 use borrow.Author.Tests.{not-true, not-false}
 use mathlib.Core.List.{List, []}
 use mathlib.Core.Bool.{true, _&&_}
@@ -11,12 +11,12 @@ use mathlib.Core.Path.{_≡_, refl, sym, ap, subst, _∙_}
 use Rattle.cache_ask.proofs.SaidLaws.{entry-right, entry-broken}
 use Rattle.cache_ask.proofs.AskLaws.{right-ordered, entry-found, found-word, found-place}
 use Rattle.cache_ask.specs.Ask.{entryRead, AnswersEntry}
-use Rattle.cache_ask.specs.declared.Held.{Held}
-use Rattle.cache_ask.specs.declared.Held.the-variants as held
+use Rattle.cache_ask.specs.declared.EntryHeld.{EntryHeld}
+use Rattle.cache_ask.specs.declared.EntryHeld.the-variants as held
 use Rattle.cache_entries.specs.Limits.{maxEntries, noVersion}
 use Rattle.cache_entries.specs.Entries.{pathAt}
-use Rattle.tlv.specs.declared.Value.{Value}
-use Rattle.schema.specs.declared.Found.the-variants as found
+use Rattle.tlv_reader.specs.declared.Value.{Value}
+use Rattle.node_schema.specs.declared.Found.the-variants as found
 use lib.ListN.{getD}
 use borrow.Author.Tests.{lt-ltb, le-ltb}
 use native.Mathlib.Omega.{arith}
@@ -26,17 +26,17 @@ use Rattle.cache_ask.proofs.entry.Statement.{statement}
 use Rattle.cache_ask.proofs.entry.Tie as tie
 
 -- the state that is lent, where t was read from its words
-abbrev lent : tie.Start → Standing → List ℕ → State
+abbrev lent : tie.Start → CacheStanding → List ℕ → CacheState
 lent s t kept = stateWith (s .args .clusters .now) (s .args .keys .now) (s .args .versions .now) (s .args .kinds .now) (s .args .words .now) (s .args .order .now) (s .args .lengths .now) t kept
 
-as-read : (c : tie.After-panel-ok) (kept : List ℕ) {r : Held} → let s = c .before .before .before in AnswersEntry (s .args .asked .now) (s .args .page .now) (lent s (c .before .read-standing .result) kept) (s .args .endpoint) (s .args .cluster) (s .args .attribute) r → AnswersEntry (s .args .asked .now) (s .args .page .now) (lent s (standingIn (s .args .asked .now)) kept) (s .args .endpoint) (s .args .cluster) (s .args .attribute) r
-as-read c kept {r} k = let s = c .before .before .before in subst (λ (t : Standing). AnswersEntry (s .args .asked .now) (s .args .page .now) (lent s t kept) (s .args .endpoint) (s .args .cluster) (s .args .attribute) r) (c .before .read-standing .ensures .0) k
+as-read : (c : tie.After-cache-ok) (kept : List ℕ) {r : EntryHeld} → let s = c .before .before .before in AnswersEntry (s .args .asked .now) (s .args .page .now) (lent s (c .before .read-standing .result) kept) (s .args .endpoint) (s .args .cluster) (s .args .attribute) r → AnswersEntry (s .args .asked .now) (s .args .page .now) (lent s (standingIn (s .args .asked .now)) kept) (s .args .endpoint) (s .args .cluster) (s .args .attribute) r
+as-read c kept {r} k = let s = c .before .before .before in subst (λ (t : CacheStanding). AnswersEntry (s .args .asked .now) (s .args .page .now) (lent s t kept) (s .args .endpoint) (s .args .cluster) (s .args .attribute) r) (c .before .read-standing .ensures .0) k
 
 -- it keeps the rules
-kept-rules : (c : tie.Else1) (kept : List ℕ) → let s = c .before .before .before .before in (wordsRight (s .args .asked .now) && panelRight (s .args .page .now) (lent s (c .before .before .read-standing .result) kept)) ≡ true
-kept-rules c kept = sym (c .before .panel-ok .ensures kept) ∙ not-false _ (c .if1 .left)
+kept-rules : (c : tie.Else1) (kept : List ℕ) → let s = c .before .before .before .before in (wordsRight (s .args .asked .now) && cacheRight (s .args .page .now) (lent s (c .before .before .read-standing .result) kept)) ≡ true
+kept-rules c kept = sym (c .before .cache-ok .ensures kept) ∙ not-false _ (c .if1 .left)
 
-ruled : (c : tie.Else1) (kept : List ℕ) → let s = c .before .before .before .before in panelRight (s .args .page .now) (lent s (c .before .before .read-standing .result) kept) ≡ true
+ruled : (c : tie.Else1) (kept : List ℕ) → let s = c .before .before .before .before in cacheRight (s .args .page .now) (lent s (c .before .before .read-standing .result) kept) ≡ true
 ruled c kept = right (wordsRight (c .before .before .before .before .args .asked .now)) _ (kept-rules c kept)
 
 -- the entry that was found
@@ -49,11 +49,11 @@ below c = let e = c .before .before .before in let s = e .before .before .before
 read-standing-requires : tie.Need-read-standing-requires
 read-standing-requires c κs = search needs
 
-panel-ok-requires : tie.Need-panel-ok-requires
-panel-ok-requires c κs = search needs
+cache-ok-requires : tie.Need-cache-ok-requires
+cache-ok-requires c κs = search needs
 
 returns : tie.Need-returns
-returns c = let s = c .before .before .before .before in let a = s .args in λ kept. as-read (c .before) kept (entry-broken (a .asked .now) (a .page .now) (lent s (c .before .before .read-standing .result) kept) (a .endpoint) (a .cluster) (a .attribute) (sym (c .before .panel-ok .ensures kept) ∙ not-true _ (c .if1 .taken)))
+returns c = let s = c .before .before .before .before in let a = s .args in λ kept. as-read (c .before) kept (entry-broken (a .asked .now) (a .page .now) (lent s (c .before .before .read-standing .result) kept) (a .endpoint) (a .cluster) (a .attribute) (sym (c .before .cache-ok .ensures kept) ∙ not-true _ (c .if1 .taken)))
 
 path-at-requires : tie.Need-path-at-requires
 path-at-requires c κs = right-ordered (c .before .before .before .before .args .page .now) (lent (c .before .before .before .before) (c .before .before .read-standing .result) []) (ruled (c) [])
@@ -99,7 +99,7 @@ entry-spec =
     tie.close
     (tie.spec
     read-standing-requires
-    panel-ok-requires
+    cache-ok-requires
     returns
     path-at-requires
     enum-known-i

@@ -1,7 +1,7 @@
 use Rattle.cache_ask.specs.Ask.{textOfValue, textOfEntry}
 use Rattle.cache_ask.proofs.AskLaws.{no-entry, no-text, text-inside, text-of}
 use Rattle.cache_ask.specs.Ask.{textOfValue, textOfEntry, textShown}
-use Rattle.cache_state.specs.declared.State.{State}
+use Rattle.cache_state.specs.declared.CacheState.{CacheState}
 use Rattle.cache_state.specs.Words.{stateIn}
 use lib.ListN.{length, take, drop}
 use native.Mathlib.Omega.{arith}
@@ -13,7 +13,7 @@ use Rattle.cache_ask.proofs.text.Statement.{statement}
 use Rattle.cache_ask.proofs.text.Tie as tie
 
 -- the state that is lent
-abbrev lent : tie.Start → List ℕ → State
+abbrev lent : tie.Start → List ℕ → CacheState
 lent s kept = stateIn (s .args .clusters .now) (s .args .keys .now) (s .args .versions .now) (s .args .kinds .now) (s .args .words .now) (s .args .order .now) (s .args .lengths .now) (s .args .asked .now) kept
 
 shown : (c : tie.After-entry) (kept : List ℕ) → let s = c .before .before in textOfEntry (s .args .page .now) (c .entry .result) ≡ textShown (s .args .asked .now) (s .args .page .now) (lent s kept) (s .args .endpoint) (s .args .cluster) (s .args .attribute)

@@ -3,7 +3,7 @@ use Rattle.cache_entries.specs.declared.Cached.{Cached}
 use Rattle.cache_entries.specs.Coherent.{coherentAt}
 use Rattle.cache_messages.proofs.FilterLaws.{coherent-is, coherent-not}
 use Rattle.cache_state.specs.Words.{heldIn}
-use Rattle.schema.specs.declared.Found.{Found}
+use Rattle.node_schema.specs.declared.Found.{Found}
 use mathlib.Core.List.{List}
 use Prim.Native.Nat.{ℕ}
 use mathlib.Core.Path.{sym, ap, _∙_}

@@ -3,7 +3,7 @@ use Rattle.cache_receive.proofs.LeaveLaws.{nextStanding, left-on}
 use Rattle.cache_state.specs.Words.{heldIn, requestOf, standingWords}
 use Rattle.cache_state.specs.Begin.{keeping}
 use Rattle.cache_state.proofs.ReactLaws.{ends-within, message-length, sent-as}
-use Rattle.octets.specs.Store.{store}
+use Rattle.base_octets.specs.Store.{store}
 use lib.ListN.{length, take, drop}
 use native.Mathlib.Omega.{arith}
 use Prim.Native.Nat.{ℕ, _-_, _≤_}

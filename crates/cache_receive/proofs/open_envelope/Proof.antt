@@ -1,7 +1,7 @@
 use Rattle.cache_receive.specs.Steps.{openedIn}
-use Rattle.envelope.specs.Envelope.{maxMessage}
-use Rattle.envelope.specs.declared.Envelope.the-variants.{Whole}
-use Rattle.envelope.specs.Envelope.{envelopeIn}
+use Rattle.im_envelope.specs.Envelope.{maxMessage}
+use Rattle.im_envelope.specs.declared.Envelope.the-variants.{Whole}
+use Rattle.im_envelope.specs.Envelope.{envelopeIn}
 use lib.ListN.{length}
 use borrow.Author.Tests.{not-true, not-false, le-leb, lt-leb}
 use mathlib.Core.Path.{_≡_, refl, sym, _∙_}

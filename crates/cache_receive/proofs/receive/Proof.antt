@@ -2,8 +2,8 @@ use Rattle.cache_receive.specs.declared.Opened.{Opened}
 use Rattle.cache_receive.specs.Receive.{takesPart}
 use Rattle.cache_receive.specs.Steps.{openedOf, byReply}
 use Rattle.cache_receive.proofs.OpenLaws.{Open, shut-as, is-open, takes-report, takes-reply, payload-of}
-use Rattle.cache_state.specs.declared.Standing.{Standing}
-use Rattle.cache_state.specs.State.{panelRight}
+use Rattle.cache_state.specs.declared.CacheStanding.{CacheStanding}
+use Rattle.cache_state.specs.State.{cacheRight}
 use Rattle.cache_state.specs.Words.{stateWith, stateIn}
 use Rattle.cache_state.specs.Reaction.{unsent}
 use Rattle.cache_state.proofs.ReactLaws.{same-reaction, refused-as}
@@ -19,7 +19,7 @@ use Rattle.cache_receive.proofs.receive.Tie as tie
 
 -- what was told is told of the state that is lent
 told : (c : tie.After-open-message) → let a = c .before .before .before .before .before .before .before .before .before .before .before .before .before .before .before .args in c .open-message .result ≡ openedOf (a .asked .now) (a .page .now) (stateIn (a .clusters .now) (a .keys .now) (a .versions .now) (a .kinds .now) (a .words .now) (a .order .now) (a .lengths .now) (a .asked .now) (a .kept .now)) (a .message .now) (length (a .out .now))
-told c = let a = c .before .before .before .before .before .before .before .before .before .before .before .before .before .before .before .args in c .open-message .ensures (a .kept .now) ∙ ap (λ (u : Standing). openedOf (a .asked .now) (a .page .now) (stateWith (a .clusters .now) (a .keys .now) (a .versions .now) (a .kinds .now) (a .words .now) (a .order .now) (a .lengths .now) u (a .kept .now)) (a .message .now) (length (a .out .now))) (c .before .before .before .before .before .before .before .before .before .before .read-standing .ensures .0)
+told c = let a = c .before .before .before .before .before .before .before .before .before .before .before .before .before .before .before .args in c .open-message .ensures (a .kept .now) ∙ ap (λ (u : CacheStanding). openedOf (a .asked .now) (a .page .now) (stateWith (a .clusters .now) (a .keys .now) (a .versions .now) (a .kinds .now) (a .words .now) (a .order .now) (a .lengths .now) u (a .kept .now)) (a .message .now) (length (a .out .now))) (c .before .before .before .before .before .before .before .before .before .before .read-standing .ensures .0)
 
 -- a message that is taken
 open-here : (c : tie.Else1) → let a = c .before .before .before .before .before .before .before .before .before .before .before .before .before .before .before .before .before .args in Open (a .asked .now) (a .page .now) (stateIn (a .clusters .now) (a .keys .now) (a .versions .now) (a .kinds .now) (a .words .now) (a .order .now) (a .lengths .now) (a .asked .now) (a .kept .now)) (a .message .now) (length (a .out .now)) (c .before .before .open-message .result .opcode)
@@ -53,7 +53,7 @@ part-payload-end : tie.Need-part-payload-end
 part-payload-end c = search needs
 
 take-report-requires : tie.Need-take-report-requires
-take-report-requires c κs = let a = c .before .before .before .before .before .before .before .before .before .before .before .before .before .before .before .before .before .before .before .before .before .before .before .before .before .before .before .before .before .before .before .args in let o = open-here (c .before .before .before .before .before .before .before .before .before .before .before .before .before .before) in ((c .before .before .before .before .before .before .before .before .before .before .before .before .before .before .before .before .before .before .before .before .before .before .before .before .before .before .read-standing .ensures .0), (o .words, (c .before .before .before .before .before .before .before .before .before .before .before .before .before .before .before .before .before .before .before .before .before .before .before .before .before .before .read-standing .ensures .1, (subst (λ (u : Standing). panelRight (a .page .now) (stateWith (a .clusters .now) (a .keys .now) (a .versions .now) (a .kinds .now) (a .words .now) (a .order .now) (a .lengths .now) u (a .kept .now)) ≡ true) (sym (c .before .before .before .before .before .before .before .before .before .before .before .before .before .before .before .before .before .before .before .before .before .before .before .before .before .before .read-standing .ensures .0)) (o .panel), (omega (arith, ap length (payload-of (a .message .now)), length-drop 8 (a .message .now), o .short), o .large)))))
+take-report-requires c κs = let a = c .before .before .before .before .before .before .before .before .before .before .before .before .before .before .before .before .before .before .before .before .before .before .before .before .before .before .before .before .before .before .before .args in let o = open-here (c .before .before .before .before .before .before .before .before .before .before .before .before .before .before) in ((c .before .before .before .before .before .before .before .before .before .before .before .before .before .before .before .before .before .before .before .before .before .before .before .before .before .before .read-standing .ensures .0), (o .words, (c .before .before .before .before .before .before .before .before .before .before .before .before .before .before .before .before .before .before .before .before .before .before .before .before .before .before .read-standing .ensures .1, (subst (λ (u : CacheStanding). cacheRight (a .page .now) (stateWith (a .clusters .now) (a .keys .now) (a .versions .now) (a .kinds .now) (a .words .now) (a .order .now) (a .lengths .now) u (a .kept .now)) ≡ true) (sym (c .before .before .before .before .before .before .before .before .before .before .before .before .before .before .before .before .before .before .before .before .before .before .before .before .before .before .read-standing .ensures .0)) (o .cache), (omega (arith, ap length (payload-of (a .message .now)), length-drop 8 (a .message .now), o .short), o .large)))))
 
 same-length-2 : tie.Need-same-length-2
 same-length-2 c = search needs

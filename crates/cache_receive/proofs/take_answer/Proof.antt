@@ -1,7 +1,7 @@
 use Rattle.cache_receive.proofs.AnswerLaws.{one-none, one-some}
 use Rattle.cache_receive.proofs.LeaveLaws.{refused-by}
 use Rattle.cache_receive.specs.Receive.{byAnswer}
-use Rattle.interaction_answer.specs.Answered.{answeredIn}
+use Rattle.im_responses.specs.Answered.{answeredIn}
 use borrow.Author.Tests.{not-true, not-false}
 use mathlib.Core.Path.{sym, _∙_}
 use borrow.Author.Needs.{needs}

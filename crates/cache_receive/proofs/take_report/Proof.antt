@@ -1,7 +1,7 @@
 use Prim.Native.Nat.{ℕ}
 use Rattle.cache_receive.proofs.PartLaws.{part-bad, part-past, part-few, part-refused, part-taken, left-same, right-any}
 use Rattle.cache_receive.proofs.LeaveLaws.{mark-low, turn-low, refused-by, refused-still}
-use Rattle.cache_report.specs.Words.{fatesFrom}
+use Rattle.cache_report.specs.Words.{judgementsFrom}
 use Rattle.cache_state.specs.Words.{heldIn, stateWith}
 use Rattle.cache_state.proofs.StateLaws.{right-held, right-asked}
 use Rattle.cache_state.proofs.ReactLaws.{same-reaction}
@@ -42,7 +42,7 @@ same-length : tie.Need-same-length
 same-length c = search needs
 
 returns-3 : tie.Need-returns-3
-returns-3 c = let a = c .before .before .before .before .before .before .before .before .before .before .before .before .before .before .before .before .before .before .before .before .before .before .before .before .args in let p = c .before .before .before .before .before .before .before .before .before .before .before .before .before .before .before .before .before .before .before .before .before .before .before .before .pre in let k = left-same (a .payload .now) (heldIn (a .clusters .now) (a .keys .now) (a .versions .now) (a .kinds .now) (a .words .now) (a .order .now) (a .lengths .now) (a .t)) (a .page .now) (fatesFrom (a .payload .now) (c .before .before .before .before .before .before .before .before .before .before .before .before .before .before .before .before .before .before .before .report-kept .last .1 .0) (c .before .before .before .before .before .before .before .before .before .before .before .before .before .before .before .before .before .before .before .report-kept .result .blocks) 0) (c .before .before .before .before .before .take-blocks .ensures (eqb (a .t .primed) 1)) (c .before .if3 .taken) in
+returns-3 c = let a = c .before .before .before .before .before .before .before .before .before .before .before .before .before .before .before .before .before .before .before .before .before .before .before .before .args in let p = c .before .before .before .before .before .before .before .before .before .before .before .before .before .before .before .before .before .before .before .before .before .before .before .before .pre in let k = left-same (a .payload .now) (heldIn (a .clusters .now) (a .keys .now) (a .versions .now) (a .kinds .now) (a .words .now) (a .order .now) (a .lengths .now) (a .t)) (a .page .now) (judgementsFrom (a .payload .now) (c .before .before .before .before .before .before .before .before .before .before .before .before .before .before .before .before .before .before .before .report-kept .last .1 .0) (c .before .before .before .before .before .before .before .before .before .before .before .before .before .before .before .before .before .before .before .report-kept .result .blocks) 0) (c .before .before .before .before .before .take-blocks .ensures (eqb (a .t .primed) 1)) (c .before .if3 .taken) in
     same-reaction (part-refused (a .page .now) (stateWith (a .clusters .now) (a .keys .now) (a .versions .now) (a .kinds .now) (a .words .now) (a .order .now) (a .lengths .now) (a .t) (a .kept .now)) (a .payload .now) (replicate 306 0) (c .before .before .before .before .before .before .before .before .before .before .before .before .before .before .before .before .before .before .before .report-kept .ensures) (not-false _ (c .before .before .before .before .before .before .before .before .before .before .before .before .before .before .before .before .before .if1 .left)) (p .1 .1 .1 .1 .0) (omega (arith, length-replicate {A = ℕ} 306 0)) (sym (c .before .before .before .before .before .before .before .before .before .before .before .before .before .before .before .before .is-past-turns .ensures) ∙ c .before .before .before .before .before .before .before .before .before .before .before .before .before .before .before .if2 .left) (c .before .before .before .before .before .take-blocks .ensures (eqb (a .t .primed) 1)) (c .before .if3 .taken)) (refused-still (a .clusters .now) (a .keys .now) (a .versions .now) (a .kinds .now) (a .words .now) (a .order .now) (a .lengths .now) (k .0) (k .1) (p .0) (c .refuse3 .ensures))
 
 after-part-requires : tie.Need-after-part-requires

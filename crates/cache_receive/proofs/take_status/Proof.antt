@@ -1,7 +1,7 @@
 use Rattle.cache_receive.proofs.AnswerLaws.{code-none, code-some}
 use Rattle.cache_receive.proofs.LeaveLaws.{refused-by}
 use Rattle.cache_receive.specs.Receive.{byStatus}
-use Rattle.interaction.specs.Status.{responseIn}
+use Rattle.im_requests.specs.Status.{responseIn}
 use mathlib.Core.Path.{sym, _∙_}
 use borrow.Author.Needs.{needs}
 use Rattle.cache_receive.proofs.take_status.Statement.{statement}

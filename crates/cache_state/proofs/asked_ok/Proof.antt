@@ -1,4 +1,4 @@
-use Rattle.interaction_writer.specs.Envelope.{exchangeLimit}
+use Rattle.im_writer.specs.Envelope.{exchangeLimit}
 use Rattle.cache_state.specs.State.{askedRight}
 use borrow.Author.Tests.{lt-ltb, le-ltb, lt-leb, le-leb, not-true, not-false}
 use mathlib.Core.Path.{refl, sym, _∙_}

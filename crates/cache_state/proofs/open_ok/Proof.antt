@@ -3,8 +3,8 @@ use mathlib.Core.Bool.{true}
 use mathlib.Core.Logic.{⊎-elim}
 use lib.Dec.{eqb}
 use borrow.Author.Tests.{eq-eqb, ne-eqb}
-use Rattle.tlv.specs.Octet.{pick}
-use Rattle.exchange.specs.Rules.{firstReply}
+use Rattle.tlv_reader.specs.Octet.{pick}
+use Rattle.im_exchange.specs.Rules.{firstReply}
 use Rattle.cache_state.specs.State.{writing, openRight}
 use Rattle.cache_state.proofs.open_ok.Statement.{statement}
 use Rattle.cache_state.proofs.open_ok.Tie as tie

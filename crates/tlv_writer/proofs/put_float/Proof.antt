@@ -1,6 +1,6 @@
 use mathlib.Core.Path.{refl}
 use native.Mathlib.Omega.{arith}
-use Rattle.tlv.specs.Octet.{numberWidth}
+use Rattle.tlv_reader.specs.Octet.{numberWidth}
 use Rattle.tlv_writer.specs.Element.{floatOctets}
 use borrow.Author.Needs.{needs}
 use Rattle.tlv_writer.proofs.put_float.Statement.{statement}

@@ -1,5 +1,5 @@
 use native.Mathlib.Omega.{arith}
-use Rattle.octets.proofs.StoreLaws.{same-length as kept-length}
+use Rattle.base_octets.proofs.StoreLaws.{same-length as kept-length}
 use Rattle.tlv_writer.proofs.Octets.{length-start, length-head, numbered}
 use borrow.Author.Needs.{needs}
 use Rattle.tlv_writer.proofs.put_numbered.Statement.{statement}

@@ -2,7 +2,7 @@ use mathlib.Core.Path.{_≡_, sym, ap, _∙_}
 use native.Mathlib.Omega.{arith}
 use mir.Syntax.{w64}
 use mir.ValLaws.{toZ-ofZ}
-use Rattle.tlv.specs.Octet.{numberWidth}
+use Rattle.tlv_reader.specs.Octet.{numberWidth}
 use Rattle.tlv_writer.specs.Width.{leastSignedWidth, twos, widthCode}
 use Rattle.tlv_writer.specs.Element.{signedKind}
 use Rattle.tlv_writer.proofs.Widths.{code-width, signed-is-width}

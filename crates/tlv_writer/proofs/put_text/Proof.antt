@@ -2,8 +2,8 @@ use mathlib.Core.Path.{_≡_, sym}
 use Prim.Native.Nat.{_+_}
 use native.Mathlib.Omega.{arith}
 use lib.ListN.{length}
-use Rattle.octets.proofs.StoreLaws.{then, same-length as kept-length}
-use Rattle.tlv.specs.Octet.{numberWidth}
+use Rattle.base_octets.proofs.StoreLaws.{then, same-length as kept-length}
+use Rattle.tlv_reader.specs.Octet.{numberWidth}
 use Rattle.tlv_writer.specs.Element.{textOctets}
 use Rattle.tlv_writer.proofs.Widths.{code-width, unsigned-is-width}
 use Rattle.tlv_writer.proofs.Octets.{length-head, length-text}

@@ -1,7 +1,7 @@
 use mathlib.Core.Path.{_≡_, sym}
 use Prim.Native.Nat.{_+_}
 use native.Mathlib.Omega.{arith}
-use Rattle.tlv.specs.Octet.{numberWidth}
+use Rattle.tlv_reader.specs.Octet.{numberWidth}
 use Rattle.tlv_writer.specs.Element.{unsignedOctets}
 use Rattle.tlv_writer.proofs.Widths.{code-width, unsigned-is-width}
 use Rattle.tlv_writer.proofs.Octets.{length-head, length-unsigned}

@@ -5,7 +5,7 @@ use native.Mathlib.Nat.{add-sub-cancel-left}
 use mir.Syntax.{w64}
 use mir.Val.{toZ, ofZ}
 use mir.ValLaws.{toZ-ofZ}
-use Rattle.octets.specs.Store.{store}
+use Rattle.base_octets.specs.Store.{store}
 use native.Mathlib.Omega.{arith}
 use Rattle.tlv_writer.specs.Element.{datumOctets}
 use borrow.Author.Needs.{needs}

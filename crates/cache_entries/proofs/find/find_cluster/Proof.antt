@@ -8,7 +8,7 @@ use Rattle.cache_entries.proofs.find.find_cluster.Tie as tie
 use Rattle.cache_entries.proofs.find.find_cluster.Reads as reads
 use Rattle.cache_entries.proofs.find.find_cluster.Lts as lts
 use Rattle.cache_entries.proofs.find.cluster_order.Reads as cluster-order-reads
-use Rattle.ordered.proofs.find.Reads as find-reads
+use Rattle.cache_order.proofs.find.Reads as find-reads
 
 cluster-order-requires : tie.Need-cluster-order-requires
 cluster-order-requires c κs = search needs

@@ -3,8 +3,8 @@ use Prim.Native.Nat.{_-_, _≤_}
 use borrow.Author.Tests.{eq-eqb, ne-eqb}
 use lib.Dec.{eqb}
 use lib.ListN.{getD}
-use Rattle.schema.specs.Search.{first}
-use Rattle.schema.proofs.SearchLaws.{begin, hit, miss, done}
+use Rattle.node_schema.specs.Search.{first}
+use Rattle.node_schema.proofs.SearchLaws.{begin, hit, miss, done}
 use Rattle.cache_entries.specs.Texts.{orFirst}
 use borrow.Author.Needs.{needs}
 use Rattle.cache_entries.proofs.texts.free_place.Statement.{statement}

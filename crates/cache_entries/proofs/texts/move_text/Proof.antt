@@ -7,10 +7,10 @@ use native.Mathlib.Omega.{arith}
 use borrow.Author.Tests.{ltb-true, not-true, not-false}
 use lib.Dec.{eqb, ltb}
 use lib.ListN.{getD}
-use Rattle.schema.specs.Search.{first}
-use Rattle.schema.proofs.BoolLaws.{left, right}
-use Rattle.schema.proofs.SearchLaws.{first-same}
-use Rattle.tlv.specs.Octet.{pick}
+use Rattle.node_schema.specs.Search.{first}
+use Rattle.node_schema.proofs.BoolLaws.{left, right}
+use Rattle.node_schema.proofs.SearchLaws.{first-same}
+use Rattle.tlv_reader.specs.Octet.{pick}
 use Rattle.cache_entries.specs.Limits.{textPlaces}
 use Rattle.cache_entries.specs.Texts.{isText, placeUsed, freePlace, orFirst, placeGiven, Own}
 use Rattle.cache_entries.proofs.MoveLaws.{stays-none, becomes-text, becomes-none, stays-text}

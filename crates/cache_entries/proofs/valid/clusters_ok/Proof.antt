@@ -1,7 +1,7 @@
 use Rattle.cache_entries.proofs.ValidLaws.{below}
 use Rattle.cache_entries.specs.Valid.{clustersRight}
-use Rattle.schema.proofs.CheckLaws.{every-more, every-fails, every-done}
-use Rattle.schema.specs.Check.{every}
+use Rattle.node_schema.proofs.CheckLaws.{every-more, every-fails, every-done}
+use Rattle.node_schema.specs.Check.{every}
 use borrow.Author.Tests.{le-ltb, lt-ltb}
 use borrow.Author.Needs.{needs}
 use native.Mathlib.Omega.{arith}

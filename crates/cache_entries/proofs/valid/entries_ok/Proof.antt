@@ -3,8 +3,8 @@ use mathlib.Core.Bool.{Bool, true}
 use mathlib.Core.List.{List}
 use Prim.Native.Nat.{ℕ, _≤_, _-_}
 use borrow.Author.Tests.{not-true, not-false}
-use Rattle.schema.specs.Check.{every}
-use Rattle.schema.proofs.CheckLaws.{every-more, every-fails, every-done}
+use Rattle.node_schema.specs.Check.{every}
+use Rattle.node_schema.proofs.CheckLaws.{every-more, every-fails, every-done}
 use Rattle.cache_entries.specs.Entries.{heldOf}
 use Rattle.cache_entries.specs.Valid.{entryRightAt, entriesRight}
 use borrow.Author.Needs.{needs}

@@ -6,8 +6,8 @@ use Rattle.cache_entries.proofs.valid.form_of.Statement.{statement}
 use Rattle.cache_entries.proofs.valid.form_of.Tie as tie
 use Rattle.cache_entries.proofs.valid.form_of.Reads as reads
 use Rattle.cache_entries.proofs.valid.form_of.Lts as lts
-use Rattle.utf8.proofs.ascii.Reads as ascii-reads
-use Rattle.utf8.proofs.valid.Reads as valid-reads
+use Rattle.base_utf8.proofs.ascii.Reads as ascii-reads
+use Rattle.base_utf8.proofs.valid.Reads as valid-reads
 
 ascii-requires : tie.Need-ascii-requires
 ascii-requires c κs = search needs

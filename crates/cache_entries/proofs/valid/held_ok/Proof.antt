@@ -4,7 +4,7 @@ use Prim.Native.Nat.{ℕ}
 use native.Mathlib.Omega.{arith}
 use borrow.Author.Tests.{eq-eqb, ne-eqb, le-leb, lt-leb, not-true, not-false}
 use lib.ListN.{length, length-drop}
-use Rattle.ordered.specs.Order.{orderRight}
+use Rattle.cache_order.specs.Order.{orderRight}
 use Rattle.cache_entries.specs.Valid.{heldRight, textsRight}
 use borrow.Author.Needs.{needs}
 use Rattle.cache_entries.proofs.valid.held_ok.Statement.{statement}
@@ -15,7 +15,7 @@ use Rattle.cache_entries.proofs.find.cluster_order.Reads as cluster-ord
 use Rattle.cache_entries.proofs.valid.clusters_ok.Reads as clusters-ok-reads
 use Rattle.cache_entries.proofs.valid.entries_ok.Reads as entries-ok-reads
 use Rattle.cache_entries.proofs.valid.texts_ok.Reads as texts-ok-reads
-use Rattle.ordered.proofs.order_ok.Reads as order-ok-reads
+use Rattle.cache_order.proofs.order_ok.Reads as order-ok-reads
 
 returns : tie.Need-returns
 unfolding heldRight

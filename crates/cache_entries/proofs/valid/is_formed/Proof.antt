@@ -2,16 +2,16 @@ use mathlib.Core.Path.{_≡_, refl, sym, ap, _∙_}
 use Prim.Native.Nat.{ℕ, _+_, _-_}
 use native.Mathlib.Omega.{arith}
 use lib.ListN.{take, drop}
-use Rattle.utf8.specs.WellFormed.{wellFormed}
-use Rattle.utf8.proofs.Cuts.{cut-exactly}
+use Rattle.base_utf8.specs.WellFormed.{wellFormed}
+use Rattle.base_utf8.proofs.Cuts.{cut-exactly}
 use Rattle.cache_entries.proofs.FormLaws.{in-whole, form-whole, plain-part}
 use borrow.Author.Needs.{needs}
 use Rattle.cache_entries.proofs.valid.is_formed.Statement.{statement}
 use Rattle.cache_entries.proofs.valid.is_formed.Tie as tie
 use Rattle.cache_entries.proofs.valid.is_formed.Reads as reads
 use Rattle.cache_entries.proofs.valid.is_formed.Lts as lts
-use Rattle.utf8.proofs.is_cut_well.Reads as is-cut-well-reads
-use Rattle.utf8.proofs.valid.Reads as valid-reads
+use Rattle.base_utf8.proofs.is_cut_well.Reads as is-cut-well-reads
+use Rattle.base_utf8.proofs.valid.Reads as valid-reads
 
 add-end : tie.Need-add-end
 add-end c = omega (arith, c .before .before .pre .0, c .before .before .pre .1 .0)

@@ -3,7 +3,7 @@ use Prim.Native.Nat.{ℕ, _*_}
 use native.Mathlib.Omega.{arith}
 use borrow.Author.Tests.{le-leb, lt-leb}
 use lib.ListN.{take, drop}
-use Rattle.utf8.specs.WellFormed.{wellFormed}
+use Rattle.base_utf8.specs.WellFormed.{wellFormed}
 use Rattle.cache_entries.specs.Valid.{textRight}
 use borrow.Author.Needs.{needs}
 use Rattle.cache_entries.proofs.valid.text_ok.Statement.{statement}

@@ -6,8 +6,8 @@ use mathlib.Core.Bool.{true}
 use mathlib.Core.List.{List}
 use native.Mathlib.Omega.{arith}
 use borrow.Author.Tests.{eq-eqb, ne-eqb, le-ltb, lt-ltb, not-true, not-false}
-use Rattle.schema.specs.Check.{every}
-use Rattle.schema.proofs.CheckLaws.{every-more, every-fails, every-done}
+use Rattle.node_schema.specs.Check.{every}
+use Rattle.node_schema.proofs.CheckLaws.{every-more, every-fails, every-done}
 use Rattle.cache_entries.specs.Texts.{Marked}
 use Rattle.cache_entries.specs.Valid.{textRightAt}
 use Rattle.cache_entries.proofs.MarkLaws.{marked-none, marked-text, marked-other}

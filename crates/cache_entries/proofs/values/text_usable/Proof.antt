@@ -3,14 +3,14 @@ use Prim.Native.Nat.{ℕ, _+_, _-_}
 use native.Mathlib.Omega.{arith}
 use borrow.Author.Tests.{le-leb, lt-leb}
 use lib.ListN.{take, drop}
-use Rattle.utf8.specs.WellFormed.{wellFormed}
+use Rattle.base_utf8.specs.WellFormed.{wellFormed}
 use Rattle.cache_entries.specs.Values.{insideUsable}
 use borrow.Author.Needs.{needs}
 use Rattle.cache_entries.proofs.values.text_usable.Statement.{statement}
 use Rattle.cache_entries.proofs.values.text_usable.Tie as tie
 use Rattle.cache_entries.proofs.values.text_usable.Reads as reads
 use Rattle.cache_entries.proofs.values.text_usable.Lts as lts
-use Rattle.utf8.proofs.valid.Reads as valid-reads
+use Rattle.base_utf8.proofs.valid.Reads as valid-reads
 
 returns : tie.Need-returns
 unfolding insideUsable

@@ -1,15 +1,15 @@
 use Rattle.cache_messages.proofs.MessageLaws.{after-envelope}
 use Rattle.cache_messages.specs.Messages.{successMessage}
-use Rattle.interaction_writer.proofs.LengthLaws.{length-status-response}
-use Rattle.octets.proofs.StoreLaws.{then}
+use Rattle.im_writer.proofs.LengthLaws.{length-status-response}
+use Rattle.base_octets.proofs.StoreLaws.{then}
 use native.Mathlib.Omega.{arith}
 use borrow.Author.Needs.{needs}
 use Rattle.cache_messages.proofs.other.put_success.Statement.{statement}
 use Rattle.cache_messages.proofs.other.put_success.Tie as tie
 use Rattle.cache_messages.proofs.other.put_success.Reads as reads
 use Rattle.cache_messages.proofs.other.put_success.Lts as lts
-use Rattle.interaction_writer.proofs.envelope.put_envelope.Reads as put-envelope-reads
-use Rattle.interaction_writer.proofs.response.put_status_response.Reads as put-status-response-reads
+use Rattle.im_writer.proofs.envelope.put_envelope.Reads as put-envelope-reads
+use Rattle.im_writer.proofs.response.put_status_response.Reads as put-status-response-reads
 
 cast-put-envelope : tie.Need-cast-put-envelope
 cast-put-envelope c = search needs

@@ -1,16 +1,16 @@
 use Rattle.cache_messages.proofs.MessageLaws.{after-envelope}
 use Rattle.cache_messages.specs.Messages.{writeMessage}
-use Rattle.request_writer.proofs.RequestLaws.{write-bound}
-use Rattle.tlv.specs.Value.{datumIn}
-use Rattle.octets.proofs.StoreLaws.{then}
+use Rattle.im_request_writer.proofs.RequestLaws.{write-bound}
+use Rattle.tlv_reader.specs.Value.{datumIn}
+use Rattle.base_octets.proofs.StoreLaws.{then}
 use native.Mathlib.Omega.{arith}
 use borrow.Author.Needs.{needs}
 use Rattle.cache_messages.proofs.other.put_write.Statement.{statement}
 use Rattle.cache_messages.proofs.other.put_write.Tie as tie
 use Rattle.cache_messages.proofs.other.put_write.Reads as reads
 use Rattle.cache_messages.proofs.other.put_write.Lts as lts
-use Rattle.interaction_writer.proofs.envelope.put_envelope.Reads as put-envelope-reads
-use Rattle.request_writer.proofs.write.put_write_request.Reads as put-write-request-reads
+use Rattle.im_writer.proofs.envelope.put_envelope.Reads as put-envelope-reads
+use Rattle.im_request_writer.proofs.write.put_write_request.Reads as put-write-request-reads
 
 cast-put-envelope : tie.Need-cast-put-envelope
 cast-put-envelope c = search needs

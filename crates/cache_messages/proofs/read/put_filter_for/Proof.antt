@@ -1,9 +1,9 @@
-use Rattle.request_writer.specs.Request.{filterTree}
-use Rattle.interaction_writer.specs.Spelling.{spelling}
+use Rattle.im_request_writer.specs.Request.{filterTree}
+use Rattle.im_writer.specs.Spelling.{spelling}
 use lib.ListN.{length}
 use Prim.Native.Nat.{_/_, _%_, _^_, _<_, _≤_}
 use Rattle.cache_messages.proofs.FilterLaws.{coherent-is, coherent-not, filter-written, filter-left-out}
-use Rattle.request_writer.proofs.FilterLaws.{filter-bound}
+use Rattle.im_request_writer.proofs.FilterLaws.{filter-bound}
 use Rattle.cache_entries.specs.Coherent.{sharedIn}
 use native.Mathlib.Omega.{arith}
 use mathlib.Core.Path.{sym, _∙_}
@@ -13,7 +13,7 @@ use Rattle.cache_messages.proofs.read.put_filter_for.Tie as tie
 use Rattle.cache_messages.proofs.read.put_filter_for.Reads as reads
 use Rattle.cache_messages.proofs.read.put_filter_for.Lts as lts
 use Rattle.cache_entries.proofs.shared.shared_in.Reads as shared-in-reads
-use Rattle.request_writer.proofs.read.put_filter.Reads as put-filter-reads
+use Rattle.im_request_writer.proofs.read.put_filter.Reads as put-filter-reads
 
 -- a filter has at most 21 octets
 short : (c : tie.After-known-told) → length (spelling (filterTree (c .before .before .before .before .before .args .word / 4294967296 % 65536) (c .before .before .before .before .before .args .word % 4294967296) (c .before .version .given .0 .0))) ≤ 21

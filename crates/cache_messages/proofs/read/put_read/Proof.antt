@@ -1,8 +1,8 @@
 use mathlib.Core.List.{[]}
 use mathlib.Core.Bool.{true, false}
 use Rattle.cache_messages.proofs.MessageLaws.{after-envelope, read-unfiltered, read-filtered}
-use Rattle.request_writer.proofs.RequestLaws.{length-read-opening, length-filters-opening, length-read-closing}
-use Rattle.octets.proofs.StoreLaws as Stores
+use Rattle.im_request_writer.proofs.RequestLaws.{length-read-opening, length-filters-opening, length-read-closing}
+use Rattle.base_octets.proofs.StoreLaws as Stores
 use native.Mathlib.Omega.{arith}
 use borrow.Author.Needs.{needs}
 use Rattle.cache_messages.proofs.read.put_read.Statement.{statement}
@@ -10,10 +10,10 @@ use Rattle.cache_messages.proofs.read.put_read.Tie as tie
 use Rattle.cache_messages.proofs.read.put_read.Reads as reads
 use Rattle.cache_messages.proofs.read.put_read.Lts as lts
 use Rattle.cache_messages.proofs.read.put_filters.Reads as put-filters-reads
-use Rattle.interaction_writer.proofs.envelope.put_envelope.Reads as put-envelope-reads
-use Rattle.request_writer.proofs.read.put_filters_open.Reads as put-filters-open-reads
-use Rattle.request_writer.proofs.read.put_read_close.Reads as put-read-close-reads
-use Rattle.request_writer.proofs.read.put_read_open.Reads as put-read-open-reads
+use Rattle.im_writer.proofs.envelope.put_envelope.Reads as put-envelope-reads
+use Rattle.im_request_writer.proofs.read.put_filters_open.Reads as put-filters-open-reads
+use Rattle.im_request_writer.proofs.read.put_read_close.Reads as put-read-close-reads
+use Rattle.im_request_writer.proofs.read.put_read_open.Reads as put-read-open-reads
 
 cast-put-envelope : tie.Need-cast-put-envelope
 cast-put-envelope c = search needs

@@ -1,8 +1,8 @@
 use Prim.Native.Nat.{_-_, _≤_, _<_}
 use native.Mathlib.Omega.{arith}
 use lib.ListN.{getD}
-use Rattle.octets.proofs.StoreLaws as Stores
-use Rattle.ordered.proofs.OrderLaws.{places-at}
+use Rattle.base_octets.proofs.StoreLaws as Stores
+use Rattle.cache_order.proofs.OrderLaws.{places-at}
 use Rattle.cache_messages.proofs.FilterLaws.{Written, filters-begin, filters-done, filters-more}
 use borrow.Author.Needs.{needs}
 use Rattle.cache_messages.proofs.read.put_rising.Statement.{statement}

@@ -1,11 +1,11 @@
 use mathlib.Core.Path.{_≡_, refl, sym, ap, _∙_}
 use mathlib.Core.List.{List}
 use Prim.Native.Nat.{ℕ, _-_, _≤_}
-use Rattle.interaction_report.specs.Kept.{blockWord}
-use Rattle.cache_report.specs.declared.block.Fate.{Fate}
+use Rattle.im_responses.specs.Kept.{blockWord}
+use Rattle.cache_report.specs.declared.block.Judgement.{Judgement}
 use Rattle.cache_report.specs.Entry.{worse}
-use Rattle.cache_report.specs.Words.{fateWords, fateAt, fatesFrom, alone, aloneAll}
-use Rattle.cache_report.proofs.FateLaws.{Mild, mild-none, mild-room, first-word, rest, rest-all, rest-next, rest-none, along-starts, along-six, along-seven, along-same}
+use Rattle.cache_report.specs.Words.{judgementWords, judgementAt, judgementsFrom, alone, aloneAll}
+use Rattle.cache_report.proofs.JudgementLaws.{Mild, mild-none, mild-room, first-word, rest, rest-all, rest-next, rest-none, along-starts, along-six, along-seven, along-same}
 use borrow.Author.Needs.{needs}
 use Rattle.cache_report.proofs.block.judge_alone.Statement.{statement}
 use Rattle.cache_report.proofs.block.judge_alone.Tie as tie
@@ -14,7 +14,7 @@ use Rattle.cache_report.proofs.block.judge_alone.Lts as lts
 use Rattle.cache_report.proofs.block.alone.Reads as alone-reads
 
 abbrev Inv-loop : tie.InvT-loop
-Inv-loop s blocks n number₀ j₀ number j = (j ≤ n) × (Mild number × (aloneAll (fatesFrom s blocks n 0) ≡ worse number (aloneAll (rest s blocks n j))))
+Inv-loop s blocks n number₀ j₀ number j = (j ≤ n) × (Mild number × (aloneAll (judgementsFrom s blocks n 0) ≡ worse number (aloneAll (rest s blocks n j))))
 
 abbrev μ-loop : tie.MeasureT-loop
 μ-loop s blocks n number₀ j₀ number j = n - j
@@ -47,7 +47,7 @@ alone-requires : tie.Need-alone-requires Inv-loop μ-loop
 alone-requires c κs = search needs
 
 returns : tie.Need-returns Inv-loop μ-loop
-returns c = let a = c .before .before .before .before .before .before .before .args in let l = c .before .before .before .before .before .loop in let q = blockWord (a .blocks .now) (l .j) in let one : alone (fateAt (a .s .now) (a .blocks .now) (l .j)) ≡ c .before .alone .result = ap (λ (w : ℕ). alone (fateWords (a .s .now) w (q 1) (q 2))) (sym (first-word (a .blocks .now) (l .j))) ∙ sym (c .before .alone .ensures (q 1)) in let so = l .inv .1 .1 ∙ ap (λ (r : List Fate). worse (l .number) (aloneAll r)) (rest-next (a .s .now) (a .blocks .now) (a .n) (l .j) (c .before .before .before .before .loop-test .taken)) in along-six _ (l .number) _ _ so (one ∙ c .if1 .taken)
+returns c = let a = c .before .before .before .before .before .before .before .args in let l = c .before .before .before .before .before .loop in let q = blockWord (a .blocks .now) (l .j) in let one : alone (judgementAt (a .s .now) (a .blocks .now) (l .j)) ≡ c .before .alone .result = ap (λ (w : ℕ). alone (judgementWords (a .s .now) w (q 1) (q 2))) (sym (first-word (a .blocks .now) (l .j))) ∙ sym (c .before .alone .ensures (q 1)) in let so = l .inv .1 .1 ∙ ap (λ (r : List Judgement). worse (l .number) (aloneAll r)) (rest-next (a .s .now) (a .blocks .now) (a .n) (l .j) (c .before .before .before .before .loop-test .taken)) in along-six _ (l .number) _ _ so (one ∙ c .if1 .taken)
 
 add-j : tie.Need-add-j Inv-loop μ-loop
 add-j c = search needs
@@ -56,7 +56,7 @@ loop-less : tie.Need-loop-less Inv-loop μ-loop
 loop-less c = search needs
 
 loop-again : tie.Need-loop-again Inv-loop μ-loop
-loop-again c = let a = c .before .before .before .before .before .before .before .before .args in let l = c .before .before .before .before .before .before .loop in let q = blockWord (a .blocks .now) (l .j) in let one : alone (fateAt (a .s .now) (a .blocks .now) (l .j)) ≡ c .before .before .alone .result = ap (λ (w : ℕ). alone (fateWords (a .s .now) w (q 1) (q 2))) (sym (first-word (a .blocks .now) (l .j))) ∙ sym (c .before .before .alone .ensures (q 1)) in let so = l .inv .1 .1 ∙ ap (λ (r : List Fate). worse (l .number) (aloneAll r)) (rest-next (a .s .now) (a .blocks .now) (a .n) (l .j) (c .before .before .before .before .before .loop-test .taken)) in (search needs, (mild-room, along-seven _ (l .number) _ _ so (l .inv .1 .0) (one ∙ c .if2 .taken)))
+loop-again c = let a = c .before .before .before .before .before .before .before .before .args in let l = c .before .before .before .before .before .before .loop in let q = blockWord (a .blocks .now) (l .j) in let one : alone (judgementAt (a .s .now) (a .blocks .now) (l .j)) ≡ c .before .before .alone .result = ap (λ (w : ℕ). alone (judgementWords (a .s .now) w (q 1) (q 2))) (sym (first-word (a .blocks .now) (l .j))) ∙ sym (c .before .before .alone .ensures (q 1)) in let so = l .inv .1 .1 ∙ ap (λ (r : List Judgement). worse (l .number) (aloneAll r)) (rest-next (a .s .now) (a .blocks .now) (a .n) (l .j) (c .before .before .before .before .before .loop-test .taken)) in (search needs, (mild-room, along-seven _ (l .number) _ _ so (l .inv .1 .0) (one ∙ c .if2 .taken)))
 
 add-j-2 : tie.Need-add-j-2 Inv-loop μ-loop
 add-j-2 c = search needs
@@ -65,11 +65,11 @@ loop-less-2 : tie.Need-loop-less-2 Inv-loop μ-loop
 loop-less-2 c = search needs
 
 loop-again-2 : tie.Need-loop-again-2 Inv-loop μ-loop
-loop-again-2 c = let a = c .before .before .before .before .before .before .before .before .args in let l = c .before .before .before .before .before .before .loop in let q = blockWord (a .blocks .now) (l .j) in let one : alone (fateAt (a .s .now) (a .blocks .now) (l .j)) ≡ c .before .before .alone .result = ap (λ (w : ℕ). alone (fateWords (a .s .now) w (q 1) (q 2))) (sym (first-word (a .blocks .now) (l .j))) ∙ sym (c .before .before .alone .ensures (q 1)) in let so = l .inv .1 .1 ∙ ap (λ (r : List Fate). worse (l .number) (aloneAll r)) (rest-next (a .s .now) (a .blocks .now) (a .n) (l .j) (c .before .before .before .before .before .loop-test .taken)) in (search needs, (l .inv .1 .0, along-same _ (l .number) _ _ so (l .inv .1 .0) (λ e. c .before .if1 .left (sym one ∙ e)) (λ e. c .if2 .left (sym one ∙ e))))
+loop-again-2 c = let a = c .before .before .before .before .before .before .before .before .args in let l = c .before .before .before .before .before .before .loop in let q = blockWord (a .blocks .now) (l .j) in let one : alone (judgementAt (a .s .now) (a .blocks .now) (l .j)) ≡ c .before .before .alone .result = ap (λ (w : ℕ). alone (judgementWords (a .s .now) w (q 1) (q 2))) (sym (first-word (a .blocks .now) (l .j))) ∙ sym (c .before .before .alone .ensures (q 1)) in let so = l .inv .1 .1 ∙ ap (λ (r : List Judgement). worse (l .number) (aloneAll r)) (rest-next (a .s .now) (a .blocks .now) (a .n) (l .j) (c .before .before .before .before .before .loop-test .taken)) in (search needs, (l .inv .1 .0, along-same _ (l .number) _ _ so (l .inv .1 .0) (λ e. c .before .if1 .left (sym one ∙ e)) (λ e. c .if2 .left (sym one ∙ e))))
 
 returns-2 : tie.Need-returns-2 Inv-loop μ-loop
 unfolding aloneAll
-returns-2 c = let a = c .before .before .before .args in let l = c .before .loop in sym (l .inv .1 .1 ∙ ap (λ (r : List Fate). worse (l .number) (aloneAll r)) (rest-none (a .s .now) (a .blocks .now) (a .n) (l .j) (c .loop-test .left)) ∙ l .inv .1 .0 .same)
+returns-2 c = let a = c .before .before .before .args in let l = c .before .loop in sym (l .inv .1 .1 ∙ ap (λ (r : List Judgement). worse (l .number) (aloneAll r)) (rest-none (a .s .now) (a .blocks .now) (a .n) (l .j) (c .loop-test .left)) ∙ l .inv .1 .0 .same)
 
 pub judge-alone-spec : {M : Type 1} → statement M
 judge-alone-spec =

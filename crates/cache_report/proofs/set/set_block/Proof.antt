@@ -1,6 +1,6 @@
 use mathlib.Core.List.{List}
 use Prim.Native.Nat.{ℕ}
-use Rattle.ordered.specs.Order.{orderRight}
+use Rattle.cache_order.specs.Order.{orderRight}
 use mathlib.Core.Path.{refl, ap, _∙_}
 use mathlib.Core.Bool.{Bool, false}
 use native.Mathlib.Omega.{arith}

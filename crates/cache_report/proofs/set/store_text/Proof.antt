@@ -4,14 +4,14 @@ use Rattle.cache_report.proofs.ItemLaws.{not-stored, text-kind}
 use Prim.Native.Nat.{ℕ, _+_, _-_, _*_}
 use native.Mathlib.Omega.{arith}
 use lib.ListN.{take, drop}
-use Rattle.octets.specs.Store.{store}
+use Rattle.base_octets.specs.Store.{store}
 use Rattle.cache_entries.proofs.ValueLaws.{text-inside, text-short}
 use borrow.Author.Needs.{needs}
 use Rattle.cache_report.proofs.set.store_text.Statement.{statement}
 use Rattle.cache_report.proofs.set.store_text.Tie as tie
 use Rattle.cache_report.proofs.set.store_text.Reads as reads
 use Rattle.cache_report.proofs.set.store_text.Lts as lts
-use Rattle.octets.proofs.put_bytes.Reads as put-bytes-reads
+use Rattle.base_octets.proofs.put_bytes.Reads as put-bytes-reads
 
 enum-known-v : tie.Need-enum-known-v
 enum-known-v c = search needs

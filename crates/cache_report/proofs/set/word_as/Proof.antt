@@ -9,7 +9,7 @@ use Rattle.cache_report.proofs.set.word_as.Tie as tie
 use Rattle.cache_report.proofs.set.word_as.Reads as reads
 use Rattle.cache_report.proofs.set.word_as.Lts as lts
 use Rattle.cache_report.proofs.set.kind_of.Reads as kind-of-reads
-use Rattle.kinds.proofs.stored.word_of.Reads as word-of-reads
+use Rattle.node_kinds.proofs.stored.word_of.Reads as word-of-reads
 
 kind-of-requires : tie.Need-kind-of-requires
 kind-of-requires c κs = search needs

@@ -2,10 +2,10 @@ use mathlib.Core.Path.{_≡_, sym, ap, subst, _∙_}
 use Prim.Native.Nat.{_+_, _-_, _≤_, _<_}
 use native.Mathlib.Omega.{arith}
 use lib.ListN.{length}
-use Rattle.interaction_writer.specs.Envelope.{exchangeLimit}
-use Rattle.cache_state.specs.declared.Standing.{Standing}
+use Rattle.im_writer.specs.Envelope.{exchangeLimit}
+use Rattle.cache_state.specs.declared.CacheStanding.{CacheStanding}
 use Rattle.cache_state.specs.Words.{heldIn, stateWith, stateIn}
-use Rattle.interaction_writer.specs.Envelope.{panelEdition}
+use Rattle.im_writer.specs.Envelope.{cacheEdition}
 use Rattle.cache_messages.specs.Filters.{Bounded, filtersOf}
 use Rattle.cache_messages.specs.Messages.{readMessage}
 use Rattle.cache_state.specs.Begin.{asking, beginsRead, unready}
@@ -18,18 +18,18 @@ use Rattle.cache_state.proofs.begin.begin_read.Tie as tie
 
 -- what was tested is the state that is lent
 tested : (c : tie.After-cannot-begin) → let a = c .before .before .before .before .before .before .args in c .cannot-begin .result ≡ unready (a .asked .now) (a .page .now) (stateIn (a .clusters .now) (a .keys .now) (a .versions .now) (a .kinds .now) (a .words .now) (a .order .now) (a .lengths .now) (a .asked .now) (a .kept .now)) (length (a .out .now))
-tested c = let a = c .before .before .before .before .before .before .args in c .cannot-begin .ensures (a .kept .now) ∙ ap (λ (t : Standing). unready (a .asked .now) (a .page .now) (stateWith (a .clusters .now) (a .keys .now) (a .versions .now) (a .kinds .now) (a .words .now) (a .order .now) (a .lengths .now) t (a .kept .now)) (length (a .out .now))) (c .before .before .read-standing .ensures .0)
+tested c = let a = c .before .before .before .before .before .before .args in c .cannot-begin .ensures (a .kept .now) ∙ ap (λ (t : CacheStanding). unready (a .asked .now) (a .page .now) (stateWith (a .clusters .now) (a .keys .now) (a .versions .now) (a .kinds .now) (a .words .now) (a .order .now) (a .lengths .now) t (a .kept .now)) (length (a .out .now))) (c .before .before .read-standing .ensures .0)
 
 -- a request can be begun
 ready : (c : tie.Else1) → let a = c .before .before .before .before .before .before .before .args in Ready (a .asked .now) (a .page .now) (stateIn (a .clusters .now) (a .keys .now) (a .versions .now) (a .kinds .now) (a .words .now) (a .order .now) (a .lengths .now) (a .asked .now) (a .kept .now)) (length (a .out .now))
 ready c = let a = c .before .before .before .before .before .before .before .args in is-ready (a .asked .now) (a .page .now) (stateIn (a .clusters .now) (a .keys .now) (a .versions .now) (a .kinds .now) (a .words .now) (a .order .now) (a .lengths .now) (a .asked .now) (a .kept .now)) (length (a .out .now)) (sym (tested (c .before)) ∙ c .if1 .left)
 
 used-here : (c : tie.Else1) → c .before .before .before .read-standing .result .used < exchangeLimit - 1
-used-here c = subst (λ (t : Standing). t .used < exchangeLimit - 1) (sym (c .before .before .before .read-standing .ensures .0)) (ready c .used)
+used-here c = subst (λ (t : CacheStanding). t .used < exchangeLimit - 1) (sym (c .before .before .before .read-standing .ensures .0)) (ready c .used)
 
 -- the message that is meant, and that it has room
-message-is : (c : tie.After-read-standing) → let a = c .before .before .before .before .args in let t = c .read-standing .result in readMessage panelEdition (t .used + 1) (filtersOf (heldIn (a .clusters .now) (a .keys .now) (a .versions .now) (a .kinds .now) (a .words .now) (a .order .now) (a .lengths .now) t)) ≡ readMessage panelEdition ((stateIn (a .clusters .now) (a .keys .now) (a .versions .now) (a .kinds .now) (a .words .now) (a .order .now) (a .lengths .now) (a .asked .now) (a .kept .now)) .asked .used + 1) (filtersOf ((stateIn (a .clusters .now) (a .keys .now) (a .versions .now) (a .kinds .now) (a .words .now) (a .order .now) (a .lengths .now) (a .asked .now) (a .kept .now)) .held))
-message-is c = let a = c .before .before .before .before .args in ap (λ (t : Standing). readMessage panelEdition (t .used + 1) (filtersOf (heldIn (a .clusters .now) (a .keys .now) (a .versions .now) (a .kinds .now) (a .words .now) (a .order .now) (a .lengths .now) t))) (c .read-standing .ensures .0)
+message-is : (c : tie.After-read-standing) → let a = c .before .before .before .before .args in let t = c .read-standing .result in readMessage cacheEdition (t .used + 1) (filtersOf (heldIn (a .clusters .now) (a .keys .now) (a .versions .now) (a .kinds .now) (a .words .now) (a .order .now) (a .lengths .now) t)) ≡ readMessage cacheEdition ((stateIn (a .clusters .now) (a .keys .now) (a .versions .now) (a .kinds .now) (a .words .now) (a .order .now) (a .lengths .now) (a .asked .now) (a .kept .now)) .asked .used + 1) (filtersOf ((stateIn (a .clusters .now) (a .keys .now) (a .versions .now) (a .kinds .now) (a .words .now) (a .order .now) (a .lengths .now) (a .asked .now) (a .kept .now)) .held))
+message-is c = let a = c .before .before .before .before .args in ap (λ (t : CacheStanding). readMessage cacheEdition (t .used + 1) (filtersOf (heldIn (a .clusters .now) (a .keys .now) (a .versions .now) (a .kinds .now) (a .words .now) (a .order .now) (a .lengths .now) t))) (c .read-standing .ensures .0)
 
 room-here : (c : tie.After-put-read) → c .put-read .result ≤ length (c .before .before .before .before .before .before .before .before .before .before .before .args .out .now)
 room-here c = omega (arith, c .put-read .ensures .1, ready (c .before .before .before .before) .large)
@@ -51,7 +51,7 @@ add-put-read : tie.Need-add-put-read
 add-put-read c = omega (arith, used-here (c .before .before .before))
 
 put-read-requires : tie.Need-put-read-requires
-put-read-requires c κs = let a = c .before .before .before .before .before .before .before .before .before .before .args in let r = ready (c .before .before .before) in (subst (λ (t : Standing). Bounded (a .clusters .now) (a .keys .now) (a .versions .now) (a .order .now) (t .«cluster_count») (t .count)) (sym (c .before .before .before .before .before .before .read-standing .ensures .0)) (right-bounded (a .page .now) (stateIn (a .clusters .now) (a .keys .now) (a .versions .now) (a .kinds .now) (a .words .now) (a .order .now) (a .lengths .now) (a .asked .now) (a .kept .now)) (r .panel)), (omega arith, (omega (arith, used-here (c .before .before .before)), r .large)))
+put-read-requires c κs = let a = c .before .before .before .before .before .before .before .before .before .before .args in let r = ready (c .before .before .before) in (subst (λ (t : CacheStanding). Bounded (a .clusters .now) (a .keys .now) (a .versions .now) (a .order .now) (t .«cluster_count») (t .count)) (sym (c .before .before .before .before .before .before .read-standing .ensures .0)) (right-bounded (a .page .now) (stateIn (a .clusters .now) (a .keys .now) (a .versions .now) (a .kinds .now) (a .words .now) (a .order .now) (a .lengths .now) (a .asked .now) (a .kept .now)) (r .cache)), (omega arith, (omega (arith, used-here (c .before .before .before)), r .large)))
 
 sub-ask : tie.Need-sub-ask
 sub-ask c = search needs

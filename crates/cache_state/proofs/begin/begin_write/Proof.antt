@@ -4,11 +4,11 @@ use Prim.Native.Nat.{_+_, _-_, _≤_, _<_}
 use native.Mathlib.Omega.{arith}
 use lib.ListN.{length}
 use borrow.Author.Tests.{not-true, not-false}
-use Rattle.interaction_writer.specs.Envelope.{exchangeLimit}
-use Rattle.cache_state.specs.declared.Standing.{Standing}
+use Rattle.im_writer.specs.Envelope.{exchangeLimit}
+use Rattle.cache_state.specs.declared.CacheStanding.{CacheStanding}
 use Rattle.cache_state.specs.Words.{stateWith, stateIn}
-use Rattle.tlv.specs.Value.{datumIn}
-use Rattle.interaction_writer.specs.Envelope.{panelEdition}
+use Rattle.tlv_reader.specs.Value.{datumIn}
+use Rattle.im_writer.specs.Envelope.{cacheEdition}
 use Rattle.cache_messages.specs.Messages.{writeMessage}
 use Rattle.cache_state.specs.Begin.{asking, sendable, beginsWrite, unready}
 use Rattle.cache_state.proofs.BeginLaws.{sendable-fits, Ready, not-ready, is-ready, ready-as}
@@ -19,22 +19,22 @@ use Rattle.cache_state.proofs.begin.begin_write.Tie as tie
 
 -- what was tested is the state that is lent
 tested : (c : tie.After-cannot-begin) → let a = c .before .before .before .before .before .before .before .args in c .cannot-begin .result ≡ unready (a .asked .now) (a .page .now) (stateIn (a .clusters .now) (a .keys .now) (a .versions .now) (a .kinds .now) (a .words .now) (a .order .now) (a .lengths .now) (a .asked .now) (a .kept .now)) (length (a .out .now))
-tested c = let a = c .before .before .before .before .before .before .before .args in c .cannot-begin .ensures (a .kept .now) ∙ ap (λ (t : Standing). unready (a .asked .now) (a .page .now) (stateWith (a .clusters .now) (a .keys .now) (a .versions .now) (a .kinds .now) (a .words .now) (a .order .now) (a .lengths .now) t (a .kept .now)) (length (a .out .now))) (c .before .before .read-standing .ensures .0)
+tested c = let a = c .before .before .before .before .before .before .before .args in c .cannot-begin .ensures (a .kept .now) ∙ ap (λ (t : CacheStanding). unready (a .asked .now) (a .page .now) (stateWith (a .clusters .now) (a .keys .now) (a .versions .now) (a .kinds .now) (a .words .now) (a .order .now) (a .lengths .now) t (a .kept .now)) (length (a .out .now))) (c .before .before .read-standing .ensures .0)
 
 -- a request can be begun
 ready : (c : tie.Else1) → let a = c .before .before .before .before .before .before .before .before .args in Ready (a .asked .now) (a .page .now) (stateIn (a .clusters .now) (a .keys .now) (a .versions .now) (a .kinds .now) (a .words .now) (a .order .now) (a .lengths .now) (a .asked .now) (a .kept .now)) (length (a .out .now))
 ready c = let a = c .before .before .before .before .before .before .before .before .args in is-ready (a .asked .now) (a .page .now) (stateIn (a .clusters .now) (a .keys .now) (a .versions .now) (a .kinds .now) (a .words .now) (a .order .now) (a .lengths .now) (a .asked .now) (a .kept .now)) (length (a .out .now)) (sym (tested (c .before)) ∙ c .if1 .left)
 
 used-here : (c : tie.Else1) → c .before .before .before .read-standing .result .used < exchangeLimit - 1
-used-here c = subst (λ (t : Standing). t .used < exchangeLimit - 1) (sym (c .before .before .before .read-standing .ensures .0)) (ready c .used)
+used-here c = subst (λ (t : CacheStanding). t .used < exchangeLimit - 1) (sym (c .before .before .before .read-standing .ensures .0)) (ready c .used)
 
 -- the value can be written
 value-here : (c : tie.Else2) → let a = c .before .before .before .before .before .before .before .before .before .before .args in sendable (a .src .now) (a .new) ≡ true
 value-here c = sym (c .before .can-write .ensures) ∙ not-false _ (c .if2 .left)
 
 -- the message that is meant, and that it has room
-message-is : (c : tie.After-read-standing) → let a = c .before .before .before .before .before .args in writeMessage panelEdition (c .read-standing .result .used + 1) (a .given) (a .version) (a .endpoint) (a .cluster) (a .attribute) (datumIn (a .src .now) (a .new)) ≡ writeMessage panelEdition ((stateIn (a .clusters .now) (a .keys .now) (a .versions .now) (a .kinds .now) (a .words .now) (a .order .now) (a .lengths .now) (a .asked .now) (a .kept .now)) .asked .used + 1) (a .given) (a .version) (a .endpoint) (a .cluster) (a .attribute) (datumIn (a .src .now) (a .new))
-message-is c = let a = c .before .before .before .before .before .args in ap (λ (t : Standing). writeMessage panelEdition (t .used + 1) (a .given) (a .version) (a .endpoint) (a .cluster) (a .attribute) (datumIn (a .src .now) (a .new))) (c .read-standing .ensures .0)
+message-is : (c : tie.After-read-standing) → let a = c .before .before .before .before .before .args in writeMessage cacheEdition (c .read-standing .result .used + 1) (a .given) (a .version) (a .endpoint) (a .cluster) (a .attribute) (datumIn (a .src .now) (a .new)) ≡ writeMessage cacheEdition ((stateIn (a .clusters .now) (a .keys .now) (a .versions .now) (a .kinds .now) (a .words .now) (a .order .now) (a .lengths .now) (a .asked .now) (a .kept .now)) .asked .used + 1) (a .given) (a .version) (a .endpoint) (a .cluster) (a .attribute) (datumIn (a .src .now) (a .new))
+message-is c = let a = c .before .before .before .before .before .args in ap (λ (t : CacheStanding). writeMessage cacheEdition (t .used + 1) (a .given) (a .version) (a .endpoint) (a .cluster) (a .attribute) (datumIn (a .src .now) (a .new))) (c .read-standing .ensures .0)
 
 room-here : (c : tie.After-put-write) → c .put-write .result ≤ length (c .before .before .before .before .before .before .before .before .before .before .before .before .before .args .out .now)
 room-here c = omega (arith, c .put-write .ensures .1, ready (c .before .before .before .before .before) .large)

@@ -2,7 +2,7 @@ use mathlib.Core.Path.{_≡_, ap, _∙_}
 use Prim.Native.Nat.{ℕ, _-_}
 use native.Mathlib.Omega.{arith}
 use lib.ListN.{take}
-use Rattle.octets.specs.Store.{store}
+use Rattle.base_octets.specs.Store.{store}
 use borrow.Author.Needs.{needs}
 use Rattle.cache_state.proofs.begin.put_kept.Statement.{statement}
 use Rattle.cache_state.proofs.begin.put_kept.Tie as tie

@@ -1,6 +1,6 @@
 use native.Mathlib.Numerals.{unary-clauses}
 use mathlib.Core.Path.{refl}
-use Rattle.octets.specs.Store.{store}
+use Rattle.base_octets.specs.Store.{store}
 use Rattle.cache_state.specs.Words.{standingWords}
 use borrow.Author.Needs.{needs}
 use Rattle.cache_state.proofs.words.put_standing.Statement.{statement}

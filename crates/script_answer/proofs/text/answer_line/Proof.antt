@@ -1,6 +1,6 @@
 use borrow.Author.Needs.{needs}
 use native.Mathlib.Omega.{arith}
-use Rattle.octets.proofs.StoreLaws.{then, same-length as stays}
+use Rattle.base_octets.proofs.StoreLaws.{then, same-length as stays}
 use Rattle.script_answer.proofs.TextLaws.{length-decimal, length-hex}
 use Rattle.script_answer.proofs.text.answer_line.Statement.{statement}
 use Rattle.script_answer.proofs.text.answer_line.Tie as tie

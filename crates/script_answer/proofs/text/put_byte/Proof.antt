@@ -1,5 +1,5 @@
 use borrow.Author.Needs.{needs}
-use Rattle.octets.proofs.StoreLaws.{then}
+use Rattle.base_octets.proofs.StoreLaws.{then}
 use Rattle.script_answer.proofs.text.put_byte.Statement.{statement}
 use Rattle.script_answer.proofs.text.put_byte.Tie as tie
 

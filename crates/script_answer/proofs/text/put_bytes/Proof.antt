@@ -5,8 +5,8 @@ use native.Mathlib.Numerals.{add-one}
 use native.Mathlib.Omega.{arith}
 use lib.ListN.{length, take}
 use lib.Seq.{length-take-le, take-all}
-use Rattle.octets.specs.Store.{store, Stored}
-use Rattle.octets.proofs.StoreLaws.{then, same-length as stays}
+use Rattle.base_octets.specs.Store.{store, Stored}
+use Rattle.base_octets.proofs.StoreLaws.{then, same-length as stays}
 use Rattle.script_answer.specs.Text.{hexText}
 use Rattle.script_answer.proofs.TextLaws.{length-hex, hex-more}
 use Rattle.script_answer.proofs.text.put_bytes.Statement.{statement}

@@ -1,6 +1,6 @@
 use borrow.Author.Needs.{needs}
 use borrow.Author.Tests.{lt-ltb, le-ltb}
-use Rattle.octets.proofs.StoreLaws.{then}
+use Rattle.base_octets.proofs.StoreLaws.{then}
 use Rattle.script_answer.specs.Text.{decimalText}
 use Rattle.script_answer.proofs.text.put_decimal.Statement.{statement}
 use Rattle.script_answer.proofs.text.put_decimal.Tie as tie

@@ -1,6 +1,6 @@
 use borrow.Author.Needs.{needs}
 use Prim.Native.Nat.{_-_}
-use Rattle.schema.specs.Layout.{wordCount}
+use Rattle.node_schema.specs.Layout.{wordCount}
 use Rattle.script_setup.proofs.plan.set_words.Statement.{statement}
 use Rattle.script_setup.proofs.plan.set_words.Tie as tie
 

@@ -1,10 +1,10 @@
 use mathlib.Core.Path.{_≡_, refl, sym}
 use borrow.Author.Needs.{needs}
-use Rattle.writes.specs.Offer.{heldOf}
-use Rattle.replies.specs.Sign.{stateWith, signWith}
-use Rattle.replies.specs.Row.{rowIn}
-use Rattle.replies.specs.Begin.{readBegun}
-use Rattle.server.specs.State.{signIn}
+use Rattle.server_writes.specs.Offer.{heldOf}
+use Rattle.server_replies.specs.Server.{stateWith, serverWith}
+use Rattle.server_replies.specs.Row.{rowIn}
+use Rattle.server_replies.specs.Begin.{readBegun}
+use Rattle.server.specs.State.{serverIn}
 use Rattle.server.proofs.ReactLaws.{begins-as, wrote-as, silence-as}
 use Rattle.server.proofs.ReceiveLaws.{right-schema, right-size}
 use Rattle.server.proofs.receive.begin.Statement.{statement}
@@ -14,7 +14,7 @@ enum-told : tie.Need-enum-told
 enum-told c = search needs
 
 begin-read-requires : tie.Need-begin-read-requires
-begin-read-requires c κs = let a = c .before .before .before .before .before .before .before .before .before .before .before .before .before .before .args in let p = c .before .before .before .before .before .before .before .before .before .before .before .before .before .before .pre in (right-schema (signIn (a .w .now) (a .defaults .now) (heldOf (a .words .now) (a .nulls .now) (a .texts .now) (a .versions .now) (a .edits .now)) (a .row .now) (a .kept .now)) (p .1 .0), (p .1 .1 .0, p .1 .1 .1))
+begin-read-requires c κs = let a = c .before .before .before .before .before .before .before .before .before .before .before .before .before .before .args in let p = c .before .before .before .before .before .before .before .before .before .before .before .before .before .before .pre in (right-schema (serverIn (a .w .now) (a .defaults .now) (heldOf (a .words .now) (a .nulls .now) (a .texts .now) (a .versions .now) (a .edits .now)) (a .row .now) (a .kept .now)) (p .1 .0), (p .1 .1 .0, p .1 .1 .1))
 
 put-standing-requires : tie.Need-put-standing-requires
 put-standing-requires c κs = search needs
@@ -30,13 +30,13 @@ same-length-2 c = search needs
 
 returns : tie.Need-returns
 returns c = let a = c .before .before .before .before .before .before .before .before .before .before .before .before .before .before .before .before .before .before .before .before .args in
-    rw (c .before .before .before .before .before .before .before .before .before .before .before .before .before .before .enum-told .given .1, sym (c .before .before .before .before .before .before .before .before .before .before .before .before .before .before .before .before .before .before .before .before .pre .0)) (begins-as (stateWith (heldOf (a .words .now) (a .nulls .now) (a .texts .now) (a .versions .now) (a .edits .now)) (readBegun (signWith (a .w .now) (a .defaults .now) (heldOf (a .words .now) (a .nulls .now) (a .texts .now) (a .versions .now) (a .edits .now)) (rowIn (a .row .now) (a .t) (a .kept .now))) (a .g) (a .e .exchange) (a .payload .now))) (c .before .before .before .before .before .begin-read .ensures) (c .answer .ensures) refl (c .before .put-standing .ensures))
+    rw (c .before .before .before .before .before .before .before .before .before .before .before .before .before .before .enum-told .given .1, sym (c .before .before .before .before .before .before .before .before .before .before .before .before .before .before .before .before .before .before .before .before .pre .0)) (begins-as (stateWith (heldOf (a .words .now) (a .nulls .now) (a .texts .now) (a .versions .now) (a .edits .now)) (readBegun (serverWith (a .w .now) (a .defaults .now) (heldOf (a .words .now) (a .nulls .now) (a .texts .now) (a .versions .now) (a .edits .now)) (rowIn (a .row .now) (a .t) (a .kept .now))) (a .g) (a .e .exchange) (a .payload .now))) (c .before .before .before .before .before .begin-read .ensures) (c .answer .ensures) refl (c .before .put-standing .ensures))
 
 enum-told-2 : tie.Need-enum-told-2
 enum-told-2 c = search needs
 
 begin-write-requires : tie.Need-begin-write-requires
-begin-write-requires c κs = let a = c .before .before .before .before .before .before .before .before .before .before .before .before .before .args in let p = c .before .before .before .before .before .before .before .before .before .before .before .before .before .pre in (right-schema (signIn (a .w .now) (a .defaults .now) (heldOf (a .words .now) (a .nulls .now) (a .texts .now) (a .versions .now) (a .edits .now)) (a .row .now) (a .kept .now)) (p .1 .0), (right-size (signIn (a .w .now) (a .defaults .now) (heldOf (a .words .now) (a .nulls .now) (a .texts .now) (a .versions .now) (a .edits .now)) (a .row .now) (a .kept .now)) (p .1 .0), (p .1 .1 .0, p .1 .1 .1)))
+begin-write-requires c κs = let a = c .before .before .before .before .before .before .before .before .before .before .before .before .before .args in let p = c .before .before .before .before .before .before .before .before .before .before .before .before .before .pre in (right-schema (serverIn (a .w .now) (a .defaults .now) (heldOf (a .words .now) (a .nulls .now) (a .texts .now) (a .versions .now) (a .edits .now)) (a .row .now) (a .kept .now)) (p .1 .0), (right-size (serverIn (a .w .now) (a .defaults .now) (heldOf (a .words .now) (a .nulls .now) (a .texts .now) (a .versions .now) (a .edits .now)) (a .row .now) (a .kept .now)) (p .1 .0), (p .1 .1 .0, p .1 .1 .1)))
 
 put-standing-requires-2 : tie.Need-put-standing-requires-2
 put-standing-requires-2 c κs = search needs

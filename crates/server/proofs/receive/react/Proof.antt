@@ -1,13 +1,13 @@
 use mathlib.Core.Path.{_≡_, refl, sym, ap, _∙_}
 use Prim.Native.Nat.{_≤_}
 use lib.ListN.{take}
-use Rattle.octets.specs.Store.{store}
-use Rattle.writes.specs.Offer.{heldOf}
-use Rattle.replies.specs.declared.Standing.{Standing}
-use Rattle.replies.specs.Messages.{maxMessage}
-use Rattle.replies.specs.Sign.{stateWith, signWith}
-use Rattle.replies.specs.Row.{rowIn, rowOf, nextPart}
-use Rattle.server.specs.State.{signIn}
+use Rattle.base_octets.specs.Store.{store}
+use Rattle.server_writes.specs.Offer.{heldOf}
+use Rattle.server_replies.specs.declared.RowStanding.{RowStanding}
+use Rattle.server_replies.specs.Messages.{maxMessage}
+use Rattle.server_replies.specs.Server.{stateWith, serverWith}
+use Rattle.server_replies.specs.Row.{rowIn, rowOf, nextPart}
+use Rattle.server.specs.State.{serverIn}
 use Rattle.server.specs.Receive.{closing, outcomeWith, reacted}
 use Rattle.server.proofs.ReactLaws.{silence-as, repeat-as, begins-as, closed-as, len-of}
 use Rattle.server.proofs.ReceiveLaws.{right-schema, right-row-of}
@@ -15,9 +15,9 @@ use borrow.Author.Needs.{needs}
 use Rattle.server.proofs.receive.react.Statement.{statement}
 use Rattle.server.proofs.receive.react.Tie as tie
 
--- the kept reply of a right sign is a message
+-- the kept reply of a right server is a message
 len-here : (c : tie.Start) → c .args .t .len ≤ maxMessage
-len-here c = let a = c .args in rw (c .pre .0) (len-of (rowOf (a .row .now) (a .kept .now)) (right-row-of (signIn (a .w .now) (a .defaults .now) (heldOf (a .words .now) (a .nulls .now) (a .texts .now) (a .versions .now) (a .edits .now)) (a .row .now) (a .kept .now)) (c .pre .1 .0)))
+len-here c = let a = c .args in rw (c .pre .0) (len-of (rowOf (a .row .now) (a .kept .now)) (right-row-of (serverIn (a .w .now) (a .defaults .now) (heldOf (a .words .now) (a .nulls .now) (a .texts .now) (a .versions .now) (a .edits .now)) (a .row .now) (a .kept .now)) (c .pre .1 .0)))
 
 enum-told : tie.Need-enum-told
 enum-told c = search needs
@@ -44,7 +44,7 @@ enum-told-4 : tie.Need-enum-told-4
 enum-told-4 c = search needs
 
 next-part-requires : tie.Need-next-part-requires
-next-part-requires c κs = let a = c .before .before .before .before .before .before .before .before .before .before .before .before .before .before .args in let p = c .before .before .before .before .before .before .before .before .before .before .before .before .before .before .pre in (right-schema (signIn (a .w .now) (a .defaults .now) (heldOf (a .words .now) (a .nulls .now) (a .texts .now) (a .versions .now) (a .edits .now)) (a .row .now) (a .kept .now)) (p .1 .0), (rw (p .0) (right-row-of (signIn (a .w .now) (a .defaults .now) (heldOf (a .words .now) (a .nulls .now) (a .texts .now) (a .versions .now) (a .edits .now)) (a .row .now) (a .kept .now)) (p .1 .0)), (p .1 .1 .1 .0 (c .before .before .before .before .before .before .before .before .enum-told4 .given .1), p .1 .1 .1 .1)))
+next-part-requires c κs = let a = c .before .before .before .before .before .before .before .before .before .before .before .before .before .before .args in let p = c .before .before .before .before .before .before .before .before .before .before .before .before .before .before .pre in (right-schema (serverIn (a .w .now) (a .defaults .now) (heldOf (a .words .now) (a .nulls .now) (a .texts .now) (a .versions .now) (a .edits .now)) (a .row .now) (a .kept .now)) (p .1 .0), (rw (p .0) (right-row-of (serverIn (a .w .now) (a .defaults .now) (heldOf (a .words .now) (a .nulls .now) (a .texts .now) (a .versions .now) (a .edits .now)) (a .row .now) (a .kept .now)) (p .1 .0)), (p .1 .1 .1 .0 (c .before .before .before .before .before .before .before .before .enum-told4 .given .1), p .1 .1 .1 .1)))
 
 put-standing-requires : tie.Need-put-standing-requires
 put-standing-requires c κs = search needs
@@ -83,7 +83,7 @@ same-length-3 c = search needs
 
 returns-3 : tie.Need-returns-3
 unfolding reacted
-returns-3 c = let a = c .before .before .before .before .before .before .before .before .before .before .before .before .args in let p = c .before .before .before .before .before .before .before .before .before .before .before .before .pre in rw (c .before .before .before .before .before .before .enum-told3 .given .1) (repeat-as (heldOf (a .words .now) (a .nulls .now) (a .texts .now) (a .versions .now) (a .edits .now)) (a .row .now) (a .kept .now) (c .before .before .before .resend .ensures .1) (len-of (rowOf (a .row .now) (a .kept .now)) (right-row-of (signIn (a .w .now) (a .defaults .now) (heldOf (a .words .now) (a .nulls .now) (a .texts .now) (a .versions .now) (a .edits .now)) (a .row .now) (a .kept .now)) (p .1 .0))) (c .answer2 .ensures ∙ ap (λ (u : Standing). outcomeWith (u .len)) (p .0)) (c .before .before .before .resend .ensures .0 ∙ ap (λ (u : Standing). store (a .out .now) 0 (take (u .len) (a .kept .now))) (p .0)))
+returns-3 c = let a = c .before .before .before .before .before .before .before .before .before .before .before .before .args in let p = c .before .before .before .before .before .before .before .before .before .before .before .before .pre in rw (c .before .before .before .before .before .before .enum-told3 .given .1) (repeat-as (heldOf (a .words .now) (a .nulls .now) (a .texts .now) (a .versions .now) (a .edits .now)) (a .row .now) (a .kept .now) (c .before .before .before .resend .ensures .1) (len-of (rowOf (a .row .now) (a .kept .now)) (right-row-of (serverIn (a .w .now) (a .defaults .now) (heldOf (a .words .now) (a .nulls .now) (a .texts .now) (a .versions .now) (a .edits .now)) (a .row .now) (a .kept .now)) (p .1 .0))) (c .answer2 .ensures ∙ ap (λ (u : RowStanding). outcomeWith (u .len)) (p .0)) (c .before .before .before .resend .ensures .0 ∙ ap (λ (u : RowStanding). store (a .out .now) 0 (take (u .len) (a .kept .now))) (p .0)))
 
 same-length-4 : tie.Need-same-length-4
 same-length-4 c = search needs
@@ -93,11 +93,11 @@ same-length-5 c = search needs
 
 returns-4 : tie.Need-returns-4
 unfolding reacted
-returns-4 c = let a = c .before .before .before .before .before .before .before .before .before .before .before .before .before .before .before .before .before .before .before .before .args in rw (c .before .before .before .before .before .before .before .before .before .before .before .before .before .before .enum-told4 .given .1, sym (c .before .before .before .before .before .before .before .before .before .before .before .before .before .before .before .before .before .before .before .before .pre .0)) (begins-as (stateWith (heldOf (a .words .now) (a .nulls .now) (a .texts .now) (a .versions .now) (a .edits .now)) (nextPart (signWith (a .w .now) (a .defaults .now) (heldOf (a .words .now) (a .nulls .now) (a .texts .now) (a .versions .now) (a .edits .now)) (rowIn (a .row .now) (a .t) (a .kept .now))) (a .g))) (c .before .before .before .before .before .next-part .ensures) (c .answer3 .ensures) refl (c .before .put-standing .ensures))
+returns-4 c = let a = c .before .before .before .before .before .before .before .before .before .before .before .before .before .before .before .before .before .before .before .before .args in rw (c .before .before .before .before .before .before .before .before .before .before .before .before .before .before .enum-told4 .given .1, sym (c .before .before .before .before .before .before .before .before .before .before .before .before .before .before .before .before .before .before .before .before .pre .0)) (begins-as (stateWith (heldOf (a .words .now) (a .nulls .now) (a .texts .now) (a .versions .now) (a .edits .now)) (nextPart (serverWith (a .w .now) (a .defaults .now) (heldOf (a .words .now) (a .nulls .now) (a .texts .now) (a .versions .now) (a .edits .now)) (rowIn (a .row .now) (a .t) (a .kept .now))) (a .g))) (c .before .before .before .before .before .next-part .ensures) (c .answer3 .ensures) refl (c .before .put-standing .ensures))
 
 returns-5 : tie.Need-returns-5
 unfolding reacted
-returns-5 c = let a = c .before .before .before .before .before .before .before .before .before .before .args in rw (c .before .before .before .before .enum-told5 .given .1) (closed-as (heldOf (a .words .now) (a .nulls .now) (a .texts .now) (a .versions .now) (a .edits .now)) (a .row .now) (a .kept .now) (c .before .before .closed .ensures (a .row .now) (a .kept .now) ∙ ap (λ (u : Standing). closing (rowIn (a .row .now) u (a .kept .now))) (c .before .before .before .before .before .before .before .before .before .before .pre .0)) (c .answer4 .ensures) (c .before .put-standing2 .ensures) refl)
+returns-5 c = let a = c .before .before .before .before .before .before .before .before .before .before .args in rw (c .before .before .before .before .enum-told5 .given .1) (closed-as (heldOf (a .words .now) (a .nulls .now) (a .texts .now) (a .versions .now) (a .edits .now)) (a .row .now) (a .kept .now) (c .before .before .closed .ensures (a .row .now) (a .kept .now) ∙ ap (λ (u : RowStanding). closing (rowIn (a .row .now) u (a .kept .now))) (c .before .before .before .before .before .before .before .before .before .before .pre .0)) (c .answer4 .ensures) (c .before .put-standing2 .ensures) refl)
 
 pub react-spec : {M : Type 1} → statement M
 react-spec =

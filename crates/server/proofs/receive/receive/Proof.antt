@@ -43,25 +43,25 @@ use denote.Triple.Entry.{Vals, alive, onEntry}
 use denote.Triple.Spec.{Meets, tripleOf}
 use denote.Triple.Table.{entered, cited}
 use denote.Triple.Walked.{says, Stays, stay-dropped, gave-ref, gave-slice, walkOf, goes-dropped, goes-gave-ref, goes-gave-slice, Walks, ends-at, walked, walk-meets}
-use Rattle.acl.specs.Access.{tableOk, grantsOf}
-use Rattle.acl.specs.Table.{searched}
-use Rattle.acl.specs.declared.Entry.{Entry}
-use Rattle.acl.specs.declared.Grants.{Grants}
-use Rattle.acl.specs.declared.table.Access.{Access}
-use Rattle.acl.proofs.AccessWalk.{Words, val, Fine, fine, value}
-use Rattle.acl.proofs.SearchLaws.{whole-right, whole-grants}
-use Rattle.acl.proofs.Entry as T
-use Rattle.acl.proofs.Grants as G
-use Rattle.acl.proofs.Grants.Laws as G′
-use Rattle.acl.proofs.table.Access as X
-use Rattle.acl.proofs.table.Access.Laws as X′
-use Rattle.acl.proofs.table.search as search
-use Rattle.acl.proofs.table.search.Symbol as search-def
-use Rattle.acl.proofs.table.search.Symbol.{name as #search}
-use Rattle.acl.proofs.table.search.Met as search-thm
-use Rattle.writes.specs.Offer.{heldOf}
-use Rattle.server.specs.State.{signIn}
-use Rattle.server.specs.Receive.{received, Reacted}
+use Rattle.node_access.specs.Access.{tableOk, grantsOf}
+use Rattle.node_access.specs.Table.{searched}
+use Rattle.node_access.specs.declared.AccessEntry.{AccessEntry}
+use Rattle.node_access.specs.declared.Grants.{Grants}
+use Rattle.node_access.specs.declared.table.Access.{Access}
+use Rattle.node_access.proofs.AccessWalk.{Words, val, Fine, fine, value}
+use Rattle.node_access.proofs.SearchLaws.{whole-right, whole-grants}
+use Rattle.node_access.proofs.AccessEntry as T
+use Rattle.node_access.proofs.Grants as G
+use Rattle.node_access.proofs.Grants.Laws as G′
+use Rattle.node_access.proofs.table.Access as X
+use Rattle.node_access.proofs.table.Access.Laws as X′
+use Rattle.node_access.proofs.table.search as search
+use Rattle.node_access.proofs.table.search.Symbol as search-def
+use Rattle.node_access.proofs.table.search.Symbol.{name as #search}
+use Rattle.node_access.proofs.table.search.Met as search-thm
+use Rattle.server_writes.specs.Offer.{heldOf}
+use Rattle.server.specs.State.{serverIn}
+use Rattle.server.specs.Receive.{received, ServerReacted}
 use Rattle.server.specs.declared.Outcome.{Outcome}
 use Rattle.server.proofs.Outcome as N
 use Rattle.server.proofs.Outcome.Laws as N′
@@ -129,10 +129,10 @@ module _ {M : Type 1} (𝓤 : URA M) (H : Heap 𝓤) (A : Atoms 𝓤) (mem : Mem
 
 -- v, n, f, c: the values' words, nulls, marks of texts and versions. x: the row's words. k: the kept reply
 module _ {M : Type 1} (𝓤 : URA M) (H : Heap 𝓤) (A : Atoms 𝓤) (W : Given 𝓤 H A) (mem : Memory → SProp 𝓤) (run : Routine → Fun 𝓤) (κ₀ κ₁ κ₂ κ₃ κ₄ κ₅ κ₆ κ₇ κ₈ κ₉ : Lft) (q₀ q₁ q₂ q₃ q₄ q₅ q₆ q₇ q₈ q₉ : Share)
-    (w d e v : RefT (List ℕ)) (n : RefT (List Bool)) (f c x k : RefT (List ℕ)) (t : RefT (List Entry)) (s : ℕ) (m o : RefT (List ℕ))
+    (w d e v : RefT (List ℕ)) (n : RefT (List Bool)) (f c x k : RefT (List ℕ)) (t : RefT (List AccessEntry)) (s : ℕ) (m o : RefT (List ℕ))
     (gd : Room u8 (length (d .now))) (ge : Room u8 (length (e .now))) (gt : Room R (length (t .now))) (gs : s < 2 ^ 64) (gm : Room u8 (length (m .now))) (go : Room u8 (length (o .now))) where
   abbrev Args : Type 0
-  Args = RefT (List ℕ) × (RefT (List ℕ) × (RefT (List ℕ) × (RefT (List ℕ) × (RefT (List Bool) × (RefT (List ℕ) × (RefT (List ℕ) × (RefT (List ℕ) × (RefT (List ℕ) × (RefT (List Entry) × (ℕ × (RefT (List ℕ) × (RefT (List ℕ) × Unit {0}))))))))))))
+  Args = RefT (List ℕ) × (RefT (List ℕ) × (RefT (List ℕ) × (RefT (List ℕ) × (RefT (List Bool) × (RefT (List ℕ) × (RefT (List ℕ) × (RefT (List ℕ) × (RefT (List ℕ) × (RefT (List AccessEntry) × (ℕ × (RefT (List ℕ) × (RefT (List ℕ) × Unit {0}))))))))))))
 
   abbrev a : Args
   a = (w, (d, (e, (v, (n, (f, (c, (x, (k, (t, (s, (m, (o, tt)))))))))))))
@@ -190,7 +190,7 @@ module _ {M : Type 1} (𝓤 : URA M) (H : Heap 𝓤) (A : Atoms 𝓤) (W : Given
 
   -- what `search` is passed
   abbrev Asked : Type 0
-  Asked = RefT (List Entry) × (ℕ × (ℕ × (RefT (List ℕ) × Unit {0})))
+  Asked = RefT (List AccessEntry) × (ℕ × (ℕ × (RefT (List ℕ) × Unit {0})))
 
   abbrev asking : Asked
   asking = (t, (length (t .now), (s, (w, tt))))
@@ -246,7 +246,7 @@ module _ {M : Type 1} (𝓤 : URA M) (H : Heap 𝓤) (A : Atoms 𝓤) (W : Given
   Last = Lasts serve.ended κs′ passing
 
   abbrev Said : Outcome → Last → Type 0
-  Said r zs = Reacted (received (signIn (w .now) (d .now) (heldOf (v .now) (n .now) (f .now) (c .now) (e .now)) (x .now) (k .now)) (record { subject = s; grants = grantsOf (t .now) s (w .now); table = tableOk (t .now) }) (m .now) (length (o .now)))
+  Said r zs = ServerReacted (received (serverIn (w .now) (d .now) (heldOf (v .now) (n .now) (f .now) (c .now) (e .now)) (x .now) (k .now)) (record { subject = s; grants = grantsOf (t .now) s (w .now); table = tableOk (t .now) }) (m .now) (length (o .now)))
       r (heldOf (zs .1 .1 .1 .0) (zs .1 .1 .1 .1 .0) (zs .1 .1 .1 .1 .1 .0) (zs .1 .1 .1 .1 .1 .1 .0) (zs .1 .1 .0)) (x .now) (zs .1 .1 .1 .1 .1 .1 .1 .0) (zs .1 .1 .1 .1 .1 .1 .1 .1 .0) (o .now) (zs .1 .1 .1 .1 .1 .1 .1 .1 .1 .1 .1 .1 .1 .0)
 
   exits : (r : Outcome) (u : Val) (zs : Last) → Said r zs → ent 𝓤 (⋆ 𝓤 H A (‵ (N.the-row .own r (u ∷ [])) ∷ tokens ∷ ‵ (lasts serve.ended κs′ passing zs) ∷ ‵ (flft κ₈ q₈) ∷ [])) (Post u)
@@ -352,5 +352,5 @@ receive-spec 𝓤 H 𝓜 𝓖 𝓡 =
     entered 𝓤 H (tripleOf 𝓤 H (𝓖 .A) receive.signature (receive.spec 𝓤 H (𝓖 .A) (𝓜 .mem) (𝓡 .run)))
     (tables 𝓤 H 𝓜 𝓡 code.env .C) (tables 𝓤 H 𝓜 𝓡 code.env .Λ) #receive code.function (code.unfolded 𝓤 H 𝓜 𝓡)
     (receive-meets 𝓤 H (𝓖 .A) (givenOf 𝓤 H 𝓜 𝓖) (𝓜 .mem) (𝓡 .run) (tablesOf 𝓤 H 𝓜 (tables 𝓤 H 𝓜 𝓡 code.env))
-    (cited 𝓤 H (Search 𝓤 H (𝓖 .A) (𝓜 .mem) (𝓡 .run)) 𝓜 𝓡 code.env #search search-def.routine code.calls-acl·table·search (search-thm.met 𝓤 H 𝓜 𝓖 𝓡))
+    (cited 𝓤 H (Search 𝓤 H (𝓖 .A) (𝓜 .mem) (𝓡 .run)) 𝓜 𝓡 code.env #search search-def.routine code.calls-node-access·table·search (search-thm.met 𝓤 H 𝓜 𝓖 𝓡))
     (cited 𝓤 H (Serve 𝓤 H (𝓖 .A) (𝓜 .mem) (𝓡 .run)) 𝓜 𝓡 code.env #serve serve-def.routine code.calls-server·receive·serve (serve-thm.met 𝓤 H 𝓜 𝓖 𝓡)))

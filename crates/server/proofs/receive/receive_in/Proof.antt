@@ -1,5 +1,5 @@
 use mathlib.Core.Path.{sym, ap}
-use Rattle.acl.specs.declared.table.Access.{Access}
+use Rattle.node_access.specs.declared.table.Access.{Access}
 use borrow.Author.Needs.{needs}
 use Rattle.server.proofs.receive.receive_in.Statement.{statement}
 use Rattle.server.proofs.receive.receive_in.Tie as tie

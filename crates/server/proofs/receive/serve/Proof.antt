@@ -5,13 +5,13 @@ use native.Mathlib.Omega.{arith}
 use borrow.Author.Tests.{not-true, not-false}
 use Prim.Native.Nat.{_-_}
 use lib.ListN.{length, take, drop}
-use Rattle.envelope.specs.Envelope.{envelopeIn, envelopeLength}
-use Rattle.envelope.specs.declared.Envelope.the-variants.{Whole}
-use Rattle.writes.specs.Offer.{heldOf}
-use Rattle.replies.specs.declared.Standing.{Standing}
-use Rattle.replies.specs.Sign.{signWith}
-use Rattle.replies.specs.Row.{rowIn}
-use Rattle.server.specs.State.{signRight, signIn}
+use Rattle.im_envelope.specs.Envelope.{envelopeIn, envelopeLength}
+use Rattle.im_envelope.specs.declared.Envelope.the-variants.{Whole}
+use Rattle.server_writes.specs.Offer.{heldOf}
+use Rattle.server_replies.specs.declared.RowStanding.{RowStanding}
+use Rattle.server_replies.specs.Server.{serverWith}
+use Rattle.server_replies.specs.Row.{rowIn}
+use Rattle.server.specs.State.{serverRight, serverIn}
 use Rattle.server.specs.Receive.{stepOf}
 use Rattle.server.proofs.StepLaws.{next-turn}
 use Rattle.server.proofs.ReactLaws.{silence-as, refused-as}
@@ -20,15 +20,15 @@ use borrow.Author.Needs.{needs}
 use Rattle.server.proofs.receive.serve.Statement.{statement}
 use Rattle.server.proofs.receive.serve.Tie as tie
 
--- what was tested is the sign's state
-tested : (c : tie.After-sign-ok) → let a = c .before .before .before .before .before .before .before .before .before .before .before .args in c .sign-ok .result ≡ signRight (signIn (a .w .now) (a .defaults .now) (heldOf (a .words .now) (a .nulls .now) (a .texts .now) (a .versions .now) (a .edits .now)) (a .row .now) (a .kept .now))
+-- what was tested is the server's state
+tested : (c : tie.After-server-ok) → let a = c .before .before .before .before .before .before .before .before .before .before .before .args in c .server-ok .result ≡ serverRight (serverIn (a .w .now) (a .defaults .now) (heldOf (a .words .now) (a .nulls .now) (a .texts .now) (a .versions .now) (a .edits .now)) (a .row .now) (a .kept .now))
 tested c =
     let a = c .before .before .before .before .before .before .before .before .before .before .before .args in
-    c .sign-ok .ensures (a .versions .now) (a .row .now) (a .kept .now)
-    ∙ ap (λ (u : Standing). signRight (signWith (a .w .now) (a .defaults .now) (heldOf (a .words .now) (a .nulls .now) (a .texts .now) (a .versions .now) (a .edits .now)) (rowIn (a .row .now) u (a .kept .now)))) (c .before .before .before .before .before .read-standing .ensures)
+    c .server-ok .ensures (a .versions .now) (a .row .now) (a .kept .now)
+    ∙ ap (λ (u : RowStanding). serverRight (serverWith (a .w .now) (a .defaults .now) (heldOf (a .words .now) (a .nulls .now) (a .texts .now) (a .versions .now) (a .edits .now)) (rowIn (a .row .now) u (a .kept .now)))) (c .before .before .before .before .before .read-standing .ensures)
 
--- the sign is right
-right-here : (c : tie.Else1) → let a = c .before .before .before .before .before .before .before .before .before .before .before .before .args in signRight (signIn (a .w .now) (a .defaults .now) (heldOf (a .words .now) (a .nulls .now) (a .texts .now) (a .versions .now) (a .edits .now)) (a .row .now) (a .kept .now)) ≡ true
+-- the server is right
+right-here : (c : tie.Else1) → let a = c .before .before .before .before .before .before .before .before .before .before .before .before .args in serverRight (serverIn (a .w .now) (a .defaults .now) (heldOf (a .words .now) (a .nulls .now) (a .texts .now) (a .versions .now) (a .edits .now)) (a .row .now) (a .kept .now)) ≡ true
 right-here c = sym (tested (c .before)) ∙ not-false _ (c .if1 .left)
 
 -- the envelope that was found
@@ -38,8 +38,8 @@ found-here c = sym (c .before .before .envelope-of .ensures) ∙ c .e .given .1
 read-standing-requires : tie.Need-read-standing-requires
 read-standing-requires c κs = search needs
 
-sign-ok-requires : tie.Need-sign-ok-requires
-sign-ok-requires c κs = search needs
+server-ok-requires : tie.Need-server-ok-requires
+server-ok-requires c κs = search needs
 
 refuse-requires : tie.Need-refuse-requires
 refuse-requires c κs = search needs
@@ -48,7 +48,7 @@ same-length : tie.Need-same-length
 same-length c = search needs
 
 returns : tie.Need-returns
-returns c = let a = c .before .before .before .before .before .before .before .before .before .before .before .before .before .args in rw (broken (signIn (a .w .now) (a .defaults .now) (heldOf (a .words .now) (a .nulls .now) (a .texts .now) (a .versions .now) (a .edits .now)) (a .row .now) (a .kept .now)) (record { subject = a .subject; grants = a .g; table = a .table }) (a .message .now) (length (a .out .now)) (sym (tested (c .before .before)) ∙ not-true _ (c .before .if1 .taken))) (refused-as (heldOf (a .words .now) (a .nulls .now) (a .texts .now) (a .versions .now) (a .edits .now)) (a .row .now) (a .kept .now) 2 (c .refuse .ensures) refl)
+returns c = let a = c .before .before .before .before .before .before .before .before .before .before .before .before .before .args in rw (broken (serverIn (a .w .now) (a .defaults .now) (heldOf (a .words .now) (a .nulls .now) (a .texts .now) (a .versions .now) (a .edits .now)) (a .row .now) (a .kept .now)) (record { subject = a .subject; grants = a .g; table = a .table }) (a .message .now) (length (a .out .now)) (sym (tested (c .before .before)) ∙ not-true _ (c .before .if1 .taken))) (refused-as (heldOf (a .words .now) (a .nulls .now) (a .texts .now) (a .versions .now) (a .edits .now)) (a .row .now) (a .kept .now) 2 (c .refuse .ensures) refl)
 
 refuse-requires-2 : tie.Need-refuse-requires-2
 refuse-requires-2 c κs = search needs
@@ -57,7 +57,7 @@ same-length-2 : tie.Need-same-length-2
 same-length-2 c = search needs
 
 returns-2 : tie.Need-returns-2
-returns-2 c = let a = c .before .before .before .before .before .before .before .before .before .before .before .before .before .before .args in rw (bad-table (signIn (a .w .now) (a .defaults .now) (heldOf (a .words .now) (a .nulls .now) (a .texts .now) (a .versions .now) (a .edits .now)) (a .row .now) (a .kept .now)) (record { subject = a .subject; grants = a .g; table = a .table }) (a .message .now) (length (a .out .now)) (right-here (c .before .before)) (not-true _ (c .before .if2 .taken))) (refused-as (heldOf (a .words .now) (a .nulls .now) (a .texts .now) (a .versions .now) (a .edits .now)) (a .row .now) (a .kept .now) 2 (c .refuse2 .ensures) refl)
+returns-2 c = let a = c .before .before .before .before .before .before .before .before .before .before .before .before .before .before .args in rw (bad-table (serverIn (a .w .now) (a .defaults .now) (heldOf (a .words .now) (a .nulls .now) (a .texts .now) (a .versions .now) (a .edits .now)) (a .row .now) (a .kept .now)) (record { subject = a .subject; grants = a .g; table = a .table }) (a .message .now) (length (a .out .now)) (right-here (c .before .before)) (not-true _ (c .before .if2 .taken))) (refused-as (heldOf (a .words .now) (a .nulls .now) (a .texts .now) (a .versions .now) (a .edits .now)) (a .row .now) (a .kept .now) 2 (c .refuse2 .ensures) refl)
 
 refuse-requires-3 : tie.Need-refuse-requires-3
 refuse-requires-3 c κs = search needs
@@ -66,7 +66,7 @@ same-length-3 : tie.Need-same-length-3
 same-length-3 c = search needs
 
 returns-3 : tie.Need-returns-3
-returns-3 c = let a = c .before .before .before .before .before .before .before .before .before .before .before .before .before .before .before .args in rw (small (signIn (a .w .now) (a .defaults .now) (heldOf (a .words .now) (a .nulls .now) (a .texts .now) (a .versions .now) (a .edits .now)) (a .row .now) (a .kept .now)) (record { subject = a .subject; grants = a .g; table = a .table }) (a .message .now) (length (a .out .now)) (right-here (c .before .before .before)) (not-false _ (c .before .before .if2 .left)) (c .before .if3 .taken)) (refused-as (heldOf (a .words .now) (a .nulls .now) (a .texts .now) (a .versions .now) (a .edits .now)) (a .row .now) (a .kept .now) 3 (c .refuse3 .ensures) refl)
+returns-3 c = let a = c .before .before .before .before .before .before .before .before .before .before .before .before .before .before .before .args in rw (small (serverIn (a .w .now) (a .defaults .now) (heldOf (a .words .now) (a .nulls .now) (a .texts .now) (a .versions .now) (a .edits .now)) (a .row .now) (a .kept .now)) (record { subject = a .subject; grants = a .g; table = a .table }) (a .message .now) (length (a .out .now)) (right-here (c .before .before .before)) (not-false _ (c .before .before .if2 .left)) (c .before .if3 .taken)) (refused-as (heldOf (a .words .now) (a .nulls .now) (a .texts .now) (a .versions .now) (a .edits .now)) (a .row .now) (a .kept .now) 3 (c .refuse3 .ensures) refl)
 
 envelope-of-requires : tie.Need-envelope-of-requires
 envelope-of-requires c κs = search needs
@@ -84,7 +84,7 @@ same-length-4 : tie.Need-same-length-4
 same-length-4 c = search needs
 
 returns-4 : tie.Need-returns-4
-returns-4 c = let a = c .before .before .before .before .before .before .before .before .before .before .before .before .before .before .before .before .before .before .args in rw (short (signIn (a .w .now) (a .defaults .now) (heldOf (a .words .now) (a .nulls .now) (a .texts .now) (a .versions .now) (a .edits .now)) (a .row .now) (a .kept .now)) (record { subject = a .subject; grants = a .g; table = a .table }) (a .message .now) (length (a .out .now)) (right-here (c .before .before .before .before .before .before)) (not-false _ (c .before .before .before .before .before .if2 .left)) (c .before .before .before .before .if3 .left) (sym (c .before .before .before .envelope-of .ensures) ∙ c .before .enum-told .given .1)) (refused-as (heldOf (a .words .now) (a .nulls .now) (a .texts .now) (a .versions .now) (a .edits .now)) (a .row .now) (a .kept .now) 4 (c .refuse4 .ensures) refl)
+returns-4 c = let a = c .before .before .before .before .before .before .before .before .before .before .before .before .before .before .before .before .before .before .args in rw (short (serverIn (a .w .now) (a .defaults .now) (heldOf (a .words .now) (a .nulls .now) (a .texts .now) (a .versions .now) (a .edits .now)) (a .row .now) (a .kept .now)) (record { subject = a .subject; grants = a .g; table = a .table }) (a .message .now) (length (a .out .now)) (right-here (c .before .before .before .before .before .before)) (not-false _ (c .before .before .before .before .before .if2 .left)) (c .before .before .before .before .if3 .left) (sym (c .before .before .before .envelope-of .ensures) ∙ c .before .enum-told .given .1)) (refused-as (heldOf (a .words .now) (a .nulls .now) (a .texts .now) (a .versions .now) (a .edits .now)) (a .row .now) (a .kept .now) 4 (c .refuse4 .ensures) refl)
 
 refuse-requires-5 : tie.Need-refuse-requires-5
 refuse-requires-5 c κs = search needs
@@ -93,7 +93,7 @@ same-length-5 : tie.Need-same-length-5
 same-length-5 c = search needs
 
 returns-5 : tie.Need-returns-5
-returns-5 c = let a = c .before .before .before .before .before .before .before .before .before .before .before .before .before .before .before .before .before .before .before .before .args in rw (too-long (signIn (a .w .now) (a .defaults .now) (heldOf (a .words .now) (a .nulls .now) (a .texts .now) (a .versions .now) (a .edits .now)) (a .row .now) (a .kept .now)) (record { subject = a .subject; grants = a .g; table = a .table }) (a .message .now) (length (a .out .now)) (right-here (c .before .before .before .before .before .before .before .before)) (not-false _ (c .before .before .before .before .before .before .before .if2 .left)) (c .before .before .before .before .before .before .if3 .left) (found-here (c .before .before .before)) refl (c .before .if4 .taken)) (refused-as (heldOf (a .words .now) (a .nulls .now) (a .texts .now) (a .versions .now) (a .edits .now)) (a .row .now) (a .kept .now) 4 (c .refuse5 .ensures) refl)
+returns-5 c = let a = c .before .before .before .before .before .before .before .before .before .before .before .before .before .before .before .before .before .before .before .before .args in rw (too-long (serverIn (a .w .now) (a .defaults .now) (heldOf (a .words .now) (a .nulls .now) (a .texts .now) (a .versions .now) (a .edits .now)) (a .row .now) (a .kept .now)) (record { subject = a .subject; grants = a .g; table = a .table }) (a .message .now) (length (a .out .now)) (right-here (c .before .before .before .before .before .before .before .before)) (not-false _ (c .before .before .before .before .before .before .before .if2 .left)) (c .before .before .before .before .before .before .if3 .left) (found-here (c .before .before .before)) refl (c .before .if4 .taken)) (refused-as (heldOf (a .words .now) (a .nulls .now) (a .texts .now) (a .versions .now) (a .edits .now)) (a .row .now) (a .kept .now) 4 (c .refuse5 .ensures) refl)
 
 action-of-requires : tie.Need-action-of-requires
 action-of-requires c κs = search needs
@@ -108,7 +108,7 @@ same-length-6 : tie.Need-same-length-6
 same-length-6 c = search needs
 
 returns-6 : tie.Need-returns-6
-returns-6 c = let a = c .before .before .before .before .before .before .before .before .before .before .before .before .before .before .before .before .before .before .before .before .before .before .before .args in rw (not-for-server (signIn (a .w .now) (a .defaults .now) (heldOf (a .words .now) (a .nulls .now) (a .texts .now) (a .versions .now) (a .edits .now)) (a .row .now) (a .kept .now)) (record { subject = a .subject; grants = a .g; table = a .table }) (a .message .now) (length (a .out .now)) (right-here (c .before .before .before .before .before .before .before .before .before .before .before)) (not-false _ (c .before .before .before .before .before .before .before .before .before .before .if2 .left)) (c .before .before .before .before .before .before .before .before .before .if3 .left) (found-here (c .before .before .before .before .before .before)) (sym (c .before .before .before .action-of .ensures)) (c .before .before .before .before .if4 .left) (sym (c .before .before .is-for-server .ensures) ∙ not-true _ (c .before .if5 .taken))) (refused-as (heldOf (a .words .now) (a .nulls .now) (a .texts .now) (a .versions .now) (a .edits .now)) (a .row .now) (a .kept .now) 4 (c .refuse6 .ensures) refl)
+returns-6 c = let a = c .before .before .before .before .before .before .before .before .before .before .before .before .before .before .before .before .before .before .before .before .before .before .before .args in rw (not-for-server (serverIn (a .w .now) (a .defaults .now) (heldOf (a .words .now) (a .nulls .now) (a .texts .now) (a .versions .now) (a .edits .now)) (a .row .now) (a .kept .now)) (record { subject = a .subject; grants = a .g; table = a .table }) (a .message .now) (length (a .out .now)) (right-here (c .before .before .before .before .before .before .before .before .before .before .before)) (not-false _ (c .before .before .before .before .before .before .before .before .before .before .if2 .left)) (c .before .before .before .before .before .before .before .before .before .if3 .left) (found-here (c .before .before .before .before .before .before)) (sym (c .before .before .before .action-of .ensures)) (c .before .before .before .before .if4 .left) (sym (c .before .before .is-for-server .ensures) ∙ not-true _ (c .before .if5 .taken))) (refused-as (heldOf (a .words .now) (a .nulls .now) (a .texts .now) (a .versions .now) (a .edits .now)) (a .row .now) (a .kept .now) 4 (c .refuse6 .ensures) refl)
 
 subject-served-requires : tie.Need-subject-served-requires
 subject-served-requires c κs = search needs
@@ -120,7 +120,7 @@ same-length-7 : tie.Need-same-length-7
 same-length-7 c = search needs
 
 returns-7 : tie.Need-returns-7
-returns-7 c = let a = c .before .before .before .before .before .before .before .before .before .before .before .before .before .before .before .before .before .before .before .before .before .before .before .before .before .args in rw (other-subject (signIn (a .w .now) (a .defaults .now) (heldOf (a .words .now) (a .nulls .now) (a .texts .now) (a .versions .now) (a .edits .now)) (a .row .now) (a .kept .now)) (record { subject = a .subject; grants = a .g; table = a .table }) (a .message .now) (length (a .out .now)) (right-here (c .before .before .before .before .before .before .before .before .before .before .before .before .before)) (not-false _ (c .before .before .before .before .before .before .before .before .before .before .before .before .if2 .left)) (c .before .before .before .before .before .before .before .before .before .before .before .if3 .left) (found-here (c .before .before .before .before .before .before .before .before)) (sym (c .before .before .before .before .before .action-of .ensures)) (c .before .before .before .before .before .before .if4 .left) (sym (c .before .before .before .before .is-for-server .ensures) ∙ not-false _ (c .before .before .before .if5 .left)) (λ z. c .before .if6 .taken (z ∙ sym (c .before .before .subject-served .ensures)))) (silence-as (heldOf (a .words .now) (a .nulls .now) (a .texts .now) (a .versions .now) (a .edits .now)) (a .row .now) (a .kept .now) (c .answer .ensures) refl)
+returns-7 c = let a = c .before .before .before .before .before .before .before .before .before .before .before .before .before .before .before .before .before .before .before .before .before .before .before .before .before .args in rw (other-subject (serverIn (a .w .now) (a .defaults .now) (heldOf (a .words .now) (a .nulls .now) (a .texts .now) (a .versions .now) (a .edits .now)) (a .row .now) (a .kept .now)) (record { subject = a .subject; grants = a .g; table = a .table }) (a .message .now) (length (a .out .now)) (right-here (c .before .before .before .before .before .before .before .before .before .before .before .before .before)) (not-false _ (c .before .before .before .before .before .before .before .before .before .before .before .before .if2 .left)) (c .before .before .before .before .before .before .before .before .before .before .before .if3 .left) (found-here (c .before .before .before .before .before .before .before .before)) (sym (c .before .before .before .before .before .action-of .ensures)) (c .before .before .before .before .before .before .if4 .left) (sym (c .before .before .before .before .is-for-server .ensures) ∙ not-false _ (c .before .before .before .if5 .left)) (λ z. c .before .if6 .taken (z ∙ sym (c .before .before .subject-served .ensures)))) (silence-as (heldOf (a .words .now) (a .nulls .now) (a .texts .now) (a .versions .now) (a .edits .now)) (a .row .now) (a .kept .now) (c .answer .ensures) refl)
 
 sub-payload : tie.Need-sub-payload
 sub-payload c = omega (arith, long-enough (c .before .before .before .before .before .before .before .before .before .before .before .before .before .before .before .before .before .before .before .before .before .before .before .before .args .message .now) (found-here (c .before .before .before .before .before .before .before)))
@@ -144,14 +144,14 @@ same-length-9 : tie.Need-same-length-9
 same-length-9 c = search needs
 
 returns-8 : tie.Need-returns-8
-returns-8 c = let a = c .before .before .before .before .before .before .before .before .before .before .before .before .before .before .before .before .before .before .before .before .before .before .before .before .before .before .before .before .before .before .before .before .before .before .before .before .before .before .before .args in rw (served-as (signIn (a .w .now) (a .defaults .now) (heldOf (a .words .now) (a .nulls .now) (a .texts .now) (a .versions .now) (a .edits .now)) (a .row .now) (a .kept .now)) (record { subject = a .subject; grants = a .g; table = a .table }) (a .message .now) (length (a .out .now)) (right-here (c .before .before .before .before .before .before .before .before .before .before .before .before .before .before .before .before .before .before .before .before .before .before .before .before .before .before .before)) (not-false _ (c .before .before .before .before .before .before .before .before .before .before .before .before .before .before .before .before .before .before .before .before .before .before .before .before .before .before .if2 .left)) (c .before .before .before .before .before .before .before .before .before .before .before .before .before .before .before .before .before .before .before .before .before .before .before .before .before .if3 .left) (found-here (c .before .before .before .before .before .before .before .before .before .before .before .before .before .before .before .before .before .before .before .before .before .before)) (sym (c .before .before .before .before .before .before .before .before .before .before .before .before .before .before .before .before .before .before .before .action-of .ensures)) (c .before .before .before .before .before .before .before .before .before .before .before .before .before .before .before .before .before .before .before .before .if4 .left) (sym (c .before .before .before .before .before .before .before .before .before .before .before .before .before .before .before .before .before .before .is-for-server .ensures) ∙ not-false _ (c .before .before .before .before .before .before .before .before .before .before .before .before .before .before .before .before .before .if5 .left)) (c .before .before .before .before .before .before .before .before .before .before .before .before .before .before .before .if6 .left ∙ c .before .before .before .before .before .before .before .before .before .before .before .before .before .before .before .before .subject-served .ensures) (payload-of (a .message .now)) (c .before .before .before .before .before .before .before .before .before .before .before .before .before .step-of .ensures ∙ ap (λ (u : Standing). stepOf (u .progress) (c .before .before .before .before .before .before .before .before .before .before .before .before .before .before .before .before .before .before .before .action-of .result) (c .before .before .before .before .before .before .before .before .before .before .before .before .before .before .before .before .before .before .before .before .before .before .e .given .0 .0) (take (length (a .message .now) - envelopeLength) (drop envelopeLength (a .message .now)))) (c .before .before .before .before .before .before .before .before .before .before .before .before .before .before .before .before .before .before .before .before .before .before .before .before .before .before .before .before .before .before .before .before .before .read-standing .ensures))) (c .before .before .before .before .react .ensures)
+returns-8 c = let a = c .before .before .before .before .before .before .before .before .before .before .before .before .before .before .before .before .before .before .before .before .before .before .before .before .before .before .before .before .before .before .before .before .before .before .before .before .before .before .before .args in rw (served-as (serverIn (a .w .now) (a .defaults .now) (heldOf (a .words .now) (a .nulls .now) (a .texts .now) (a .versions .now) (a .edits .now)) (a .row .now) (a .kept .now)) (record { subject = a .subject; grants = a .g; table = a .table }) (a .message .now) (length (a .out .now)) (right-here (c .before .before .before .before .before .before .before .before .before .before .before .before .before .before .before .before .before .before .before .before .before .before .before .before .before .before .before)) (not-false _ (c .before .before .before .before .before .before .before .before .before .before .before .before .before .before .before .before .before .before .before .before .before .before .before .before .before .before .if2 .left)) (c .before .before .before .before .before .before .before .before .before .before .before .before .before .before .before .before .before .before .before .before .before .before .before .before .before .if3 .left) (found-here (c .before .before .before .before .before .before .before .before .before .before .before .before .before .before .before .before .before .before .before .before .before .before)) (sym (c .before .before .before .before .before .before .before .before .before .before .before .before .before .before .before .before .before .before .before .action-of .ensures)) (c .before .before .before .before .before .before .before .before .before .before .before .before .before .before .before .before .before .before .before .before .if4 .left) (sym (c .before .before .before .before .before .before .before .before .before .before .before .before .before .before .before .before .before .before .is-for-server .ensures) ∙ not-false _ (c .before .before .before .before .before .before .before .before .before .before .before .before .before .before .before .before .before .if5 .left)) (c .before .before .before .before .before .before .before .before .before .before .before .before .before .before .before .if6 .left ∙ c .before .before .before .before .before .before .before .before .before .before .before .before .before .before .before .before .subject-served .ensures) (payload-of (a .message .now)) (c .before .before .before .before .before .before .before .before .before .before .before .before .before .step-of .ensures ∙ ap (λ (u : RowStanding). stepOf (u .progress) (c .before .before .before .before .before .before .before .before .before .before .before .before .before .before .before .before .before .before .before .action-of .result) (c .before .before .before .before .before .before .before .before .before .before .before .before .before .before .before .before .before .before .before .before .before .before .e .given .0 .0) (take (length (a .message .now) - envelopeLength) (drop envelopeLength (a .message .now)))) (c .before .before .before .before .before .before .before .before .before .before .before .before .before .before .before .before .before .before .before .before .before .before .before .before .before .before .before .before .before .before .before .before .before .read-standing .ensures))) (c .before .before .before .before .react .ensures)
 
 pub serve-spec : {M : Type 1} → statement M
 serve-spec =
     tie.close
     (tie.spec
     read-standing-requires
-    sign-ok-requires
+    server-ok-requires
     refuse-requires
     same-length
     returns

@@ -1,7 +1,7 @@
 use mathlib.Core.Path.{_≡_, sym, ap, _∙_}
 use mathlib.Core.Bool.{true, false}
-use Rattle.interaction.specs.Status.{responseIn}
-use Rattle.exchange.specs.Rules.{beginning}
+use Rattle.im_requests.specs.Status.{responseIn}
+use Rattle.im_exchange.specs.Rules.{beginning}
 use Rattle.server.specs.Receive.{byStatus, stepOf}
 use Rattle.server.proofs.StepLaws.{was-code, was-bad}
 use borrow.Author.Needs.{needs}
@@ -9,10 +9,10 @@ use Rattle.server.proofs.receive.step_of.Statement.{statement}
 use Rattle.server.proofs.receive.step_of.Tie as tie
 use Rattle.server.proofs.receive.step_of.Reads as reads
 use Rattle.server.proofs.receive.step_of.Lts as lts
-use Rattle.exchange.proofs.begins.Reads as begins-reads
-use Rattle.exchange.proofs.on_request.Reads as on-request-reads
-use Rattle.exchange.proofs.on_status.Reads as on-status-reads
-use Rattle.interaction.proofs.status_response.Reads as status-response-reads
+use Rattle.im_exchange.proofs.begins.Reads as begins-reads
+use Rattle.im_exchange.proofs.on_request.Reads as on-request-reads
+use Rattle.im_exchange.proofs.on_status.Reads as on-status-reads
+use Rattle.im_requests.proofs.status_response.Reads as status-response-reads
 
 begins-requires : tie.Need-begins-requires
 begins-requires c κs = search needs

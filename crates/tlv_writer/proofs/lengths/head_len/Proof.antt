@@ -1,6 +1,6 @@
 use mathlib.Core.Path.{refl}
 use native.Mathlib.Omega.{arith}
-use Rattle.tlv.specs.Octet.{tagWidth}
+use Rattle.tlv_reader.specs.Octet.{tagWidth}
 use Rattle.tlv_writer.specs.Element.{headLength, formOf}
 use borrow.Author.Needs.{needs}
 use Rattle.tlv_writer.proofs.lengths.head_len.Statement.{statement}

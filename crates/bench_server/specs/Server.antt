@@ -1,0 +1,19 @@
+-- What the functions of one step answer: the rules of a server that is called (refusal 2, RULES 6.1), and one part of a read.
+use mathlib.Core.Bool.{Bool, _&&_}
+use mathlib.Core.List.{List}
+use Prim.Native.Nat.{ℕ}
+use lib.ListN.{replicate}
+use Rattle.base_bounds.specs.Bounds.{clusterLimit}
+use Rattle.node_schema.specs.Check.{wellFormed}
+use Rattle.node_plan.specs.Check.{numbersRight}
+use Rattle.node_access.specs.declared.Grants.{Grants}
+use Rattle.server_values.specs.declared.Values.{Values}
+use Rattle.server_values.specs.Valid.{valuesRight}
+
+-- a schema by the rules, first values within their limits, and values, shown texts and pages that keep theirs
+unfoldable pub serverRight : List ℕ → List ℕ → List ℕ → Values → Bool
+serverRight w defaults edits v = wellFormed w && (numbersRight w && valuesRight w defaults edits v)
+
+-- Administer at every cluster
+abbrev pub allGranted : Grants
+allGranted = record { level = replicate clusterLimit 4 }

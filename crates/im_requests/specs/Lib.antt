@@ -1,0 +1,4 @@
+pub mod Message
+pub mod Status
+pub mod Read
+pub mod Write

@@ -1,2 +1,0 @@
-pub mod OneLaws
-pub mod AnsweredLaws

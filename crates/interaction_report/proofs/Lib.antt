@@ -1,6 +1,0 @@
-pub mod MeaningLaws
-pub mod WhereLaws
-pub mod PassLaws
-pub mod KeptLaws
-pub mod FewLaws
-pub mod WordLaws

@@ -1,3 +1,0 @@
-pub mod EntryLaws
-pub mod WriteLaws
-pub mod WidthLaws

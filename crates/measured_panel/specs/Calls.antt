@@ -1,6 +1,0 @@
--- The calls of a panel as a benchmark makes them: what each answers.
-use Rattle.cache_state.specs.declared.Outcome.{Outcome}
-use Rattle.measured.specs.declared.calls.Last.{Last}
-
-abbrev pub outcomeOf : Last → Outcome
-outcomeOf r = record { number = r .number; len = r .len }

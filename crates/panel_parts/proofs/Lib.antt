@@ -1,4 +1,0 @@
-pub mod RoomLaws
-pub mod OnceLaws
-pub mod SpotLaws
-pub mod PartLaws

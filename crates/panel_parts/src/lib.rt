@@ -1,1 +1,0 @@
-// No code: the laws of this crate say that a part of a report that a sign can have sent, taken by a panel, sets the same entries as in the protocol, and that there is always room for them.

@@ -1,5 +1,0 @@
-pub mod Plan
-pub mod Messages
-pub mod Sign
-pub mod Panel
-pub mod Calls

@@ -1,0 +1,4 @@
+pub mod RoomLaws
+pub mod OnceLaws
+pub mod PositionLaws
+pub mod PartLaws

@@ -1,0 +1,5 @@
+pub mod Plan
+pub mod Messages
+pub mod Server
+pub mod Cache
+pub mod Calls

@@ -1,0 +1,3 @@
+pub mod Server
+pub mod Messages
+pub mod Specimens

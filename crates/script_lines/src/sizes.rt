@@ -1,0 +1,16 @@
+// Numbers held to what there is.
+ghost use Prim.Native.Nat.{_≤_};
+ghost use Rattle.script_lines.specs.Words.{Filled};
+
+pub fn least(a: usize, b: usize) -> usize
+    ensures { λ r. ⌜ (r ≤ a) × (r ≤ b) ⌝ }
+{
+    if a < b { a } else { b }
+}
+
+// So many bytes, or as many as there are. It takes the bytes and not their number, so that the contract can speak of the part that is lent.
+pub fn clip(n: usize, s: &[u8]) -> usize
+    ensures { λ r. ⌜ Filled r (now (s .entry)) ⌝ }
+{
+    if n < s.len() { n } else { s.len() }
+}

@@ -1,3 +1,0 @@
-pub mod Sign
-pub mod Messages
-pub mod Specimens
