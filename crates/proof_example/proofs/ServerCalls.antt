@@ -55,7 +55,7 @@ use Rattle.server_writes.specs.Offer.{changed, offered}
 use Rattle.server_replies.specs.Refusal.{refusalCode}
 use Rattle.server_replies.specs.Begin.{readBegun, requestOf}
 use Rattle.server_replies.specs.Messages.{reportMessage}
-use Rattle.server_replies.specs.Row.{keeping, nextPart, rowRight, standingIn}
+use Rattle.server_replies.specs.Row.{keeping, keptRight, nextPart, rowRight, servedRight, standingIn}
 use Rattle.server.specs.Receive.{forServer, reacted, received, stepOf}
 use Rattle.server.specs.Start.{alteredBy, freshRow, started}
 use Rattle.server.specs.State.{serverRight}
@@ -66,5 +66,5 @@ use Rattle.proof_example.specs.Server.{sign0, sign1, sign2, sign3, chang
 use Rattle.proof_example.specs.Calls.{ServerCalls}
 
 pub server-calls : ServerCalls
-unfolding bytesOf Number.numberOf store allBelow completes table trailing within Utf8.after Utf8.wellFormed closedAt headAt headOctets numberWidth tagWidth allowedIn elementBy elementEnd foldAt foldBy booleanOctets datumOctets formOf headFor labelOf openOctets textOctets unsignedOctets leastOf leastWidth widthCode eachStep optionalIn fieldStep fieldsAt fieldsFrom insideAt placeOf putAt slotOf flagIn flagOf numberIn wideIn Scalar.numberOf askableP banned loose pathAt pathFrom soundPath firstOf listAt messageAt untagged askedAt askedOf readFrom readIn responseFrom responseIn blockTree dataBlockTree dataMembers pathTree bigNumber bigOctets envelopeOctets envelopeWord reportEnding reportMembers revision statusMembers members primitiveD spelling spellings writerTag envelopeIn fieldsOf filterMembers pathsTree readMembers wildcardTree judgedIn statusCode equal held nextVersion count every rises Schema.changes Schema.wellFormed rowsFrom first coversPlace givenBy grantsOf isGranted levelOf privilegeOk privilegesOk tableOk kindOf accepted numbersRight textsRight shownText storedEdits storedValues wordFor freshValues valuesRight datumAt textAt askedFor asksFor concrete filterWords joined on skipsNow wordAfter pathsWords concreteItem itemAt readItem span wildcardItem located allowed reached actionOf onRequest onStatus blockOf blocksFrom collect pathBlocks pathsBlocks valueBlock left taken report.after partPayload changed offered refusalCode readBegun requestOf reportMessage keeping nextPart rowRight standingIn forServer reacted received stepOf alteredBy freshRow started serverRight readMessage successMessage access defaults edits plan words changedEdits changedValues part1 part2 request row1 row2 sign0 sign1 sign2 sign3 success
+unfolding bytesOf Number.numberOf store allBelow completes table trailing within Utf8.after Utf8.wellFormed closedAt headAt headOctets numberWidth tagWidth allowedIn elementBy elementEnd foldAt foldBy booleanOctets datumOctets formOf headFor labelOf openOctets textOctets unsignedOctets leastOf leastWidth widthCode eachStep optionalIn fieldStep fieldsAt fieldsFrom insideAt placeOf putAt slotOf flagIn flagOf numberIn wideIn Scalar.numberOf askableP banned loose pathAt pathFrom soundPath firstOf listAt messageAt untagged askedAt askedOf readFrom readIn responseFrom responseIn blockTree dataBlockTree dataMembers pathTree bigNumber bigOctets envelopeOctets envelopeWord reportEnding reportMembers revision statusMembers members primitiveD spelling spellings writerTag envelopeIn fieldsOf filterMembers pathsTree readMembers wildcardTree judgedIn statusCode equal held nextVersion count every rises Schema.changes Schema.wellFormed rowsFrom first coversPlace givenBy grantsOf isGranted levelOf privilegeOk privilegesOk tableOk kindOf accepted numbersRight textsRight shownText storedEdits storedValues wordFor freshValues valuesRight datumAt textAt askedFor asksFor concrete filterWords joined on skipsNow wordAfter pathsWords concreteItem itemAt readItem span wildcardItem located allowed reached actionOf onRequest onStatus blockOf blocksFrom collect pathBlocks pathsBlocks valueBlock left taken report.after partPayload changed offered refusalCode readBegun requestOf reportMessage keeping nextPart keptRight rowRight servedRight standingIn forServer reacted received stepOf alteredBy freshRow started serverRight readMessage successMessage access defaults edits plan words changedEdits changedValues part1 part2 request row1 row2 sign0 sign1 sign2 sign3 success
 server-calls = record { accepts = refl; words-fit = refl; table-right = refl; edits-size = refl; made = refl; begins = refl; repeats = refl; alters = refl; goes-on = refl; turns = (refl, refl); part1-sent = λ l. refl; part2-sent = λ l. refl; row6 = refl; may-read6 = (_, refl); stands = (refl, refl, refl, refl) }

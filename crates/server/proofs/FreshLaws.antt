@@ -16,18 +16,18 @@ use Rattle.node_plan.proofs.RulesLaws.{check-done}
 use Rattle.server_values.specs.Fresh.{freshValues}
 use Rattle.server_values.proofs.FreshLaws.{fresh-right, fresh-whole}
 use Rattle.server_replies.specs.Server.{Server}
-use Rattle.server_replies.specs.Row.{rowRight, standingIn}
-use Rattle.server_replies.proofs.RowLaws.{right-row}
+use Rattle.server_replies.specs.Row.{rowRight, servedRight, standingIn}
+use Rattle.server_replies.proofs.RowLaws.{right-row, kept-none}
 use Rattle.server.specs.Start.{freshRow, started}
 use Rattle.server.proofs.ServerLaws.{RightServer, right-server}
 use Rattle.server.proofs.StartLaws.{accepted-schema}
 use Rattle.server.proofs.KeptLaws.{ValidServer}
 
 pub fresh-row-right : rowRight freshRow ≡ true
-unfolding freshRow standingIn
+unfolding freshRow standingIn servedRight
 fresh-row-right =
     right-row freshRow
-    (record { exchange = omega arith; turn = omega arith; next = omega arith; closed = omega arith; asked = omega arith; phase = refl; path = omega arith; index = omega arith; sent = refl; len = omega arith })
+    (record { exchange = omega arith; turn = omega arith; next = omega arith; closed = omega arith; asked = omega arith; phase = refl; path = omega arith; index = omega arith; sent = refl; kept = kept-none; served = refl })
 
 module _ (w defaults : List ℕ) (h : accepted w defaults ≡ true) where
   -- a server with this page of edits

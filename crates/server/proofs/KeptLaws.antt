@@ -16,7 +16,7 @@ use Rattle.node_access.specs.declared.Grants.{Grants}
 use Rattle.server_values.proofs.ValidLaws.{Whole}
 use Rattle.im_exchange.specs.declared.Step.{Step}
 use Rattle.im_exchange.specs.declared.Step.the-variants.{Silence, Begin, Repeat, Next, Close}
-use Rattle.im_exchange.specs.Rules.{maxTurn}
+use Rattle.im_exchange.specs.Rules.{nothing}
 use Rattle.server_writes.specs.Offer.{HeldValues, changed}
 use Rattle.server_writes.specs.Entry.{heldAfter}
 use Rattle.server_writes.proofs.HeldLaws.{Right, changed-keeps, writes-keep}
@@ -26,7 +26,7 @@ use Rattle.server_replies.specs.Row.{rowRight, nextPart}
 use Rattle.server_replies.specs.Refusal.{writeRefusal}
 use Rattle.server_replies.specs.Begin.{once, entriesOf, responseTo, readBegun, writeBegun, refusalOf}
 use Rattle.server_replies.proofs.KeptLaws.{next-right, read-right, write-right}
-use Rattle.server_replies.proofs.RowLaws.{row-right, right-row}
+use Rattle.server_replies.proofs.RowLaws.{row-right, right-row, served-some, promised-served}
 use Rattle.im_writer.specs.Envelope.{exchangeLimit}
 use Rattle.im_exchange.specs.declared.Action.{Action}
 use Rattle.im_exchange.specs.declared.Action.the-variants.{Status, Read, Write, Other}
@@ -35,6 +35,7 @@ use Rattle.server.specs.Start.{alteredBy}
 use Rattle.server.specs.Receive.{closing, reacted, received}
 use Rattle.server.proofs.ServerLaws.{RightServer, server-right, right-server}
 use Rattle.server.proofs.StartLaws.{altered-right}
+use Rattle.server.proofs.StepLaws.{Taken}
 use Rattle.server.proofs.ReceivedLaws.{received-holds}
 
 -- a server that keeps the rules; its arrays have their lengths, as those of the code do
@@ -52,10 +53,11 @@ write-keeps s rules r g exchange payload =
     (withRow (s .state) (once (s .state .row) exchange (refusalOf exchange (writeRefusal q))))
     (λ _. writes-keep (s .schema) (s .defaults) rules (heldBy (s .state)) r g payload (entriesOf q)) (λ _. r)
 
-closing-right : (x : ExchangeRow) → rowRight x ≡ true → rowRight (closing x) ≡ true
-closing-right x h =
+closing-right : (x : ExchangeRow) → rowRight x ≡ true → (x .progress .next ≡ nothing → ⊥) → rowRight (closing x) ≡ true
+closing-right x h some =
     let r = row-right x h in
-    right-row (closing x) (record { exchange = r .exchange; turn = r .turn; next = r .next; closed = omega arith; asked = r .asked; phase = r .phase; path = r .path; index = r .index; sent = r .sent; len = r .len })
+    let (served, f) = promised-served (x .progress) (x .len) (r .served) some in
+    right-row (closing x) (record { exchange = r .exchange; turn = r .turn; next = r .next; closed = omega arith; asked = r .asked; phase = r .phase; path = r .path; index = r .index; sent = r .sent; kept = r .kept; served = served-some _ (x .len) served f })
 
 module _ (s : Server) (valid : ValidServer s) where
   parts : RightServer s
@@ -87,17 +89,17 @@ module _ (s : Server) (valid : ValidServer s) where
       (moved (stateWith k (s .state .row)) (changed-keeps (s .schema) (s .defaults) rules h held-right e c a src new sized) (parts .row))
 
   -- what a message gets
-  reacted-kept : (g : Grants) (e : Fields) → e .exchange < exchangeLimit → (payload : List ℕ) (action : Action) (step : Step) → (step ≡ Next → s .state .row .progress .turn < maxTurn) → ValidServer (withState s (reacted s g e payload action step .state))
+  reacted-kept : (g : Grants) (e : Fields) → e .exchange < exchangeLimit → (payload : List ℕ) (action : Action) (step : Step) → Taken (s .state .row .progress) (e .exchange) step → ValidServer (withState s (reacted s g e payload action step .state))
   unfolding reacted
   reacted-kept g e below payload action Silence t = valid
-  reacted-kept g e below payload Read Begin t = with-row (readBegun s g (e .exchange) payload) (read-right s g (e .exchange) below (parts .row) payload)
+  reacted-kept g e below payload Read Begin t = with-row (readBegun s g (e .exchange) payload) (read-right s g (e .exchange) below (λ z. omega arith) (parts .row) payload)
   reacted-kept g e below payload Write Begin t =
-      moved (writeBegun s g (e .exchange) payload) (write-keeps s rules held-right g (e .exchange) payload) (write-right s g (e .exchange) below (parts .row) payload)
+      moved (writeBegun s g (e .exchange) payload) (write-keeps s rules held-right g (e .exchange) payload) (write-right s g (e .exchange) below (λ z. omega arith) (parts .row) payload)
   reacted-kept g e below payload Status Begin t = valid
   reacted-kept g e below payload Other Begin t = valid
   reacted-kept g e below payload action Repeat t = valid
-  reacted-kept g e below payload action Next t = with-row (nextPart s g) (next-right s g (parts .row) (t refl))
-  reacted-kept g e below payload action Close t = with-row (closing (s .state .row)) (closing-right (s .state .row) (parts .row))
+  reacted-kept g e below payload action Next t = with-row (nextPart s g) (next-right s g (parts .row) (t .0) (t .1))
+  reacted-kept g e below payload action Close t = with-row (closing (s .state .row)) (closing-right (s .state .row) (parts .row) t)
 
   -- A MESSAGE, any bytes from anyone, with any access table and buffer
   pub received-kept : (c : Caller) (m : List ℕ) (room : ℕ) → ValidServer (withState s (received s c m room .state))

@@ -68,4 +68,4 @@ module _ (s : Server) (c : Caller) (m : List ℕ) (room : ℕ) (h : serverRight 
   promised-answered whole =
       let x = nextPart s (c .grants) in
       ap (λ r. r .number) promised-part
-      ∙ some-number (keptReply x) (omega (arith, next-some s (c .grants), kept-length x (next-whole s (c .grants) ∙ whole) (len-of x (next-right s (c .grants) (right-row-of s h) (p .left)))))
+      ∙ some-number (keptReply x) (omega (arith, next-some s (c .grants), kept-length x (next-whole s (c .grants) ∙ whole) (len-of x (next-right s (c .grants) (right-row-of s h) (p .left) (λ z. omega (arith, z, p .promised))))))

@@ -16,7 +16,7 @@ use Rattle.server_replies.specs.Messages.{maxMessage}
 use Rattle.server_replies.specs.Server.{ServerState, Server, heldBy, withRow}
 use Rattle.server_replies.specs.Row.{keptReply, nextPart, rowRight, rowIn, rowOf, standingIn, standingWords, putRow}
 use Rattle.server_replies.specs.Begin.{Begins, Wrote}
-use Rattle.server_replies.proofs.RowLaws.{row-right}
+use Rattle.server_replies.proofs.RowLaws.{row-right, kept-short}
 use Rattle.server_replies.proofs.KeptLaws.{keeping-whole}
 use Rattle.server_replies.proofs.LentLaws.{request-same, row-same}
 use Rattle.server_selection.specs.Request.{standingAt}
@@ -87,4 +87,4 @@ unfolding nextPart
 next-whole s g = keeping-whole (s .state .row) _ _ _ _
 
 pub len-of : (x : ExchangeRow) → rowRight x ≡ true → x .len ≤ maxMessage
-len-of x h = row-right x h .len
+len-of x h = kept-short (x .len) (row-right x h .kept)

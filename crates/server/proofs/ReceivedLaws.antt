@@ -17,14 +17,14 @@ use Rattle.node_schema.specs.Layout.{subjectWord}
 use Rattle.node_schema.proofs.BoolLaws.{both}
 use Rattle.im_exchange.specs.declared.Step.{Step}
 use Rattle.im_exchange.specs.declared.Step.the-variants.{Silence, Begin, Repeat, Next, Close}
-use Rattle.im_exchange.specs.Rules.{maxTurn, actionOf}
+use Rattle.im_exchange.specs.Rules.{actionOf}
 use Rattle.server_replies.specs.Messages.{envelopeLength, maxMessage}
 use Rattle.server_replies.specs.Server.{ServerState, Server, Caller, ServerReaction}
 use Rattle.server_replies.specs.Row.{keptReply, nextPart}
 use Rattle.server_replies.specs.Begin.{readBegun, writeBegun}
 use Rattle.im_exchange.specs.declared.Action.{Action}
 use Rattle.im_exchange.specs.declared.Action.the-variants.{Status, Read, Write, Other}
-use Rattle.server.proofs.StepLaws.{next-turn}
+use Rattle.server.proofs.StepLaws.{Taken, step-taken}
 use Rattle.server.specs.State.{serverRight}
 use Rattle.server.specs.Receive.{refusal, numberFor, answering, silence, stepOf, reacted, inEnvelope, received, forServer}
 
@@ -45,7 +45,7 @@ envelope-below m = pick-elim Below (ltb (length m) envelopeLength) envelope.Shor
 -- ---- a property of what is answered: of the refusals, of silence, and of every reaction
 
 module _ (P : ServerReaction → Type 0) (s : Server) (c : Caller) where
-  module _ (no-message : P (refusal 4 (s .state))) (silent : P (silence (s .state))) (each : (e : Fields) → e .exchange < exchangeLimit → (payload : List ℕ) (action : Action) (step : Step) → (step ≡ Next → s .state .row .progress .turn < maxTurn) → P (reacted s (c .grants) e payload action step)) where
+  module _ (no-message : P (refusal 4 (s .state))) (silent : P (silence (s .state))) (each : (e : Fields) → e .exchange < exchangeLimit → (payload : List ℕ) (action : Action) (step : Step) → Taken (s .state .row .progress) (e .exchange) step → P (reacted s (c .grants) e payload action step)) where
     enveloped : (m : List ℕ) (x : Envelope) → Below x → P (inEnvelope s c m x)
     enveloped m envelope.Short b = no-message
     enveloped m (envelope.Whole e) b =
@@ -53,7 +53,7 @@ module _ (P : ServerReaction → Type 0) (s : Server) (c : Caller) where
         let action = actionOf (e .opcode) in
         let r = reacted s (c .grants) e payload action (stepOf (s .state .row .progress) action e payload) in
         pick-elim P (leb (length m) maxMessage && forServer (e .edition) action) (pick (eqb (c .subject) (getD (s .schema) subjectWord 0)) r (silence (s .state))) (refusal 4 (s .state))
-        (λ _. pick-elim P (eqb (c .subject) (getD (s .schema) subjectWord 0)) r (silence (s .state)) (λ _. each e b payload action (stepOf (s .state .row .progress) action e payload) (λ z. next-turn (s .state .row .progress) action e payload z)) (λ _. silent))
+        (λ _. pick-elim P (eqb (c .subject) (getD (s .schema) subjectWord 0)) r (silence (s .state)) (λ _. each e b payload action (stepOf (s .state .row .progress) action e payload) (step-taken (s .state .row .progress) action e payload)) (λ _. silent))
         (λ _. no-message)
 
     pub received-holds : (m : List ℕ) (room : ℕ) → ((serverRight s && c .table) ≡ false → P (refusal 2 (s .state))) → P (refusal 3 (s .state)) → P (received s c m room)

@@ -1,5 +1,5 @@
 -- The exchange that a server serves: how far it has come, the request being answered, the place reached, and the kept reply.
-use mathlib.Core.Bool.{Bool, _&&_}
+use mathlib.Core.Bool.{Bool, true, _&&_}
 use mathlib.Core.List.{List, [], _∷_}
 use Prim.Native.Nat.{ℕ, _+_}
 use lib.Dec.{leb, ltb, eqb}
@@ -12,14 +12,14 @@ use Rattle.node_access.specs.declared.Grants.{Grants}
 use Rattle.server_selection.specs.declared.asked.Asked.{Asked}
 use Rattle.server_selection.specs.Request.{filtersAt, standingAt, pathsIn, filtersIn, askedPaths}
 use Rattle.im_exchange.specs.declared.Progress.{Progress}
-use Rattle.im_exchange.specs.Rules.{maxTurn, nothing, part}
+use Rattle.im_exchange.specs.Rules.{maxTurn, firstReply, nothing, part}
 use Rattle.server_report.specs.declared.ReadPlace.{ReadPlace}
 use Rattle.server_report.specs.declared.part.OpenRead.{OpenRead}
 use Rattle.server_report.specs.Blocks.{PlacedBlock, viewOf, attributePhase, blocksFrom}
 use Rattle.server_report.specs.Chunk.{blockRoom, taken, left, after, any}
 use Rattle.server_replies.specs.declared.ExchangeRow.{ExchangeRow}
 use Rattle.server_replies.specs.declared.RowStanding.{RowStanding}
-use Rattle.server_replies.specs.Messages.{maxMessage, reportMessage}
+use Rattle.server_replies.specs.Messages.{envelopeLength, maxMessage, reportMessage}
 use Rattle.server_replies.specs.Server.{Server}
 
 -- where the reply is kept in the bytes lent for it
@@ -59,7 +59,16 @@ nextPart s g =
     let x = s .state .row in
     reported x (x .progress .last) (x .progress .turn + 1) (x .request) (x .place) (blocksOf s g (x .request) (x .place))
 
--- refusal 2: numbers in their widths, counts, the place reached, of which nothing was sent, and the kept reply's length
+-- a kept reply: none, which is silence, or a message with its envelope
+unfoldable pub keptRight : ℕ → Bool
+keptRight len = pick (eqb len 0) true (leb envelopeLength len && leb len maxMessage)
+
+-- RULES 3.8: where no exchange was served there is no reply, nothing promised, closed or kept; where one was, it has a reply
+unfoldable pub servedRight : Progress → ℕ → Bool
+servedRight p len =
+    pick (eqb (p .last) 0) (eqb (p .turn) 0 && (eqb (p .next) nothing && (eqb (p .closed) 0 && eqb len 0))) (leb firstReply (p .turn))
+
+-- refusal 2: numbers in their widths, the place reached, which is one of the request's, and of which nothing was sent, and the kept reply
 unfoldable pub rowRight : ExchangeRow → Bool
 rowRight x =
     ltb (x .progress .last) exchangeLimit
@@ -68,9 +77,9 @@ rowRight x =
     && (leb (x .progress .closed) 1
     && (leb (x .request .asked) maxPaths
     && (eqb (x .place .phase) attributePhase
-    && (leb (x .place .path) maxPaths
+    && (leb (x .place .path) (x .request .asked)
     && (leb (x .place .index) attributeLimit
-    && (eqb (x .place .sent) 0 && leb (x .len) maxMessage))))))))
+    && (eqb (x .place .sent) 0 && (keptRight (x .len) && servedRight (x .progress) (x .len))))))))))
 
 -- ---- A ROW AS IT IS LENT: the request in words, how the exchange stands behind it, the kept reply in bytes
 

@@ -3,12 +3,14 @@ ghost use mathlib.Core.Path.{_≡_};
 ghost use Prim.Native.Nat.{_≤_};
 ghost use Rattle.base_octets.specs.Store.{store};
 ghost use Rattle.server_selection.specs.Request.{standingAt};
-ghost use Rattle.server_replies.specs.Row.{rowIn, rowRight, standingIn, standingWords};
+ghost use Rattle.server_replies.specs.Row.{keptRight, rowIn, rowRight, servedRight, standingIn, standingWords};
 use super::MAX_MESSAGE;
 use super::RowStanding;
 use base_bounds::ATTRIBUTES;
 use base_bounds::MAX_PATHS;
+use im_exchange::FIRST_REPLY;
 use im_exchange::MAX_TURN;
+use im_exchange::NOTHING;
 use im_exchange::PART;
 use im_exchange::Progress;
 use im_writer::envelope::EXCHANGE_LIMIT;
@@ -55,7 +57,40 @@ pub fn put_standing(row: &mut [u64; ROW_WORDS], t: RowStanding)
     row[STANDING_AT + 9] = place.sent as u64;
 }
 
-// Numbers in their widths, counts, the place reached, of which nothing was sent, and the kept reply's length: refusal 2 where they break the rules.
+// A kept reply: none, or a message with its envelope.
+fn kept_ok(len: usize) -> bool
+    ensures { λ r. ⌜ r ≡ keptRight len ⌝ }
+{
+    if len == 0 {
+        return true;
+    }
+    if len < im_envelope::LENGTH {
+        return false;
+    }
+    len <= MAX_MESSAGE
+}
+
+// An exchange that was served has a reply; where none was, nothing was promised, closed or kept.
+fn served_ok(p: Progress, len: usize) -> bool
+    ensures { λ r. ⌜ r ≡ servedRight p len ⌝ }
+{
+    if p.last != 0 {
+        return FIRST_REPLY <= p.turn;
+    }
+    if p.turn != 0 {
+        return false;
+    }
+    if p.next != NOTHING {
+        return false;
+    }
+    if p.closed != 0 {
+        return false;
+    }
+    len == 0
+}
+
+// Numbers in their widths, the place reached, which is one of the request's, and of which nothing was sent, and the kept reply: refusal 2 where they break the
+// rules.
 pub fn row_ok(t: RowStanding) -> bool
     ensures { λ r. ⌜ ((row kept : _) → r ≡ rowRight (rowIn row t kept)) ⌝ }
 {
@@ -79,7 +114,7 @@ pub fn row_ok(t: RowStanding) -> bool
     if place.phase != ATTRIBUTE_PHASE {
         return false;
     }
-    if MAX_PATHS < place.path {
+    if t.asked < place.path {
         return false;
     }
     if ATTRIBUTES < place.index {
@@ -88,5 +123,8 @@ pub fn row_ok(t: RowStanding) -> bool
     if place.sent != 0 {
         return false;
     }
-    t.len <= MAX_MESSAGE
+    if !kept_ok(t.len) {
+        return false;
+    }
+    served_ok(progress, t.len)
 }
