@@ -4,15 +4,14 @@ use mathlib.Core.List.{List}
 use Prim.Native.Nat.{ℕ}
 use lib.ListN.{replicate}
 use Rattle.base_bounds.specs.Bounds.{clusterLimit}
-use Rattle.node_schema.specs.Check.{wellFormed}
-use Rattle.node_plan.specs.Check.{numbersRight}
+use Rattle.node_plan.specs.Check.{accepted}
 use Rattle.node_access.specs.declared.Grants.{Grants}
 use Rattle.server_values.specs.declared.Values.{Values}
 use Rattle.server_values.specs.Valid.{valuesRight}
 
--- a schema by the rules, first values within their limits, and values, shown texts and pages that keep theirs
+-- a plan that `start` accepts, and values, shown texts and pages that keep their rules
 unfoldable pub serverRight : List ℕ → List ℕ → List ℕ → Values → Bool
-serverRight w defaults edits v = wellFormed w && (numbersRight w && valuesRight w defaults edits v)
+serverRight w defaults edits v = accepted w defaults && valuesRight w defaults edits v
 
 -- Administer at every cluster
 abbrev pub allGranted : Grants

@@ -1,12 +1,13 @@
 -- Texts have places of their own in the page of edits.
-use mathlib.Core.Path.{_≡_, sym, ap, _∙_}
-use mathlib.Core.Bool.{Bool, true}
+use mathlib.Core.Path.{_≡_, refl, sym, ap, _∙_}
+use mathlib.Core.Bool.{Bool, true, false}
 use mathlib.Core.List.{List}
 use Prim.Native.Nat.{ℕ, zero, suc, _<_}
 use native.Mathlib.Omega.{arith}
-use borrow.Author.Tests.{eqb-true}
+use borrow.Author.Tests.{eqb-true, ltb-true, ltb-false}
+use lib.Dec.{ltb}
 use Rattle.node_schema.specs.Rows.{attributeRow, attributeCount, isText}
-use Rattle.node_schema.specs.Check.{count, rank, textCount}
+use Rattle.node_schema.specs.Check.{one, count, rank, textCount}
 use Rattle.node_schema.specs.Rules.{Rules}
 use Rattle.node_schema.proofs.RulesLaws.{from-rules}
 use Rattle.node_schema.proofs.PathLaws.{apart}
@@ -18,6 +19,17 @@ count-past p zero i l t = absurd (omega arith)
 count-past p (suc n) i l t =
     apart i n (λ m. omega (arith, count-past p n i m t)) (λ m. absurd (omega arith))
     (λ e. let q : p n ≡ true = ap p (sym e) ∙ t in rw (e, q) (omega arith))
+
+-- each number below the count is that of the places before one at which p holds
+pub of-rank : (p : ℕ → Bool) (n r : ℕ) → r < count p n → (i : ℕ) × (i < n) × (p i ≡ true) × (count p i ≡ r)
+unfolding count
+of-rank p zero r l = absurd (omega arith)
+of-rank p (suc n) r l = go (λ k. of-rank p n r k) (p n) refl (ltb r (count p n)) refl
+  where
+    go : (r < count p n → (i : ℕ) × (i < n) × (p i ≡ true) × (count p i ≡ r)) → (b : Bool) → p n ≡ b → (c : Bool) → ltb r (count p n) ≡ c → (i : ℕ) × (i < suc n) × (p i ≡ true) × (count p i ≡ r)
+    go before b t true q = let (i, k, e, m) = before (ltb-true r (count p n) q) in (i, omega arith, e, m)
+    go before true t false q = (n, omega arith, t, omega (arith, l, ltb-false r (count p n) q, ap one t))
+    go before false t false q = absurd (omega (arith, l, ltb-false r (count p n) q, ap one t))
 
 module _ (w : List ℕ) (rules : Rules w) where
   -- the first word of a text is its rank

@@ -26,6 +26,7 @@ use Rattle.server.proofs.KeptLaws.{change-kept}
 use Rattle.proof_protocol.specs.Model.{System, storeAll}
 use Rattle.proof_refinement.proofs.Bytes.{silent}
 use Rattle.proof_refinement.proofs.Server.{Serves}
+use Rattle.server.proofs.ServerLaws.{schema-of}
 use Rattle.proof_server_steps.proofs.Standing.{Standing, right-of}
 use Rattle.proof_server_steps.proofs.StoreLaws.{Stored, Holds, unmoved, stored-as}
 
@@ -56,7 +57,7 @@ module _ {g : Grants} {sent : List (List ℕ)} (here : Standing g sent) where
       put i e f =
           stored-as (n .schema) (n .defaults) (n .state .edits) (n .state .values) sys (stands .versions-fit) (stands .held) i (datumIn src new)
           (record {
-            rules = well-formed-rules (n .schema) .0 (right-of here .schema);
+            rules = well-formed-rules (n .schema) .0 (schema-of (here .server) (right-of here));
             whole = stands .valid .whole;
             right = right-of here .values;
             there = there i e;

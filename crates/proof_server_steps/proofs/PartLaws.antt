@@ -31,6 +31,7 @@ use Rattle.proof_refinement.proofs.Bytes.{reports}
 use Rattle.proof_refinement.proofs.Server.{RowAs}
 use Rattle.proof_server_parts.proofs.PartLaws.{Makes, part-made}
 use Rattle.im_writer.specs.Envelope.{cacheEdition, exchangeLimit}
+use Rattle.server.proofs.ServerLaws.{schema-of}
 use Rattle.proof_server_steps.proofs.Standing.{Standing, right-of}
 use Rattle.proof_server_steps.proofs.ServeLaws.{Serving, part-as}
 
@@ -59,7 +60,7 @@ module _ {g : Grants} {sent : List (List ℕ)} (here : Standing g sent) (words-f
     part since size = partOf (sys .clusters) x turn (readableFrom (n .schema) g (attributeCount (n .schema) - index) index) (filtersAs (n .schema) fs) since size
 
     abbrev Made : Part Datum → Type 0
-    Made = Makes (n .schema) (n .defaults) (n .state .edits) (n .state .values) g fs (sys .clusters) (right-of here .schema) (right-of here .values) (stands .versions-fit) words-fit (stands .held) x turn index
+    Made = Makes (n .schema) (n .defaults) (n .state .edits) (n .state .values) g fs (sys .clusters) (schema-of (here .server) (right-of here)) (right-of here .values) (stands .versions-fit) words-fit (stands .held) x turn index
 
     same-blocks : blocks ≡ blocksFrom (viewOf (n .schema) (n .state .values) (n .defaults) (n .state .edits) g (filterWords (n .schema) fs)) (askedFor everything ∷ []) at
     same-blocks = λ j. blocksFrom (viewOf (n .schema) (n .state .values) (n .defaults) (n .state .edits) g (judged j)) (all j) at
@@ -86,5 +87,5 @@ module _ {g : Grants} {sent : List (List ℕ)} (here : Standing g sent) (words-f
     -- A PART is made, and the server replies with it
     pub part-served : x < exchangeLimit → turn < 2 ^ 16 → (since : ℕ → ℕ) → ValidServer (withState n (withRow (n .state) row)) → (size : ℕ) × Serving here (send sys (part since size)) (replied (withRow (n .state) row))
     part-served fx ft since valid =
-        let (size, m) = part-made (n .schema) (n .defaults) (n .state .edits) (n .state .values) g fs (sys .clusters) (right-of here .schema) (right-of here .values) (stands .versions-fit) words-fit (stands .held) x turn index since fx ft in
+        let (size, m) = part-made (n .schema) (n .defaults) (n .state .edits) (n .state .values) g fs (sys .clusters) (schema-of (here .server) (right-of here)) (right-of here .values) (stands .versions-fit) words-fit (stands .held) x turn index since fx ft in
         (size, part-as here row (part since size) valid (row-as since size m))

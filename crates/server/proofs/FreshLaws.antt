@@ -1,6 +1,6 @@
--- A FRESH SIGN is valid: it keeps every rule of refusal 2, whatever its page of edits has.
+-- A FRESH SERVER is valid: it keeps every rule of refusal 2, whatever its page of edits has.
 use mathlib.Core.Path.{_≡_, refl, ap}
-use mathlib.Core.Bool.{Bool, true, _&&_}
+use mathlib.Core.Bool.{Bool, true}
 use mathlib.Core.List.{List}
 use Prim.Native.Nat.{ℕ, _*_}
 use native.Mathlib.Omega.{arith}
@@ -8,9 +8,7 @@ use lib.ListN.{length}
 use Rattle.tlv_reader.specs.Octet.{pick}
 use Rattle.node_schema.specs.Layout.{textSize}
 use Rattle.node_schema.specs.Check.{textCount}
-use Rattle.node_schema.specs.Check as Schema
-use Rattle.node_schema.proofs.BoolLaws.{left, right}
-use Rattle.node_plan.specs.Check.{numbersRight, textsRight, accepted, done, schemaRefused, checked}
+use Rattle.node_plan.specs.Check.{accepted, done, schemaRefused, checked}
 use Rattle.node_plan.specs.Rules.{SchemaRules}
 use Rattle.node_plan.proofs.RulesLaws.{check-done}
 use Rattle.server_values.specs.Fresh.{freshValues}
@@ -20,7 +18,6 @@ use Rattle.server_replies.specs.Row.{rowRight, servedRight, standingIn}
 use Rattle.server_replies.proofs.RowLaws.{right-row, kept-none}
 use Rattle.server.specs.Start.{freshRow, started}
 use Rattle.server.proofs.ServerLaws.{RightServer, right-server}
-use Rattle.server.proofs.StartLaws.{accepted-schema}
 use Rattle.server.proofs.KeptLaws.{ValidServer}
 
 pub fresh-row-right : rowRight freshRow ≡ true
@@ -41,10 +38,6 @@ module _ (w defaults : List ℕ) (h : accepted w defaults ≡ true) where
   unfolding started
   fresh-made edits = rw h
 
-  fresh-numbers : numbersRight w ≡ true
-  unfolding accepted
-  fresh-numbers = left (numbersRight w) (textsRight w defaults) (right (Schema.wellFormed w) (numbersRight w && textsRight w defaults) h)
-
   fresh-rules : SchemaRules w defaults
   unfolding checked
   fresh-rules = check-done w defaults .0 (ap (λ (b : Bool). pick b done schemaRefused) h)
@@ -52,8 +45,7 @@ module _ (w defaults : List ℕ) (h : accepted w defaults ≡ true) where
   pub fresh-valid : (edits : List ℕ) → length edits ≡ textSize * textCount w → ValidServer (fresh edits)
   fresh-valid edits size =
       let r : RightServer (made edits) = record {
-        schema = accepted-schema w defaults h;
-        numbers = fresh-numbers;
+        plan = h;
         values = fresh-right w defaults fresh-rules edits size;
         row = fresh-row-right;
       } in

@@ -33,7 +33,7 @@ use Rattle.im_exchange.specs.declared.Action.the-variants.{Status, Read, Write,
 use Rattle.server.specs.State.{serverRight}
 use Rattle.server.specs.Start.{alteredBy}
 use Rattle.server.specs.Receive.{closing, reacted, received}
-use Rattle.server.proofs.ServerLaws.{RightServer, server-right, right-server}
+use Rattle.server.proofs.ServerLaws.{RightServer, server-right, right-server, schema-of}
 use Rattle.server.proofs.StartLaws.{altered-right}
 use Rattle.server.proofs.StepLaws.{Taken}
 use Rattle.server.proofs.ReceivedLaws.{received-holds}
@@ -64,7 +64,7 @@ module _ (s : Server) (valid : ValidServer s) where
   parts = server-right s (valid .right)
 
   rules : Rules (s .schema)
-  rules = well-formed-rules (s .schema) .0 (parts .schema)
+  rules = well-formed-rules (s .schema) .0 (schema-of s parts)
 
   held-right : Right (s .schema) (s .defaults) (heldBy (s .state))
   held-right = record { whole = valid .whole; right = parts .values }
@@ -74,7 +74,7 @@ module _ (s : Server) (valid : ValidServer s) where
   moved u r h =
       record {
         whole = r .whole;
-        right = right-server (withState s u) (record { schema = parts .schema; numbers = parts .numbers; values = r .right; row = h });
+        right = right-server (withState s u) (record { plan = parts .plan; values = r .right; row = h });
       }
 
   with-row : (x : ExchangeRow) → rowRight x ≡ true → ValidServer (withState s (withRow (s .state) x))

@@ -16,7 +16,7 @@ use Rattle.im_writer.specs.Envelope.{bigNumber, exchangeLimit}
 use Rattle.node_schema.specs.Layout.{subjectWord, textSize}
 use Rattle.node_schema.specs.Check.{wellFormed, textCount}
 use Rattle.node_schema.proofs.BoolLaws.{left, right, by-test}
-use Rattle.node_plan.specs.Check.{numbersRight}
+use Rattle.node_plan.specs.Check.{accepted}
 use Rattle.im_exchange.specs.declared.Step.{Step}
 use Rattle.server_values.specs.Valid.{valuesRight}
 use Rattle.server_values.proofs.ValidLaws.{edits-size}
@@ -26,17 +26,17 @@ use Rattle.server_replies.specs.Row.{rowRight}
 use Rattle.im_exchange.specs.declared.Action.{Action}
 use Rattle.im_exchange.specs.Rules.{actionOf}
 use Rattle.server.specs.State.{serverRight}
+use Rattle.server.proofs.ServerLaws.{server-right, schema-of}
 use Rattle.server.specs.Receive.{refusal, silence, stepOf, reacted, inEnvelope, received, forServer, byAction}
 
 -- what a valid server has
 module _ (s : Server) (h : serverRight s ≡ true) where
   pub right-schema : wellFormed (s .schema) ≡ true
-  unfolding serverRight
-  right-schema = left _ _ h
+  right-schema = schema-of s (server-right s h)
 
   rest : (valuesRight (s .schema) (s .defaults) (s .state .edits) (s .state .values) && rowRight (s .state .row)) ≡ true
   unfolding serverRight
-  rest = right (numbersRight (s .schema)) _ (right (wellFormed (s .schema)) _ h)
+  rest = right (accepted (s .schema) (s .defaults)) _ h
 
   pub right-values : valuesRight (s .schema) (s .defaults) (s .state .edits) (s .state .values) ≡ true
   right-values = left _ _ rest

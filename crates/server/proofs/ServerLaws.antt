@@ -3,22 +3,22 @@ use mathlib.Core.Path.{_≡_, refl}
 use mathlib.Core.Bool.{Bool, true, false, _&&_}
 use Rattle.node_schema.specs.Check as Schema
 use Rattle.node_schema.proofs.BoolLaws.{both, left, right}
-use Rattle.node_plan.specs.Check.{numbersRight}
+use Rattle.node_plan.specs.Check.{numbersRight, textsRight, accepted}
 use Rattle.server_values.specs.Valid.{heldRight, valuesRight}
 use Rattle.server_replies.specs.Server.{Server}
 use Rattle.server_replies.specs.Row.{rowRight}
 use Rattle.server.specs.State.{serverRight}
 
--- five tests, the middle three taken together
-grouped : (a b c d e : Bool) → ((a && b) && (c && (d && e))) ≡ (a && ((b && (c && d)) && e))
-grouped false b c d e = refl
-grouped true false c d e = refl
-grouped true true true d e = refl
-grouped true true false d e = refl
+-- the plan's tests and the others, those of the values taken together
+grouped : (a b c d e f : Bool) → (((a && b) && (c && d)) && (e && f)) ≡ (a && ((b && (c && (d && e))) && f))
+grouped false b c d e f = refl
+grouped true false c d e f = refl
+grouped true true false d e f = refl
+grouped true true true false e f = refl
+grouped true true true true e f = refl
 
 pub record RightServer (s : Server) : Type 0 where
-  pub schema : Schema.wellFormed (s .schema) ≡ true
-  pub numbers : numbersRight (s .schema) ≡ true
+  pub plan : accepted (s .schema) (s .defaults) ≡ true
   pub values : valuesRight (s .schema) (s .defaults) (s .state .edits) (s .state .values) ≡ true
   pub row : rowRight (s .state .row) ≡ true
 
@@ -26,20 +26,24 @@ module _ (s : Server) where
   pub server-right : serverRight s ≡ true → RightServer s
   unfolding serverRight
   server-right h =
-      let t₀ = Schema.wellFormed (s .schema) in
-      let t₁ = numbersRight (s .schema) in
-      let t₂ = valuesRight (s .schema) (s .defaults) (s .state .edits) (s .state .values) in
-      let t₃ = rowRight (s .state .row) in
-      let h₁ = right t₀ (t₁ && (t₂ && t₃)) h in
-      let h₂ = right t₁ (t₂ && t₃) h₁ in
-      record { schema = left t₀ (t₁ && (t₂ && t₃)) h; numbers = left t₁ (t₂ && t₃) h₁; values = left t₂ t₃ h₂; row = right t₂ t₃ h₂ }
+      let t₀ = accepted (s .schema) (s .defaults) in
+      let t₁ = valuesRight (s .schema) (s .defaults) (s .state .edits) (s .state .values) in
+      let t₂ = rowRight (s .state .row) in
+      let h₁ = right t₀ (t₁ && t₂) h in
+      record { plan = left t₀ (t₁ && t₂) h; values = left t₁ t₂ h₁; row = right t₁ t₂ h₁ }
 
-  -- as the code tests it: ranks, first values and values together
-  pub as-tested : serverRight s ≡ (Schema.columnsRight (s .schema) && ((Schema.ranksRight (s .schema) && (numbersRight (s .schema) && heldRight (s .schema) (s .defaults) (s .state .edits) (s .state .values .words) (s .state .values .nulls) (s .state .values .texts))) && rowRight (s .state .row)))
-  unfolding serverRight Schema.wellFormed valuesRight
+  -- as the code tests it: ranks, first values, factory texts and values together
+  pub as-tested : serverRight s ≡ (Schema.columnsRight (s .schema) && ((Schema.ranksRight (s .schema) && (numbersRight (s .schema) && (textsRight (s .schema) (s .defaults) && heldRight (s .schema) (s .defaults) (s .state .edits) (s .state .values .words) (s .state .values .nulls) (s .state .values .texts)))) && rowRight (s .state .row)))
+  unfolding serverRight accepted Schema.wellFormed valuesRight
   as-tested =
-      grouped (Schema.columnsRight (s .schema)) (Schema.ranksRight (s .schema)) (numbersRight (s .schema)) (heldRight (s .schema) (s .defaults) (s .state .edits) (s .state .values .words) (s .state .values .nulls) (s .state .values .texts)) (rowRight (s .state .row))
+      grouped (Schema.columnsRight (s .schema)) (Schema.ranksRight (s .schema)) (numbersRight (s .schema)) (textsRight (s .schema) (s .defaults)) (heldRight (s .schema) (s .defaults) (s .state .edits) (s .state .values .words) (s .state .values .nulls) (s .state .values .texts)) (rowRight (s .state .row))
 
   pub right-server : RightServer s → serverRight s ≡ true
   unfolding serverRight
-  right-server r = both _ _ (r .schema) (both _ _ (r .numbers) (both _ _ (r .values) (r .row)))
+  right-server r = both _ _ (r .plan) (both _ _ (r .values) (r .row))
+
+  -- the schema by itself
+  module _ (r : RightServer s) where
+    pub schema-of : Schema.wellFormed (s .schema) ≡ true
+    unfolding accepted
+    schema-of = left (Schema.wellFormed (s .schema)) _ (r .plan)

@@ -2,8 +2,7 @@
 use mathlib.Core.Bool.{Bool, _&&_}
 use mathlib.Core.List.{List}
 use Prim.Native.Nat.{ℕ}
-use Rattle.node_schema.specs.Check as Schema
-use Rattle.node_plan.specs.Check.{numbersRight}
+use Rattle.node_plan.specs.Check.{accepted}
 use Rattle.server_values.specs.Valid.{valuesRight}
 use Rattle.server_writes.specs.Offer.{HeldValues}
 use Rattle.server_replies.specs.Server.{ServerState, Server, stateWith, serverWith}
@@ -16,8 +15,8 @@ stateIn h row kept = stateWith h (rowOf row kept)
 abbrev pub serverIn : List ℕ → List ℕ → HeldValues → List ℕ → List ℕ → Server
 serverIn w defaults h row kept = serverWith w defaults h (rowOf row kept)
 
--- schema words that break the plan's rules count as state
+-- refusal 2: the plan is one that `start` accepts, factory texts included; the values, the page of edits and the row keep their rules
 unfoldable pub serverRight : Server → Bool
 serverRight s =
-    Schema.wellFormed (s .schema)
-    && (numbersRight (s .schema) && (valuesRight (s .schema) (s .defaults) (s .state .edits) (s .state .values) && rowRight (s .state .row)))
+    accepted (s .schema) (s .defaults)
+    && (valuesRight (s .schema) (s .defaults) (s .state .edits) (s .state .values) && rowRight (s .state .row))

@@ -6,7 +6,7 @@ use Prim.Native.Nat.{ℕ, _+_, _*_, _-_, _≤_, _<_, min}
 use native.Mathlib.Omega.{arith}
 use borrow.Author.Tests.{le-leb, lt-leb, leb-true, eqb-true, eq-eqb, ne-eqb}
 use lib.Dec.{eqb, leb}
-use lib.ListN.{length, getD, take, drop}
+use lib.ListN.{length, getD, take, drop, getD-replicate}
 use Rattle.base_bounds.specs.Bounds.{textMax}
 use Rattle.base_utf8.specs.WellFormed.{wellFormed}
 use Rattle.base_utf8.specs.Bytewise.{allBelow}
@@ -17,13 +17,13 @@ use Rattle.node_schema.specs.Rows.{attributeRow, attributeCount, isText, factor
 use Rattle.node_schema.specs.Check.{every, rank, rankRight, ranksRight, textCount}
 use Rattle.node_schema.proofs.BoolLaws.{both, left, right, past, fails, by-test, same}
 use Rattle.node_schema.proofs.CheckLaws.{every-next, every-at, every-all, every-fails, no-text}
-use Rattle.node_schema.proofs.TextLaws.{count-past}
-use Rattle.node_plan.specs.Check.{numberRight, numbersRight}
+use Rattle.node_schema.proofs.TextLaws.{count-past, of-rank}
+use Rattle.node_plan.specs.Check.{numberRight, numbersRight, factoryRight, textsRight}
 use Rattle.node_plan.specs.Pages.{place, unchanged, shownText}
 use Rattle.node_plan.proofs.PageLaws.{part-whole}
 use Rattle.server_values.specs.Values.{rankText, rankLength, markAt}
 use Rattle.server_values.specs.Valid.{markMax, textRight, heldRight, valuesRight}
-use Rattle.server_values.specs.Quick.{some, someNull, someText, textRoom, plainPage, startIn, lengthIn, formedAt, near, nearAt, nullAt, numberQuick, quickAt, allQuick, quickRight}
+use Rattle.server_values.specs.Quick.{some, someNull, someText, textRoom, plainPage, startIn, lengthIn, formedAt, near, nearAt, unmarked, nullAt, numberQuick, quickAt, allQuick, quickRight}
 use Rattle.server_values.proofs.ValueLaws.{mark-there}
 use Rattle.server_values.proofs.ValidLaws.{withinLimits, and-true, whole-text, text-null, text-there, number-row, text-first, text-within, text-right, heldOf, bothAt, right-done}
 
@@ -85,41 +85,46 @@ module _ (w page texts : List ℕ) (factory : Bool) (r : ℕ) where
   pub formed-other : Bool·beq (unchanged (getD texts r 0)) factory ≡ false → formedAt w page texts factory r ≡ true
   formed-other t = rw t
 
+-- a factory text is asked for, whatever its mark
+factory-formed : (w defaults : List ℕ) (r : ℕ) → r < textLimit → formedAt w defaults unmarked true r ≡ true → wellFormed (take (factoryLength w r) (drop (factoryStart w r) defaults)) ≡ true
+factory-formed w defaults r l d = let e : getD unmarked r 0 ≡ 0 = getD-replicate textLimit r 0 0 l in rw e at d
+
 -- so the text of a rank is well-formed
-rank-formed : (w defaults edits texts : List ℕ) (r : ℕ) → formedAt w defaults texts true r ≡ true → formedAt w edits texts false r ≡ true → wellFormed (rankText w defaults edits r (getD texts r 0)) ≡ true
+rank-formed : (w defaults edits texts : List ℕ) (r : ℕ) → wellFormed (take (factoryLength w r) (drop (factoryStart w r) defaults)) ≡ true → formedAt w edits texts false r ≡ true → wellFormed (rankText w defaults edits r (getD texts r 0)) ≡ true
 unfolding shownText
 rank-formed w defaults edits texts r d e =
-    by-test (eqb (getD texts r 0) 0) (λ t. rw t (rw t at d)) (λ t. rw t (rw t at e))
+    by-test (eqb (getD texts r 0) 0) (λ t. rw t d) (λ t. rw t (rw t at e))
 
 -- ---- the text of a rank, where it is well-formed and the page of edits has room for it
 
 module _ (w defaults edits : List ℕ) (r mark : ℕ) (h : near (factoryStart w r) (factoryLength w r) mark (length defaults) ≡ true) where
-  near-factory : eqb mark 0 ≡ true → (leb (factoryLength w r) (min (length defaults) textMax) && leb (factoryStart w r) (length defaults - factoryLength w r)) ≡ true
-  near-factory t = rw t at h
-
-  near-changed : eqb mark 0 ≡ false → leb mark markMax ≡ true
-  near-changed t = rw t at h
-
   near-mark : mark ≤ markMax
-  near-mark = by-test (eqb mark 0) (λ t. omega (arith, eqb-true mark 0 t)) (λ t. leb-true mark markMax (near-changed t))
+  near-mark = leb-true mark markMax (left _ _ h)
+
+  near-factory : (leb (factoryLength w r) (min (length defaults) textMax) && leb (factoryStart w r) (length defaults - factoryLength w r)) ≡ true
+  near-factory = right (leb mark markMax) _ h
+
+  factory-short : factoryLength w r ≤ min (length defaults) textMax
+  factory-short = leb-true (factoryLength w r) (min (length defaults) textMax) (left _ _ near-factory)
+
+  factory-inside : factoryStart w r ≤ length defaults - factoryLength w r
+  factory-inside = leb-true (factoryStart w r) (length defaults - factoryLength w r) (right (leb (factoryLength w r) (min (length defaults) textMax)) _ near-factory)
 
   near-length : rankLength w r mark ≤ textMax
-  near-length =
-      by-test (eqb mark 0) (λ t. rw t (omega (arith, leb-true (factoryLength w r) (min (length defaults) textMax) (left _ _ (near-factory t)))))
-      (λ t. rw t (omega (arith, leb-true mark markMax (near-changed t))))
+  near-length = by-test (eqb mark 0) (λ t. rw t (omega (arith, factory-short))) (λ t. rw t (omega (arith, near-mark)))
+
+  -- its factory text is right where it is well-formed
+  near-accepted : wellFormed (take (factoryLength w r) (drop (factoryStart w r) defaults)) ≡ true → factoryRight defaults (factoryStart w r) (factoryLength w r) ≡ true
+  unfolding factoryRight
+  near-accepted f = both _ _ (le-leb (factoryLength w r) textMax (omega (arith, factory-short))) (both _ _ (le-leb (factoryStart w r + factoryLength w r) (length defaults) (omega (arith, factory-short, factory-inside))) f)
 
   module _ (s : textSize * (r + 1) ≤ length edits) where
     near-whole : eqb (length (rankText w defaults edits r mark)) (rankLength w r mark) ≡ true
     unfolding shownText
     near-whole =
         by-test (eqb mark 0)
-        (λ t.
-        let n = leb-true (factoryLength w r) (min (length defaults) textMax) (left _ _ (near-factory t)) in
-        let m = leb-true (factoryStart w r) (length defaults - factoryLength w r) (right (leb (factoryLength w r) (min (length defaults) textMax)) _ (near-factory t)) in
-        rw t (sym (part-whole (factoryLength w r) (factoryStart w r) defaults) ∙ le-leb (factoryLength w r) (length defaults - factoryStart w r) (omega (arith, n, m))))
-        (λ t.
-        let n = leb-true mark markMax (near-changed t) in
-        rw t (sym (part-whole (mark - 1) (place r) edits) ∙ le-leb (mark - 1) (length edits - place r) (omega (arith, n, s))))
+        (λ t. rw t (sym (part-whole (factoryLength w r) (factoryStart w r) defaults) ∙ le-leb (factoryLength w r) (length defaults - factoryStart w r) (omega (arith, factory-short, factory-inside))))
+        (λ t. rw t (sym (part-whole (mark - 1) (place r) edits) ∙ le-leb (mark - 1) (length edits - place r) (omega (arith, near-mark, s))))
 
     pub near-right : wellFormed (rankText w defaults edits r mark) ≡ true → (isNull : Bool) → textRight w defaults edits r isNull mark ≡ true
     near-right f true = sym (text-null w defaults edits r mark true near-mark refl)
@@ -132,16 +137,16 @@ module _ (w defaults edits : List ℕ) (r mark : ℕ) (h : near (factoryStart w 
 
 -- the tests of a text, as the code makes them
 module _ (low n mark len : ℕ) where
-  pub near-edited : (mark ≡ 0 → ⊥) → leb mark markMax ≡ near low n mark len
-  near-edited e = rw (ne-eqb mark 0 e)
+  pub near-high : markMax < mark → false ≡ near low n mark len
+  near-high e = rw (lt-leb mark markMax e)
 
-  module _ (e : mark ≡ 0) where
+  module _ (e : mark ≤ markMax) where
     pub near-long : textMax < n → false ≡ near low n mark len
-    near-long l = rw (eq-eqb mark 0 e, lt-leb n (min len textMax) (omega arith))
+    near-long l = rw (le-leb mark markMax e, lt-leb n (min len textMax) (omega arith))
 
     pub near-short : n ≤ textMax → leb (low + n) len ≡ near low n mark len
     near-short l =
-        rw (eq-eqb mark 0 e)
+        rw (le-leb mark markMax e)
         (same (leb (low + n) len) (leb n (min len textMax) && leb low (len - n))
         (λ h. let u = leb-true (low + n) len h in both _ _ (le-leb n (min len textMax) (omega (arith, u, l))) (le-leb low (len - n) (omega (arith, u))))
         (λ h.
@@ -208,12 +213,12 @@ module _ (w defaults edits words : List ℕ) (nulls : List Bool) (texts : List �
   unfolding quickRight
   null = every-at (nullAt w words nulls) (attributeCount w) (left _ _ q)
 
-  pages : (every (formedAt w defaults texts true) (textRoom (length edits)) && (every (formedAt w edits texts false) (textRoom (length edits)) && allQuick w words nulls texts (length defaults) (length edits))) ≡ true
+  pages : (every (formedAt w defaults unmarked true) (textRoom (length edits)) && (every (formedAt w edits texts false) (textRoom (length edits)) && allQuick w words nulls texts (length defaults) (length edits))) ≡ true
   unfolding quickRight
   pages = right (every (nullAt w words nulls) (attributeCount w)) _ q
 
   rest : (every (formedAt w edits texts false) (textRoom (length edits)) && allQuick w words nulls texts (length defaults) (length edits)) ≡ true
-  rest = right (every (formedAt w defaults texts true) (textRoom (length edits))) _ pages
+  rest = right (every (formedAt w defaults unmarked true) (textRoom (length edits))) _ pages
 
   passed : allQuick w words nulls texts (length defaults) (length edits) ≡ true
   passed = right (every (formedAt w edits texts false) (textRoom (length edits))) _ rest
@@ -242,17 +247,25 @@ module _ (w defaults edits words : List ℕ) (nulls : List Bool) (texts : List �
       text-rest : (eqb (getD words i 0) 0 && nearAt w texts (length defaults) (attributeRow w i .first)) ≡ true
       text-rest = right (eqb (attributeRow w i .first) (rank w i)) _ (rw t at (row i l))
 
+      inside : attributeRow w i .first < textRoom (length edits)
+      inside = omega (arith, size, first, leb-true (textCount w) textLimit (left _ _ counted))
+
+      formed : wellFormed (take (factoryLength w (attributeRow w i .first)) (drop (factoryStart w (attributeRow w i .first)) defaults)) ≡ true
+      formed = let r = attributeRow w i .first in factory-formed w defaults r (omega (arith, inside)) (every-at (formedAt w defaults unmarked true) (textRoom (length edits)) (left _ _ pages) r inside)
+
+      near-here : nearAt w texts (length defaults) (attributeRow w i .first) ≡ true
+      near-here = right (eqb (getD words i 0) 0) _ text-rest
+
       text-row-right : bothAt w defaults edits (heldOf words nulls texts) i ≡ true
       text-row-right =
           let r = attributeRow w i .first in
           let mark = markAt w texts i in
           let m = mark-there texts r (omega (arith, first, leb-true (textCount w) textLimit (left _ _ counted))) in
           let z = eqb-true (getD words i 0) 0 (left _ _ text-rest) in
-          let inside : attributeRow w i .first < textRoom (length edits) = omega (arith, size, first, leb-true (textCount w) textLimit (left _ _ counted)) in
           both _ _ (text-first w defaults edits i (getD words i 0) (getD nulls i false) mark t)
           (sym (text-right w defaults edits i (getD words i 0) (getD nulls i false) mark t (text-within w defaults edits i (getD words i 0) (getD nulls i false) mark t (null i l) z) z)
-          ∙ rw m (near-right w defaults edits r (getD texts r 0) (right (eqb (getD words i 0) 0) _ text-rest) (omega (arith, size, first))
-          (rank-formed w defaults edits texts r (every-at (formedAt w defaults texts true) (textRoom (length edits)) (left _ _ pages) r inside) (every-at (formedAt w edits texts false) (textRoom (length edits)) (left _ _ rest) r inside))
+          ∙ rw m (near-right w defaults edits r (getD texts r 0) near-here (omega (arith, size, first))
+          (rank-formed w defaults edits texts r formed (every-at (formedAt w edits texts false) (textRoom (length edits)) (left _ _ rest) r inside))
           (getD nulls i false)))
 
     row-right : bothAt w defaults edits (heldOf words nulls texts) i ≡ true
@@ -260,9 +273,21 @@ module _ (w defaults edits words : List ℕ) (nulls : List Bool) (texts : List �
         by-test (isText (attributeRow w i)) text-row-right
         (λ t. sym (number-row w defaults edits i (getD words i 0) (getD nulls i false) (markAt w texts i) t) ∙ (rw t at (row i l)))
 
+  -- the factory text of each rank, which is some attribute's
+  factory-texts : textsRight w defaults ≡ true
+  unfolding textsRight
+  factory-texts =
+      every-all (λ r. factoryRight defaults (factoryStart w r) (factoryLength w r)) (textCount w)
+      (λ r l.
+      let (i, k, t, e) = of-rank (λ j. isText (attributeRow w j)) (attributeCount w) r l in
+      let f : attributeRow w i .first ≡ r = eqb-true (attributeRow w i .first) (rank w i) (rw t at (row-rank i k)) ∙ e in
+      ap (λ (m : ℕ). factoryRight defaults (factoryStart w m) (factoryLength w m)) (sym f)
+      ∙ near-accepted w defaults edits (attributeRow w i .first) (getD texts (attributeRow w i .first) 0) (near-here i k t) (formed i k t))
+
   -- WHAT THE QUICK TEST PASSES IS RIGHT
-  pub quick-right : true ≡ (ranksRight w && (numbersRight w && heldRight w defaults edits words nulls texts))
+  pub quick-right : true ≡ (ranksRight w && (numbersRight w && (textsRight w defaults && heldRight w defaults edits words nulls texts)))
   unfolding valuesRight
   quick-right =
+      let k = sym (right-done w defaults edits (heldOf words nulls texts) size (every-all (bothAt w defaults edits (heldOf words nulls texts)) (attributeCount w) row-right)) in
       sym (both (ranksRight w) _ (both _ _ (every-all (rankRight w) (attributeCount w) row-rank) (left _ _ counted))
-      (sym (right-done w defaults edits (heldOf words nulls texts) size (every-all (bothAt w defaults edits (heldOf words nulls texts)) (attributeCount w) row-right))))
+      (both (numbersRight w) _ (left (numbersRight w) _ k) (both (textsRight w defaults) _ factory-texts (right (numbersRight w) _ k))))

@@ -1,10 +1,10 @@
--- The quick test of what is held: every text of a page is valid, null or not, and each row passes a few comparisons. What it passes is right
+-- The quick test of what is held: every factory text and every changed text is valid, null or not, and each row passes a few comparisons. What it passes is right
 -- (proofs/QuickLaws.antt); what it does not pass is looked at closely.
 use mathlib.Core.Bool.{Bool, true, false, not, _&&_, _||_, Bool·beq}
 use mathlib.Core.List.{List}
 use Prim.Native.Nat.{ℕ, _*_, _-_, _/_, min}
 use lib.Dec.{eqb, leb, ltb}
-use lib.ListN.{length, getD, take, drop}
+use lib.ListN.{length, getD, take, drop, replicate}
 use Rattle.base_bounds.specs.Bounds.{textMax}
 use Rattle.tlv_reader.specs.Octet.{pick}
 use Rattle.base_utf8.specs.WellFormed.{wellFormed}
@@ -59,10 +59,14 @@ longTexts texts n = count (λ r. ltb 101 (getD texts r 0)) n
 abbrev pub wholeLimit : List ℕ → Bool → ℕ → ℕ
 wholeLimit texts factory n = pick factory (textLimit * textSize) (2 * textSize * longTexts texts n)
 
--- a text lies in its page: a factory text, of n bytes at low, in the len bytes of the page of defaults; a changed one by its mark, since the page of edits
+-- a text lies in its pages: its factory text, of n bytes at low, in the len bytes of the page of defaults; a changed one by its mark, since the page of edits
 -- has room for every text
 abbrev pub near : ℕ → ℕ → ℕ → ℕ → Bool
-near low n mark len = pick (unchanged mark) (leb n (min len textMax) && leb low (len - n)) (leb mark markMax)
+near low n mark len = leb mark markMax && (leb n (min len textMax) && leb low (len - n))
+
+-- marks as where no text was changed: of the factory page every text is asked for, changed or not
+abbrev pub unmarked : List ℕ
+unmarked = replicate textLimit 0
 
 -- a null is one that attribute i allows, and stored as 0
 abbrev pub nullAt : List ℕ → List ℕ → List Bool → ℕ → Bool
@@ -93,5 +97,5 @@ unfoldable pub quickRight : List ℕ → List ℕ → List ℕ → List ℕ → 
 unfolding allQuick
 quickRight w defaults edits words nulls texts =
     every (nullAt w words nulls) (attributeCount w)
-    && (every (formedAt w defaults texts true) (textRoom (length edits))
+    && (every (formedAt w defaults unmarked true) (textRoom (length edits))
     && (every (formedAt w edits texts false) (textRoom (length edits)) && allQuick w words nulls texts (length defaults) (length edits)))

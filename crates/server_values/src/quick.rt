@@ -37,12 +37,12 @@ fn some_null(nulls: &[bool; ATTRIBUTES], n: usize) -> bool
     found
 }
 
-// Whether the page that a text is shown from has it, where its factory text is this part (start, length) of a page of len bytes.
+// Whether its pages have a text, where its factory text is this part (start, length) of a page of len bytes.
 fn is_near(factory: u64, mark: u16, len: u64) -> bool
     ensures { λ r. ⌜ r ≡ near (factory / half) (factory % half) mark len ⌝ }
 {
-    if mark != 0 {
-        return mark <= MARK_MAX;
+    if MARK_MAX < mark {
+        return false;
     }
     let n = factory % HALF;
     if n > TEXT_MAX as u64 {
@@ -158,7 +158,7 @@ pub fn all_quick<'a>(
     size == TEXT_SIZE * rank
 }
 
-// The quick test: nulls, then the texts of each page, null or not, then the rows.
+// The quick test: nulls, then every factory text, changed or not, and every changed text, null or not, then the rows.
 pub fn is_quick<'a>(
     w: &'a [u64; WORDS],
     defaults: &'a [u8],
@@ -173,11 +173,12 @@ pub fn is_quick<'a>(
     if !nulls_ok(w, words, nulls, n) {
         return false;
     }
-    let shown = text_room(edits.len());
-    if !is_fit(w, defaults, texts, shown, true) {
+    let room = text_room(edits.len());
+    let unmarked = [0u16; TEXTS];
+    if !is_fit(w, defaults, &unmarked, room, true) {
         return false;
     }
-    if !is_fit(w, edits, texts, shown, false) {
+    if !is_fit(w, edits, texts, room, false) {
         return false;
     }
     all_quick(w, words, nulls, texts, defaults.len() as u64, edits.len())

@@ -7,7 +7,7 @@ ghost use lib.ListN.{take, drop};
 ghost use Rattle.base_bounds.specs.Bounds.{attributeLimit};
 ghost use Rattle.node_schema.specs.Layout.{textLimit};
 ghost use Rattle.node_schema.specs.Check.{ranksRight};
-ghost use Rattle.node_plan.specs.Check.{numbersRight};
+ghost use Rattle.node_plan.specs.Check.{numbersRight, textsRight};
 ghost use Rattle.server_values.specs.Values.{markAt, rankText, rankLength};
 ghost use Rattle.server_values.specs.Valid.{shownRight, shownAt, allShown, heldRight};
 use super::mark_of;
@@ -17,6 +17,7 @@ use super::quick::is_quick;
 use super::quick::nulls_ok;
 use base_bounds::ATTRIBUTES;
 use base_bounds::TEXT_MAX;
+use node_plan::first::texts_ok;
 use node_plan::pages::part;
 use node_plan::pages::place_of;
 use node_schema::TEXTS;
@@ -101,8 +102,8 @@ fn all_texts<'a>(
     true
 }
 
-// The same as `values_ok`, looked at closely. The rows are those of the quick test, but with every text taken for a changed one of no bytes: then nothing of
-// what is shown is compared, and the rows are judged exactly.
+// The same as `values_ok`, looked at closely: the factory texts, then the rows of the quick test, but with every text taken for a changed one of no bytes, so
+// that nothing of what is shown is compared, and the rows are judged exactly, then every shown text.
 fn all_right<'a>(
     w: &'a [u64; WORDS],
     defaults: &'a [u8],
@@ -111,20 +112,23 @@ fn all_right<'a>(
     nulls: &'a [bool; ATTRIBUTES],
     texts: &'a [u16; TEXTS],
 ) -> bool
-    ensures { λ r. ⌜ r ≡ (ranksRight (now (w .entry)) && (numbersRight (now (w .entry)) && heldRight (now (w .entry)) (now (defaults .entry)) (now (edits .entry)) (now (words .entry)) (now (nulls .entry)) (now (texts .entry)))) ⌝ }
+    ensures { λ r. ⌜ r ≡ (ranksRight (now (w .entry)) && (numbersRight (now (w .entry)) && (textsRight (now (w .entry)) (now (defaults .entry)) && heldRight (now (w .entry)) (now (defaults .entry)) (now (edits .entry)) (now (words .entry)) (now (nulls .entry)) (now (texts .entry))))) ⌝ }
 {
+    if !texts_ok(w, defaults) {
+        return false;
+    }
     let n = node_schema::attribute_count(w);
     if !nulls_ok(w, words, nulls, n) {
         return false;
     }
     let all = [1u16; TEXTS];
-    if !all_quick(w, words, nulls, &all, 0, edits.len()) {
+    if !all_quick(w, words, nulls, &all, defaults.len() as u64, edits.len()) {
         return false;
     }
     all_texts(w, defaults, edits, nulls, texts)
 }
 
-// The ranks of the schema's texts, its first numbers, and all that is held: what no other test of a server looks at.
+// The ranks of the schema's texts, its first numbers, its factory texts, and all that is held: what no other test of a server looks at.
 pub fn values_ok<'a>(
     w: &'a [u64; WORDS],
     defaults: &'a [u8],
@@ -133,7 +137,7 @@ pub fn values_ok<'a>(
     nulls: &'a [bool; ATTRIBUTES],
     texts: &'a [u16; TEXTS],
 ) -> bool
-    ensures { λ r. ⌜ r ≡ (ranksRight (now (w .entry)) && (numbersRight (now (w .entry)) && heldRight (now (w .entry)) (now (defaults .entry)) (now (edits .entry)) (now (words .entry)) (now (nulls .entry)) (now (texts .entry)))) ⌝ }
+    ensures { λ r. ⌜ r ≡ (ranksRight (now (w .entry)) && (numbersRight (now (w .entry)) && (textsRight (now (w .entry)) (now (defaults .entry)) && heldRight (now (w .entry)) (now (defaults .entry)) (now (edits .entry)) (now (words .entry)) (now (nulls .entry)) (now (texts .entry))))) ⌝ }
 {
     if is_quick(w, defaults, edits, words, nulls, texts) {
         return true;

@@ -9,7 +9,7 @@ use Rattle.server_replies.specs.declared.RowStanding.{RowStanding}
 use Rattle.server_replies.specs.Server.{serverWith}
 use Rattle.server_replies.specs.Row.{rowIn}
 use Rattle.server.specs.State.{serverRight, serverIn}
-use Rattle.server.proofs.ServerLaws.{server-right}
+use Rattle.server.proofs.ServerLaws.{server-right, schema-of}
 use Rattle.server.proofs.StartLaws.{broken-alters, right-alters}
 use borrow.Author.Needs.{needs}
 use Rattle.server.proofs.start.change.Statement.{statement}
@@ -35,7 +35,7 @@ returns : tie.Need-returns
 returns c = let a = c .before .before .before .before .before .before .before .before .before .before .args in λ kept. broken-alters (serverIn (a .w .now) (a .defaults .now) (heldOf (a .words .now) (a .nulls .now) (a .texts .now) (a .versions .now) (a .edits .now)) (a .row .now) kept) (a .endpoint) (a .cluster) (a .attribute) (a .src .now) (a .new) (sym (tested (c .before) kept) ∙ not-true _ (c .if1 .taken))
 
 change-requires : tie.Need-change-requires
-change-requires c κs = let a = c .before .before .before .before .before .before .before .before .before .before .before .before .before .before .before .args in let r = server-right (serverIn (a .w .now) (a .defaults .now) (heldOf (a .words .now) (a .nulls .now) (a .texts .now) (a .versions .now) (a .edits .now)) (a .row .now) []) (sym (tested (c .before .before .before .before .before .before) []) ∙ not-false _ (c .before .before .before .before .before .if1 .left)) in (r .schema, edits-size (a .w .now) (a .defaults .now) (a .edits .now) (valuesOf (a .words .now) (a .nulls .now) (a .texts .now) (a .versions .now)) (r .values))
+change-requires c κs = let a = c .before .before .before .before .before .before .before .before .before .before .before .before .before .before .before .args in let r = server-right (serverIn (a .w .now) (a .defaults .now) (heldOf (a .words .now) (a .nulls .now) (a .texts .now) (a .versions .now) (a .edits .now)) (a .row .now) []) (sym (tested (c .before .before .before .before .before .before) []) ∙ not-false _ (c .before .before .before .before .before .if1 .left)) in (schema-of (serverIn (a .w .now) (a .defaults .now) (heldOf (a .words .now) (a .nulls .now) (a .texts .now) (a .versions .now) (a .edits .now)) (a .row .now) []) r, edits-size (a .w .now) (a .defaults .now) (a .edits .now) (valuesOf (a .words .now) (a .nulls .now) (a .texts .now) (a .versions .now)) (r .values))
 
 same-length-2 : tie.Need-same-length-2
 same-length-2 c = search needs

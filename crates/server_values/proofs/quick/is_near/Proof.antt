@@ -1,12 +1,12 @@
 use Prim.Native.Nat.{_/_, _%_}
 use borrow.Author.Needs.{needs}
 use Rattle.node_schema.specs.Layout.{half}
-use Rattle.server_values.proofs.QuickLaws.{near-edited, near-long, near-short}
+use Rattle.server_values.proofs.QuickLaws.{near-high, near-long, near-short}
 use Rattle.server_values.proofs.quick.is_near.Statement.{statement}
 use Rattle.server_values.proofs.quick.is_near.Tie as tie
 
 returns : tie.Need-returns
-returns c = let a = c .before .args in near-edited (a .factory / half) (a .factory % half) (a .mark) (a .len) (c .if1 .taken)
+returns c = let a = c .before .args in near-high (a .factory / half) (a .factory % half) (a .mark) (a .len) (c .if1 .taken)
 
 returns-2 : tie.Need-returns-2
 returns-2 c =
