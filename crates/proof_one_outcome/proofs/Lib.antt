@@ -1,0 +1,3 @@
+pub mod AskLaws
+pub mod ServerLaws
+pub mod CacheLaws

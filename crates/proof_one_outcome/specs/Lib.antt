@@ -1,0 +1,2 @@
+pub mod ServerCalls
+pub mod CacheCalls
