@@ -1,6 +1,6 @@
 -- THE NUMBER OF A PART: 6 or 7 where a block gets it by itself, else 7 where there is no room for all.
 use mathlib.Core.Path.{_≡_, refl, sym, ap, _∙_}
-use mathlib.Core.Bool.{Bool, true, false, _&&_}
+use mathlib.Core.Bool.{_&&_}
 use mathlib.Core.List.{List, [], _∷_}
 use Prim.Native.Nat.{ℕ, zero, suc, _+_, _≤_, _<_}
 use native.Mathlib.Omega.{arith}
@@ -22,14 +22,10 @@ use Rattle.cache_report.specs.declared.block.Judgement.the-variants.{Tak
 use Rattle.cache_report.specs.declared.position.Position.{Position}
 use Rattle.cache_report.specs.declared.position.Position.the-variants.{At, Full}
 use Rattle.cache_report.specs.Entry.{positionOf, positionNumber, withItem, heldAt, heldFor, numberFor, worse}
-use Rattle.cache_report.specs.Part.{Judged}
-use Rattle.cache_report.specs.Words.{itemWords, judgementWords, judgementAt, judgementsFrom, alone, aloneAll, judgedBy, Frame, frameOf, frameAt, frameNext, positionIn, hasRoom, roomFrom, positionsFrom}
+use Rattle.cache_report.specs.Words.{itemWords, judgementAt, judgementsFrom, alone, aloneAll, judgedBy, Frame, frameOf, frameAt, frameNext, positionIn, hasRoom, roomFrom, positionsFrom}
 use Rattle.cache_report.proofs.JudgementLaws.{Mild, mild-none, mild-room, along-starts}
 use Rattle.cache_report.proofs.FrameLaws.{frame-position, frame-next}
 use Rattle.cache_report.proofs.TakeLaws.{Shown, shown, first-none, worse-none}
-
-never : {A : Type 0} → _≡_ {A = ℕ} 0 1 → A
-never e = absurd (omega arith)
 
 abbrev after : ℕ → Cached → List Judgement → ℕ
 after m c l = judgedBy (record { number = m; held = c }) l .number

@@ -116,13 +116,6 @@ pub record Narrow (s : CacheState) : Type 0 where
   pub cluster : s .asked .cluster < 2 ^ 32
   pub attribute : s .asked .attribute < 2 ^ 32
 
--- as those of a cache's words
-pub narrow-in : (clusters keys versions kinds words order lengths asked kept : List ℕ) → wordsRight asked ≡ true → Narrow (stateIn clusters keys versions kinds words order lengths asked kept)
-unfolding standingIn
-narrow-in clusters keys versions kinds words order lengths asked kept h =
-    let r = words-right asked h in
-    record { turn = r .turn; status = r .status; endpoint = r .endpoint; cluster = r .cluster; attribute = r .attribute }
-
 -- ---- the mark of a cache that is primed
 
 pub mark-same : (p : ℕ) → p ≤ 1 → pick (eqb p 1) 1 0 ≡ p

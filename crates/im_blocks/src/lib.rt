@@ -2,8 +2,8 @@
 ghost use mathlib.Core.Path.{_≡_};
 ghost use Rattle.im_blocks.specs.Path.{soundPath, pathOn, pathRead, banned, loose, askableP, exactP};
 ghost use Rattle.im_blocks.specs.Filter.{soundCluster, clusterOn, clusterRead, filterOn, filterRead};
-ghost use Rattle.im_blocks.specs.Status.{soundStatus, statusOn, statusAt, statusRead, answerOn, answerAt, answerRead};
-ghost use Rattle.im_blocks.specs.Data.{dataOn, dataRead, reportOn, reportAt, reportRead};
+ghost use Rattle.im_blocks.specs.Status.{soundStatus, statusOn, statusAt, statusRead, answerOn, answerRead};
+ghost use Rattle.im_blocks.specs.Data.{dataOn, dataRead, reportOn, reportRead};
 use im_members::ABSENT;
 use im_members::WRONG;
 use tlv_reader::Cursor;
@@ -386,16 +386,6 @@ pub fn answer_of(s: &[u8], e: Element, left: usize) -> AnswerRead
     AnswerRead::Answer(Answer { path, status }, next)
 }
 
-// The same where its head is still to be read.
-pub fn answer_at(s: &[u8], c: Cursor, left: usize) -> AnswerRead
-    ensures { λ r. ⌜ r ≡ answerRead (answerAt left (now (s .entry)) (c .at)) ⌝ }
-{
-    let Head::Found(e) = c.head(s) else {
-        return AnswerRead::BadAnswer;
-    };
-    answer_of(s, e, left)
-}
-
 // An attribute's data: its version or ABSENT, its path, and where its data stands.
 pub struct Data {
     pub version: u64,
@@ -512,14 +502,4 @@ pub fn report_of(s: &[u8], e: Element, left: usize) -> ReportRead
     let end = z.head;
     let next = end.next;
     ReportRead::Report(Report::Shown(d), next)
-}
-
-// The same where its head is still to be read.
-pub fn report_at(s: &[u8], c: Cursor, left: usize) -> ReportRead
-    ensures { λ r. ⌜ r ≡ reportRead (reportAt left (now (s .entry)) (c .at)) ⌝ }
-{
-    let Head::Found(e) = c.head(s) else {
-        return ReportRead::BadReport;
-    };
-    report_of(s, e, left)
 }

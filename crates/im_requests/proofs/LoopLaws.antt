@@ -1,16 +1,14 @@
 -- A loop over the members of an array that are all read by one reader, counted, and the first n of them stored in words: for any
 -- reader. With no room (n = 0) it only counts.
 use mathlib.Core.Path.{_≡_, refl, sym, ap, _∙_}
-use mathlib.Core.Bool.{Bool, true, false}
 use mathlib.Core.List.{List, []}
-use lib.Dec.{ltb}
 use Prim.Native.Nat.{ℕ, zero, suc, _+_, _-_, _<_, _≤_}
 use native.Mathlib.Omega.{arith}
 use lib.ListN.{length, take}
 use Rattle.base_octets.specs.Store.{store}
 use Rattle.tlv_reader.specs.declared.Cursor.{Cursor}
 use Rattle.tlv_reader.specs.declared.Element.{Element}
-use Rattle.tlv_reader.specs.Octet.{pick, array}
+use Rattle.tlv_reader.specs.Octet.{array}
 use Rattle.tlv_reader.specs.Walk.{Got, mapG, foldAt}
 use Rattle.tlv_reader.specs.Walk.Got.{got, bad}
 use Rattle.tlv_reader.proofs.FoldLaws.{Ahead, Forward}
@@ -95,11 +93,3 @@ module _ {A : Type 0} (enc : A → List ℕ) (n : ℕ) (old : List ℕ) (d : ℕ
 -- a loop that only counts
 abbrev pub counted : {A : Type 0} → A → List ℕ
 counted x = []
-
-pub loop-counts : {A : Type 0} (d : ℕ) (s : List ℕ) {read : ℕ → Got A} {on : Element → Got A} (reads : Reads d s read on) (target : Got (List A)) {count at : ℕ} → Loop counted 0 [] d s reads target count [] at → {e : Element} → itemAt array s at ≡ Member e → {a : A} {m : ℕ} → on e ≡ got a m → Loop counted 0 [] d s reads target (count + 1) [] m
-unfolding store
-loop-counts d s reads target {count} k w b = loop-goes counted 0 [] d s reads target k w b 0 (λ x. refl) (nothing-kept (ltb count 0))
-  where
-    nothing-kept : (b : Bool) → _≡_ {A = List ℕ} [] (pick b [] [])
-    nothing-kept true = refl
-    nothing-kept false = refl

@@ -245,10 +245,6 @@ module _ (s : List ℕ) where
       of-opt Wide (bindG (messageAt writeTags s) (λ seen n. place (writeFrom s seen) n))
       (bound (λ _. Unit {0}) Wide (messageAt writeTags s) (writeFrom s) (any (messageAt writeTags s)) (λ seen _. write-from seen))
 
-  -- EVERY ENTRY of a write that was read has its widths
-  pub entries-wide : (x : WriteOf ℕ) → writeIn s ≡ just x → Each WideEntry (x .entries)
-  entries-wide x e = rw e at written
-
 -- ---- as the code keeps them
 
 abbrev pub WideKept : WriteEntry → Type 0

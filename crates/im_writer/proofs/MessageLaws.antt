@@ -10,7 +10,7 @@ use Rattle.base_bounds.specs.Bounds.{maxDepth}
 use Rattle.base_octets.specs.Store.{store, Stored}
 use Rattle.base_octets.proofs.StoreLaws.{then, store-over}
 use Rattle.tlv_reader.specs.Octet.{structure, array}
-use Rattle.tlv_reader.specs.Tree.{Tree, Trees, Spells, SpellsMessage, depth, depths, stands}
+use Rattle.tlv_reader.specs.Tree.{Tree, Trees, SpellsMessage, depth, depths, stands}
 use Rattle.tlv_reader.specs.Tree.Tag.{context}
 use Rattle.tlv_reader.specs.Tree.Tree.{container}
 use Rattle.tlv_reader.specs.Walk.Got.{got}
@@ -69,10 +69,6 @@ empty-stored {o} {at} {o₁} {p} {o₂} {q} m x y = record {
   content = y .content ∙ ap (λ (b : List ℕ). store b at (spelling (messageTree (reportMembers [] m)))) (x .content) ∙ store-over o at reportOpening (spelling (messageTree (reportMembers [] m))) (omega (arith, length-opening, length-empty-report m));
   place = y .place;
 }
-
--- a block that may stand in a message, spelled as we write it
-pub listed-spells : (t : Tree) → ListedTree t → Spells t (spelling t)
-listed-spells t h = spelling-spells t (h .ours)
 
 -- WHOLE MESSAGES
 pub message-spells : (ts : Trees) → OursAll structure ts → depths ts ≤ 9 → SpellsMessage ts (spelling (messageTree ts))

@@ -57,7 +57,3 @@ module _ (s n c : ℕ) where
   level-each [] f = omega arith
   level-each (e ∷ es) f =
       omega (arith, given-bound (coversPlace e s n c) (e .privilege) (f e (List·Memᴰ·head refl) .1), level-each es (λ x m. f x (List·Memᴰ·tail m)))
-
-  -- a table that keeps the rules grants nothing above Administer
-  pub level-bound : (es : List AccessEntry) → tableOk es ≡ true → levelOf es s n c ≤ administer
-  level-bound es h = level-each es (table-exactly es .0 h .1)

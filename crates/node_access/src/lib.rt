@@ -2,17 +2,13 @@
 ghost use mathlib.Core.Path.{_≡_};
 ghost use mathlib.Core.Bool.{_||_};
 ghost use Prim.Native.Nat.{max};
-ghost use Rattle.node_access.specs.Access.{coversPlace, coversE, givenBy, privilegeOk, isGranted};
+ghost use Rattle.node_access.specs.Access.{coversPlace, givenBy, privilegeOk, isGranted};
 use base_bounds::CLUSTERS;
 
 pub mod table;
 
 // The privileges, each including those before it.
 pub const VIEW: u8 = 1;
-
-pub const OPERATE: u8 = 2;
-
-pub const MANAGE: u8 = 3;
 
 pub const ADMINISTER: u8 = 4;
 
@@ -50,17 +46,6 @@ pub fn covers_place(e: AccessEntry, subject: u64, endpoint: u64, cluster: u64) -
         return false;
     }
     any_or(e.any_cluster, e.cluster as u64 == cluster)
-}
-
-// The covered test of one entry.
-pub fn covers(e: AccessEntry, subject: u64, endpoint: u64, cluster: u64, privilege: u8) -> bool
-    ensures { λ r. ⌜ r ≡ coversE e subject endpoint cluster privilege ⌝ }
-{
-    if privilege <= e.privilege {
-        covers_place(e, subject, endpoint, cluster)
-    } else {
-        false
-    }
 }
 
 // One step of a search for the highest privilege: the level found so far, or this entry's where it covers the place and gives more.

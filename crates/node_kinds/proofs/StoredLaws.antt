@@ -1,7 +1,7 @@
 -- Laws of stored values: equal texts, what differs, what reads back, what holds.
 use mathlib.Core.Path.{_≡_, refl, sym, ap, _∙_}
 use mathlib.Core.List.{List, [], _∷_}
-use mathlib.Core.Bool.{Bool, true, false, not, _&&_}
+use mathlib.Core.Bool.{Bool, true, false, _&&_}
 use Prim.Native.Nat.{ℕ, zero, suc, _+_, _%_, _≤_, _<_}
 use native.Mathlib.Omega.{arith}
 use borrow.Author.Tests.{eq-eqb, eqb-true, lt-ltb, ltb-true, leb-true}
@@ -10,9 +10,7 @@ use lib.ListN.{take, drop}
 use mir.Syntax.{w64}
 use mir.Val.{Fits, SFits}
 use mir.ValLaws.{toZ-ofZ, ofZ-toZ}
-use denote.Enum.Declared.{tagOf}
 use Rattle.base_bounds.specs.Bounds.{textMax}
-use Rattle.tlv_reader.proofs.Value.{the-type}
 use Rattle.tlv_reader.specs.declared.Value.{Value}
 use Rattle.tlv_reader.specs.declared.Value.the-variants.{Null, Boolean, Unsigned, Signed, Float, Text, Other}
 use Rattle.base_utf8.specs.WellFormed.{wellFormed}
@@ -21,8 +19,8 @@ use Rattle.node_kinds.specs.declared.Kind.the-variants as Kinds
 use Rattle.node_kinds.specs.declared.Verdict.the-variants.{Success}
 use Rattle.node_kinds.specs.Float.{inRange}
 use Rattle.node_kinds.specs.Limits.{limited, against, againstIn, nullOf, inside, judgedIn}
-use Rattle.node_kinds.specs.Stored.{wordOf, valueFrom, held, differing, equal, nextVersion}
-use Rattle.node_kinds.proofs.LimitLaws.{Fit, fit, also-wrong, ownTag, text-verdict}
+use Rattle.node_kinds.specs.Stored.{wordOf, valueFrom, held, equal, nextVersion}
+use Rattle.node_kinds.proofs.LimitLaws.{Fit, fit, also-wrong, text-verdict}
 use Rattle.node_kinds.proofs.LimitLaws.Fit.{boolean, unsigned, signed, float, text, apart}
 
 -- ---- texts
@@ -132,14 +130,6 @@ module _ (s : List ℕ) (nullable : Bool) where
 
 -- ---- what is stored and not null is of the kind's own type
 
-pub own-type : (k : Kind) (w start : ℕ) → tagOf the-type (valueFrom k w false start) ≡ ownTag k
-unfolding valueFrom
-own-type Kinds.Boolean w start = refl
-own-type (Kinds.Unsigned l h) w start = refl
-own-type (Kinds.Signed l h) w start = refl
-own-type (Kinds.Float r) w start = refl
-own-type Kinds.Text w start = refl
-
 -- ---- what holds is allowed: it passes the limits, if a text's bytes are those of a text
 
 abbrev pub Shown : List ℕ → Kind → ℕ → ℕ → Type 0
@@ -176,23 +166,6 @@ stored-once (Kinds.Float r) nullable w false start f h = (narrow w (both (ltb w 
 stored-once Kinds.Text nullable w false start f h = (refl, refl)
 
 -- ---- a change
-
-pub same-no-change : (w : ℕ) (isNull : Bool) → differing w isNull w isNull ≡ false
-unfolding differing
-same-no-change w true = refl
-same-no-change w false = rw (eq-eqb w w refl)
-
--- where nothing differs, the same is stored
-pub no-change-same : (k : Kind) (nullable : Bool) (w : ℕ) (isNull : Bool) (w′ : ℕ) (isNull′ : Bool) → held k nullable w isNull ≡ true → held k nullable w′ isNull′ ≡ true → differing w isNull w′ isNull′ ≡ false → (w ≡ w′) × (isNull ≡ isNull′)
-unfolding held differing
-no-change-same k nullable w true w′ true g h d = (cc (eqb-true w 0 (both nullable (eqb w 0) g .1), eqb-true w′ 0 (both nullable (eqb w′ 0) h .1)), refl)
-no-change-same k nullable w true w′ false g h d = (cc, cc)
-no-change-same k nullable w false w′ true g h d = (cc, cc)
-no-change-same k nullable w false w′ false g h d = (eqb-true w w′ (unsame (eqb w w′) d), refl)
-  where
-    unsame : (b : Bool) → not b ≡ false → b ≡ true
-    unsame true e = refl
-    unsame false e = cc
 
 -- ---- versions
 

@@ -36,10 +36,6 @@ held kind nullable w isNull =
     (byKind (leb w 1) (λ low high. between low w high) (λ low high. betweenZ low (toZ w64 w) high)
     (λ r. ltb w 4294967296 && inRange r w) (leb w textMax) kind)
 
--- RULES 2.24: what counts as a change
-unfoldable pub differing : ℕ → Bool → ℕ → Bool → Bool
-differing w isNull w′ isNull′ = pick isNull (not isNull′) (pick isNull′ true (not (eqb w w′)))
-
 -- texts by their bytes
 unfoldable pub equal : List ℕ → List ℕ → Bool
 equal [] [] = true

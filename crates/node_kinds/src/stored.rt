@@ -1,11 +1,11 @@
-// Stored values: 64 bits and a null flag; whether a new one differs; the version after a change.
+// Stored values: 64 bits and a null flag; the version after a change.
 use super::Kind;
 use base_bounds::VERSIONS;
 use tlv_reader::Value;
 ghost use mathlib.Core.Path.{_≡_};
 ghost use mir.Syntax.{w64};
 ghost use mir.Val.{toZ, ofZ};
-ghost use Rattle.node_kinds.specs.Stored.{wordOf, valueFrom, differing, equal, nextVersion};
+ghost use Rattle.node_kinds.specs.Stored.{wordOf, valueFrom, equal, nextVersion};
 
 // Two's complement.
 pub fn signed_of(n: u64) -> i64
@@ -60,19 +60,6 @@ pub fn value_of(kind: Kind, word: u64, null: bool, start: usize) -> Value
             len: word as usize,
         },
     }
-}
-
-// Whether storing the new word and flag is a change, for every kind but text.
-pub fn differs(word: u64, null: bool, new_word: u64, new_null: bool) -> bool
-    ensures { λ r. ⌜ r ≡ differing word null «new_word» «new_null» ⌝ }
-{
-    if null {
-        return !new_null;
-    }
-    if new_null {
-        return true;
-    }
-    word != new_word
 }
 
 // Texts are compared by their bytes.

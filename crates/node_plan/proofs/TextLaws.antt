@@ -4,7 +4,7 @@ use mathlib.Core.Bool.{Bool, true, false}
 use mathlib.Core.List.{List}
 use Prim.Native.Nat.{ℕ, _+_, _*_, _-_, _≤_, _<_}
 use native.Mathlib.Omega.{arith}
-use borrow.Author.Tests.{eqb-true, leb-true, le-leb, ltb-true, ltb-false}
+use borrow.Author.Tests.{leb-true, ltb-true, ltb-false}
 use lib.Dec.{leb, ltb}
 use lib.ListN.{length, take, drop}
 use Rattle.base_bounds.specs.Bounds.{textMax}
@@ -14,21 +14,14 @@ use Rattle.base_octets.specs.Store.{store}
 use Rattle.node_kinds.specs.declared.Kind.the-variants as Kinds
 use Rattle.node_kinds.specs.declared.Verdict.the-variants.{Success}
 use Rattle.node_kinds.specs.Limits.{limited, inside, judgedIn}
-use Rattle.node_kinds.specs.Stored.{valueFrom}
 use Rattle.node_kinds.proofs.LimitLaws.{text-verdict, present-verdict}
-use Rattle.node_kinds.proofs.StoredLaws.{held-allowed}
 use Rattle.node_schema.specs.Layout.{textSize}
 use Rattle.node_schema.specs.Rows.{attributeRow, attributeCount, isText}
 use Rattle.node_schema.specs.Check.{textCount}
 use Rattle.node_schema.specs.Rules.{Rules}
-use Rattle.node_schema.proofs.BoolLaws.{both, left, right, by-test}
+use Rattle.node_schema.proofs.BoolLaws.{left, right, by-test}
 use Rattle.node_schema.proofs.TextLaws.{text-inside, texts-apart}
-use Rattle.node_plan.specs.Attributes.{typed, attributeOf}
 use Rattle.node_plan.specs.Pages.{place, shownText}
-use Rattle.node_plan.specs.Rules.{SchemaRules}
-use Rattle.node_plan.proofs.KindLaws.{kind-text}
-use Rattle.node_plan.proofs.FirstLaws.{text-code}
-use Rattle.node_plan.proofs.RulesLaws.{first-held, factory-rules}
 use Rattle.node_plan.proofs.PageLaws.{others-stay}
 
 -- ---- a text that passed the verdict
@@ -76,32 +69,7 @@ module _ (w : List ℕ) (rules : Rules w) where
   pub place-fits : (i n : ℕ) → TextAt w i → n ≤ textSize → place (rankOf w i) + n ≤ textSize * textCount w
   place-fits i n t short = omega (arith, text-inside w rules i (t .0) (t .1), short)
 
-  -- so one that passed the verdict does
-  pub judged-fits : (s : List ℕ) (nullable : Bool) (a n i : ℕ) → TextAt w i → judgedIn s Kinds.Text nullable (Parsed.Text a n) ≡ Success → place (rankOf w i) + n ≤ textSize * textCount w
-  judged-fits s nullable a n i t h = place-fits i n t (judged-text s nullable a n h .size)
-
   -- storing the text of one attribute leaves every other attribute's shown text as it was
   pub text-stays : (defaults edits text : List ℕ) (i j start len mark : ℕ) → TextAt w i → TextAt w j → (j ≡ i → ⊥) → length text ≤ textSize → mark ≤ textSize + 1 → shownText defaults (store edits (place (rankOf w i)) text) start len (rankOf w j) mark ≡ shownText defaults edits start len (rankOf w j) mark
   text-stays defaults edits text i j start len mark ti tj n size short =
       others-stay defaults edits (rankOf w i) text size start len (rankOf w j) mark (ranks-apart j i tj ti n) short
-
--- ---- an accepted schema: a first value passes the verdict on a new value
-
-module _ (w page : List ℕ) (rules : SchemaRules w page) (i : ℕ) where
-  typed-text : TextAt w i → (attributeOf w i .kind ≡ Kinds.Text) × (attributeOf w i .first ≡ attributeOf w i .len)
-  unfolding typed
-  typed-text t = let e : attributeRow w i .kind ≡ 4 = eqb-true _ _ (t .1) in (kind-text (attributeRow w i) e, rw e)
-
-  text-at : i < attributeCount w → attributeOf w i .kind ≡ Kinds.Text → TextAt w i
-  unfolding typed
-  text-at l k = (l, rw (text-code (attributeRow w i) k))
-
-  -- the first value, from the page of defaults, could be written
-  pub first-allowed : i < attributeCount w → judgedIn page (attributeOf w i .kind) (attributeOf w i .nullable) (valueFrom (attributeOf w i .kind) (attributeOf w i .first) false (attributeOf w i .text)) ≡ Success
-  first-allowed l =
-      held-allowed page (attributeOf w i .kind) (attributeOf w i .nullable) (attributeOf w i .first) false (attributeOf w i .text)
-      (first-held w page rules i l)
-      (λ k. let r = factory-rules w page rules i l k in
-      let n = attributeOf w i .len in
-      rw (typed-text (text-at l k) .1)
-      (both _ _ (le-leb n (length page) (omega (arith, r .inside))) (le-leb (attributeOf w i .text) (length page - n) (omega (arith, r .inside))), r .valid))

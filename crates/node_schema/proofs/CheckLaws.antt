@@ -45,11 +45,6 @@ module _ (p : ℕ → Bool) where
   count-more i = rw add-one
 
 module _ (w : List ℕ) (from : ℕ) where
-  pub rises-next : (i high : ℕ) → 0 < i → rises w from i high ≡ (ltb (word w from (i - 1)) high && rises w from (i - 1) (word w from (i - 1)))
-  unfolding rises
-  rises-next zero high l = absurd (omega arith)
-  rises-next (suc i) high l = let q : suc i - 1 ≡ i = omega arith in rw q
-
   pub rises-below : (n limit : ℕ) → rises w from n limit ≡ true → (i : ℕ) → i < n → word w from i < limit
   unfolding rises
   rises-below zero limit h i l = absurd (omega arith)

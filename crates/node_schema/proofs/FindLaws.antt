@@ -46,16 +46,6 @@ module _ (w : List ℕ) where
       (sym (none (λ j. attributeIs k a (attributeRow w j)) (attributeCount w) 0 i (attribute-search k a Nothing h b) (omega arith) (omega arith))
       ∙ both _ _ (eq-eqb _ _ p) (eq-eqb _ _ q))
 
-  -- an endpoint is there exactly if some cluster is on it
-  on-endpoint : (e : ℕ) (f : Found) → first (λ k. eqb (clusterRow w k .endpoint) e) (clusterCount w) 0 ≡ f → isFound f ≡ true → (i : ℕ) × (i < clusterCount w) × (clusterRow w i .endpoint ≡ e)
-  on-endpoint e (At i) h t =
-      let r = found (λ k. eqb (clusterRow w k .endpoint) e) (clusterCount w) 0 i h in
-      (i, omega arith, eqb-true _ _ (r .holds))
-  on-endpoint e Nothing h t = absurd (false≢true t)
-
-  pub endpoint-found : (e : ℕ) → hasEndpoint w e ≡ true → (i : ℕ) × (i < clusterCount w) × (clusterRow w i .endpoint ≡ e)
-  endpoint-found e t = on-endpoint e _ refl t
-
   off-endpoint : (e : ℕ) (f : Found) → first (λ k. eqb (clusterRow w k .endpoint) e) (clusterCount w) 0 ≡ f → isFound f ≡ false → (i : ℕ) → i < clusterCount w → clusterRow w i .endpoint ≡ e → ⊥
   off-endpoint e (At k) h t i l p = true≢false t
   off-endpoint e Nothing h t i l p =

@@ -42,12 +42,6 @@ module _ (w : List ℕ) (rules : Rules w) where
       let o = from-rules w rules .pathOrder in
       apart i j (λ l. absurd (omega (arith, o j v i l))) (λ l. absurd (omega (arith, o i u j l))) (λ q. q)
 
-  -- attributes of one cluster stand in a row
-  pub in-a-row : (i j k : ℕ) → i < j → j < k → k < attributeCount w → attributeRow w i .clusterIndex ≡ attributeRow w k .clusterIndex → attributeRow w j .clusterIndex ≡ attributeRow w k .clusterIndex
-  in-a-row i j k l m u e =
-      let o = from-rules w rules .keyOrder in
-      omega (arith, o j (omega arith) i l, o k u j m)
-
   -- the cluster of each attribute is one of the schema's
   pub cluster-there : (i : ℕ) → i < attributeCount w → attributeRow w i .clusterIndex < clusterCount w
   cluster-there i l = attribute-rules w rules i l .cluster

@@ -9,7 +9,6 @@ use lib.ListN.{length}
 use Rattle.proof_protocol.specs.Model.{ConcretePath, Entry, Node, System, select, samePlace, remaining, send, sendAgain, close, storeAll, written, setEntry, setEntries, beginRead, beginWrite, accept, awaited, receive}
 use Rattle.proof_protocol.specs.Steps.{Step, alters, beginsRead, beginsWrite, serves, receives, none, then, Reach}
 use Rattle.proof_protocol.proofs.SmallLaws.{by-cond, same-refl, mem-select, Has}
-use Rattle.proof_protocol.proofs.Inductive.{reach-inv}
 use Rattle.proof_protocol.proofs.OpenLaws.{Served, served, begin, next, again, storing, shuts, silent}
 
 -- a list that holds w, without it
@@ -76,7 +75,3 @@ module _ {Value : Type 0} where
   count (e ∷ l) ws u h =
       let x : Less (e .place) ws = less (e .place) ws (h e (List·Memᴰ·head refl)) in
       omega (arith, x .size, count l (x .remaining) (u .1) (λ d i. x .kept (d .place) (h d (List·Memᴰ·tail i)) (λ q. u .0 (d, i, q))))
-
-  -- a cache with room for what is readable has room for every part
-  pub cache-fits : (node : Node Value) {s : System Value} → Reach node s → length (s .cache .entries) ≤ length (node .readable)
-  cache-fits node {s} r = count (s .cache .entries) (node .readable) (reach-unique node r) (reach-inv node r .cache .on)

@@ -22,8 +22,8 @@ use Rattle.im_writer.specs.Spelling.{primitiveD, Each}
 use Rattle.im_writer.specs.Meaning.{PathFits}
 use Rattle.im_writer.proofs.EnvelopeLaws.{length-envelope}
 use Rattle.im_writer.proofs.SpellingLaws.{datum-back}
-use Rattle.proof_round_trip.specs.Meant.{VersionFilterFits, readOctets, readMeans, readAnswer, writeOctets, writeMeans, writeAnswer, statusOctets}
-use Rattle.proof_round_trip.proofs.BackLaws.{status-back, read-back, write-back}
+use Rattle.proof_round_trip.specs.Meant.{VersionFilterFits, readOctets, readAnswer, writeOctets, writeMeans, writeAnswer, statusOctets}
+use Rattle.proof_round_trip.proofs.BackLaws.{status-back, write-back}
 use Rattle.proof_round_trip.proofs.ReaderLaws.{read-answered, write-answered}
 use Rattle.im_exchange.specs.Rules.{statusOpcode, readOpcode, writeOpcode}
 use Rattle.im_envelope.specs.Envelope.{envelopeIn}
@@ -99,9 +99,6 @@ module _ (c : Cached) where
     read-payload : drop envelopeLength (readMessage edition exchange (filtersOf c)) ≡ readOctets (filtersOf c)
     unfolding readMessage
     read-payload = after-envelope edition readOpcode exchange 0 (readOctets (filtersOf c))
-
-    pub read-meant : readIn (drop envelopeLength (readMessage edition exchange (filtersOf c))) ≡ just (readMeans (filtersOf c))
-    read-meant = ap readIn read-payload ∙ read-back (filtersOf c) filters-fit
 
     -- with no ground to refuse it
     pub read-taken : readRead (readIn (drop envelopeLength (readMessage edition exchange (filtersOf c)))) ≡ readAnswer (filtersOf c)

@@ -103,12 +103,6 @@ module _ (l : List Block) (m : Bool) (h : Each Sent l) (page : List ℕ) (s : Ca
       ap (partTaken page s (reportOctets l m)) here
       ∙ pick-elim (λ (r : CacheReaction). r ≡ refusal 6 s page) (pastTurns (p .more) (s .asked .turn)) _ _ (λ _. refl) (λ _. rw six refl)
 
-  -- one without is never refused for a block that can't be used: all of it is taken, or there is no room (7)
-  pub values-usable : anyStatus l ≡ false → judged ≡ 6 → ⊥
-  values-usable t =
-      let (p, here, more, step) = report-taken l m h in
-      judged-not-six (reportOctets l m) l (blocksIn (reportOctets l m)) step (record { number = 0; held = s .held }) (λ q. omega (arith, q)) t
-
   -- where there is room it is taken: with more promised a success is sent, and on the last part the read has ended
   abbrev held : Cached
   held = heldAll (reportOctets l m) (s .held) (blocksIn (reportOctets l m))

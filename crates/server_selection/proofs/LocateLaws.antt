@@ -1,5 +1,5 @@
 -- Which attribute a concrete path names: case by case for the code, and that what is found has that path.
-use mathlib.Core.Path.{_≡_, refl, sym, ap, _∙_}
+use mathlib.Core.Path.{_≡_, refl, ap, _∙_}
 use mathlib.Core.Bool.{Bool, true, false}
 use mathlib.Core.List.{List}
 use Prim.Native.Nat.{ℕ, _<_}
@@ -12,10 +12,8 @@ use Rattle.node_schema.specs.Rules.{path, pathAt, Rules}
 use Rattle.node_schema.specs.Find.{findCluster, findAttribute, inCluster, hasEndpoint}
 use Rattle.node_schema.proofs.BoolLaws.{by-test}
 use Rattle.node_schema.proofs.FindLaws.{path-found, path-none, cluster-found, endpoint-none}
-use Rattle.node_schema.proofs.PathLaws.{one-path}
 use Rattle.server_selection.specs.Status.{unsupportedEndpoint, unsupportedCluster}
 use Rattle.server_selection.specs.Locate.{attributeFound, clusterFound, located}
-use Rattle.server_selection.specs.declared.locate.Located.{Located}
 use Rattle.server_selection.specs.declared.locate.Located.the-variants.{Here, Refused}
 
 module _ (w : List ℕ) (e c a : ℕ) where
@@ -71,10 +69,3 @@ module _ (w : List ℕ) (rules : Rules w) (e c a : ℕ) where
       path-none w rules e c a
       (by-test (hasEndpoint w e) (λ t. cluster-refused s (findCluster w e c) (rw t at h))
       (λ t. ap (inCluster w a) (endpoint-refused t (findCluster w e c) refl)))
-
-  located-as : (r : Located) → located w e c a ≡ r → (i : ℕ) → i < attributeCount w → pathAt w i ≡ path e c a → r ≡ Here i
-  located-as (Here j) h i l p = let q = located-here w e c a j h in ap Here (one-path w rules j i (q .0) l (q .1 ∙ sym p))
-  located-as (Refused s) h i l p = absurd (located-refused s h i l p)
-
-  pub located-every : (i : ℕ) → i < attributeCount w → pathAt w i ≡ path e c a → located w e c a ≡ Here i
-  located-every i l p = located-as (located w e c a) refl i l p

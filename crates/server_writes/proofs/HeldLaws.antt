@@ -1,5 +1,5 @@
 -- What offering, changing and writing keep: whatever storing keeps.
-use mathlib.Core.Path.{_≡_, refl, _∙_}
+use mathlib.Core.Path.{_≡_, refl}
 use mathlib.Core.Bool.{true}
 use mathlib.Core.List.{List, [], _∷_}
 use Prim.Native.Nat.{ℕ, _<_}
@@ -64,24 +64,13 @@ module _ (w defaults : List ℕ) where
   Paged n h = length (h .edits) ≡ n
 
   module _ (h : HeldValues) where
-    pub offered-length : (i : ℕ) (src : List ℕ) (new : Value) → length (offered w defaults h i src new .held .edits) ≡ length (h .edits)
-    offered-length i src new =
-        offered-holds (Paged (length (h .edits))) w defaults h src new refl i (λ e. stored-length w defaults (h .edits) (h .values) i (datumIn src new))
-
     placed-length : (src : List ℕ) (new : Value) (l : Located) → length (byPlace w defaults h src new l .held .edits) ≡ length (h .edits)
     placed-length src new l =
         placed-holds (Paged (length (h .edits))) w defaults h src new refl l (λ i e f. stored-length w defaults (h .edits) (h .values) i (datumIn src new))
 
-    pub changed-length : (e c a : ℕ) (src : List ℕ) (new : Value) → length (changed w defaults h e c a src new .held .edits) ≡ length (h .edits)
-    unfolding changed
-    changed-length e c a src new = placed-length src new (located w e c a)
-
     pub entry-length : (g : Grants) (s : List ℕ) (x : WriteEntry) → length (entryWritten w g defaults s h x .held .edits) ≡ length (h .edits)
     unfolding entryWritten
     entry-length g s x = placed-length s (valueIn s (x .place)) (mayWrite w g (h .values .versions) x)
-
-  pub held-length : (h : HeldValues) (g : Grants) (s : List ℕ) (xs : List WriteEntry) → length (heldAfter w g defaults s h xs .edits) ≡ length (h .edits)
-  held-length h g s xs = writes-hold (Paged (length (h .edits))) w defaults g s (λ k x p. entry-length k g s x ∙ p) h xs refl
 
 -- ---- and what is held keeps the rules
 
@@ -103,9 +92,6 @@ module _ (w defaults : List ℕ) (rules : Rules w) where
       record { whole = whole-kept w defaults (h .edits) (h .values) i d st; right = store-keeps w defaults (h .edits) (h .values) i d st }
 
   module _ (h : HeldValues) (right : Right w defaults h) where
-    pub offered-keeps : (i : ℕ) (src : List ℕ) (new : Value) → i < attributeCount w → Sized new → Right w defaults (offered w defaults h i src new .held)
-    offered-keeps i src new l z = offered-holds (Right w defaults) w defaults h src new right i (stored-keeps h i src new right l z)
-
     pub changed-keeps : (e c a : ℕ) (src : List ℕ) (new : Value) → Sized new → Right w defaults (changed w defaults h e c a src new .held)
     unfolding changed
     changed-keeps e c a src new z =
