@@ -7,11 +7,7 @@ use native.Mathlib.Numerals.{add-one}
 use native.Mathlib.Omega.{arith}
 use lib.ListN.{length, getD, take, drop, length-drop, take-append-drop}
 use lib.Seq.{drop-cons, drop-drop, length-take-le, getD-drop, getD-take, take-at, drop-at}
-use Rattle.base_octets.specs.Number.{numberOf, bytesOf, numberAt}
-
--- every element is a byte
-unfoldable pub Bytes : List ℕ → Type 0
-Bytes l = (k : ℕ) → k < length l → getD l k 0 < 256
+use Rattle.base_octets.specs.Number.{numberOf, bytesOf, numberAt, Bytes}
 
 -- number to bytes to number
 pub number-back : (w n : ℕ) → n < 256 ^ w → numberOf (bytesOf w n) ≡ n

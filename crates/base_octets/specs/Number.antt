@@ -1,7 +1,7 @@
 -- Little-endian numbers of any width (RULES 4.2).
-use Prim.Native.Nat.{ℕ, zero, suc, _+_, _*_, _/_, _%_, _^_}
+use Prim.Native.Nat.{ℕ, zero, suc, _+_, _*_, _/_, _%_, _^_, _<_}
 use mathlib.Core.List.{List, [], _∷_}
-use lib.ListN.{take, drop}
+use lib.ListN.{length, getD, take, drop}
 
 -- the number that a list of bytes is, the first byte the least
 unfoldable pub numberOf : List ℕ → ℕ
@@ -16,3 +16,7 @@ bytesOf (suc w) n = (n % 256) ∷ bytesOf w (n / 256)
 -- the number in the w bytes from a position on
 abbrev pub numberAt : ℕ → List ℕ → ℕ → ℕ
 numberAt w s at = numberOf (take w (drop at s))
+
+-- every element is a byte
+unfoldable pub Bytes : List ℕ → Type 0
+Bytes l = (k : ℕ) → k < length l → getD l k 0 < 256

@@ -8,7 +8,7 @@ use native.Mathlib.Numerals.{add-one}
 use borrow.Author.Tests.{eq-eqb, ne-eqb, eqb-true, ltb-true}
 use lib.ListN.{length, getD, set, replicate, List·getD-map}
 use lib.Dec.{ltb, eqb}
-use Rattle.base_octets.proofs.NumberLaws.{Bytes}
+use Rattle.base_octets.specs.Number.{Bytes}
 use Rattle.tlv_reader.specs.declared.Element.{Element}
 use Rattle.tlv_reader.specs.declared.Head.{Head}
 use Rattle.tlv_reader.specs.declared.Head.the-variants.{Found, Malformed}

@@ -6,8 +6,7 @@ use Prim.Native.Nat.{ℕ, zero, suc, _/_, _^_, _<_}
 use native.Mathlib.Omega.{arith}
 use lib.Dec.{ltb}
 use lib.ListN.{length, getD}
-use Rattle.base_octets.specs.Number.{bytesOf}
-use Rattle.base_octets.proofs.NumberLaws.{Bytes}
+use Rattle.base_octets.specs.Number.{bytesOf, Bytes}
 use Rattle.tlv_reader.specs.Octet.{pick, tagWidth, numberWidth, isString, headOctets, endOfContainer}
 use Rattle.tlv_reader.specs.Tree.{Tag, Primitive, Tree, Trees, primitiveOf, scalarOf, SpellsPrimitive, Spells, SpellsAll}
 use Rattle.tlv_reader.specs.Tree.Tree.{primitive, container}

@@ -7,8 +7,7 @@ use native.Mathlib.Omega.{arith}
 use borrow.Author.Tests.{ltb-true, ltb-false, lt-ltb}
 use lib.ListN.{length, getD}
 use lib.Dec.{ltb, eqb}
-use Rattle.base_octets.specs.Number.{numberAt}
-use Rattle.base_octets.proofs.NumberLaws.{Bytes}
+use Rattle.base_octets.specs.Number.{numberAt, Bytes}
 use Rattle.tlv_reader.specs.declared.Element.{Element}
 use Rattle.tlv_reader.specs.declared.Head.{Head}
 use Rattle.tlv_reader.specs.declared.Head.the-variants.{Found, Malformed}

@@ -7,7 +7,7 @@ use native.Mathlib.Omega.{arith}
 use borrow.Author.Tests.{le-leb, le-ltb, lt-ltb, ne-eqb}
 use lib.ListN.{length, take, drop, length-drop}
 use lib.Seq.{length-take-le}
-use Rattle.base_octets.proofs.NumberLaws.{Bytes}
+use Rattle.base_octets.specs.Number.{Bytes}
 use Rattle.tlv_reader.specs.declared.Value.{Value}
 use Rattle.tlv_reader.specs.declared.Value.the-variants as value
 use Rattle.tlv_reader.specs.Octet.{pick}

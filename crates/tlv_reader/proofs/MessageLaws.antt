@@ -10,7 +10,7 @@ use lib.ListN.{length, take, drop, take-append-drop}
 use lib.Seq.{drop-length, length-take-le}
 use lib.Dec.{ltb, eqb}
 use Rattle.base_bounds.specs.Bounds.{maxDepth}
-use Rattle.base_octets.proofs.NumberLaws.{Bytes}
+use Rattle.base_octets.specs.Number.{Bytes}
 use Rattle.tlv_reader.specs.declared.Element.{Element}
 use Rattle.tlv_reader.specs.declared.Head.{Head}
 use Rattle.tlv_reader.specs.declared.Head.the-variants.{Found, Malformed}

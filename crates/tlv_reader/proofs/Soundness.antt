@@ -9,8 +9,8 @@ use borrow.Author.Tests.{eqb-true, eqb-false, ltb-true, ltb-false, eq-eqb}
 use lib.ListN.{length, getD, take, drop, length-append, length-drop, take-append-drop}
 use lib.Seq.{drop-cons, drop-drop, length-take-le}
 use lib.Dec.{ltb, eqb}
-use Rattle.base_octets.specs.Number.{bytesOf, numberAt}
-use Rattle.base_octets.proofs.NumberLaws.{Bytes, number-split, number-fits}
+use Rattle.base_octets.specs.Number.{bytesOf, numberAt, Bytes}
+use Rattle.base_octets.proofs.NumberLaws.{number-split, number-fits}
 use Rattle.tlv_reader.specs.declared.Element.{Element}
 use Rattle.tlv_reader.specs.declared.Head.{Head}
 use Rattle.tlv_reader.specs.declared.Head.the-variants.{Found, Malformed}

@@ -8,7 +8,7 @@ use native.Mathlib.Omega.{arith}
 use borrow.Author.Tests.{eqb-true, eqb-false, ltb-true, ltb-false, le-ltb, ne-eqb}
 use lib.ListN.{length, take, drop}
 use lib.Dec.{ltb, eqb}
-use Rattle.base_octets.proofs.NumberLaws.{Bytes}
+use Rattle.base_octets.specs.Number.{Bytes}
 use Rattle.tlv_reader.specs.declared.Element.{Element}
 use Rattle.tlv_reader.specs.declared.Head.the-variants.{Found}
 use Rattle.tlv_reader.specs.declared.Value.the-variants.{Other}
