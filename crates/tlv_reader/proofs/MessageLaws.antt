@@ -3,7 +3,7 @@ use mathlib.Core.Path.{_≡_, refl, sym, ap, subst, _∙_}
 use mathlib.Core.Logic.{_↔_}
 use mathlib.Core.Bool.{Bool, true, false}
 use mathlib.Core.List.{List, [], _++_, append-nil}
-use Prim.Native.Nat.{ℕ, _+_, _<_, _≤_}
+use Prim.Native.Nat.{ℕ, _+_, _<_}
 use native.Mathlib.Omega.{arith}
 use borrow.Author.Tests.{eqb-true, eq-eqb, ltb-false}
 use lib.ListN.{length, take, drop, take-append-drop}
@@ -15,7 +15,7 @@ use Rattle.tlv_reader.specs.declared.Element.{Element}
 use Rattle.tlv_reader.specs.declared.Head.{Head}
 use Rattle.tlv_reader.specs.declared.Head.the-variants.{Found, Malformed}
 use Rattle.tlv_reader.specs.Octet.{pick, structure}
-use Rattle.tlv_reader.specs.Tree.{Tag, Tree, Trees, depth, tagOf, tagged, Spells, SpellsMessage}
+use Rattle.tlv_reader.specs.Tree.{Tag, Tree, Trees, tagOf, tagged, Spells, SpellsMessage, SpellsAt}
 use Rattle.tlv_reader.specs.Tree.Tag.{anonymous}
 use Rattle.tlv_reader.specs.Tree.Tree.{container}
 use Rattle.tlv_reader.specs.Head.{headAt, elementOf}
@@ -111,18 +111,6 @@ message-spelled s hs q =
 pub message-exact : (s : List ℕ) → Bytes s → isMessage s ≡ true ↔ ((ts : Trees) × SpellsMessage ts s)
 message-exact s hs = (message-spelled s hs, λ m. message-accepted (m .0) s (m .1))
 
--- and, at a position, exactly the spellings of some tree that nests at most so deep
-pub record SpellsAt (d : ℕ) (s : List ℕ) (at n : ℕ) : Type 0 where
-  pub tree : Tree
-  pub before : List ℕ
-  pub bytes : List ℕ
-  pub after : List ℕ
-  pub spells : Spells tree bytes
-  pub within : depth tree ≤ d
-  pub whole : s ≡ before ++ (bytes ++ after)
-  pub starts : at ≡ length before
-  pub ends : n ≡ at + length bytes
-
 element-spelled : (d : ℕ) (s : List ℕ) → Bytes s → (at n : ℕ) → elementAt d s at ≡ got tt n → SpellsAt d s at n
 element-spelled d s hs at n q = go (treeAt d s at) refl (tree-sound d s hs at)
   where
@@ -149,5 +137,6 @@ element-accepted : (d : ℕ) (s : List ℕ) (at n : ℕ) → SpellsAt d s at n �
 element-accepted d s at n w =
     end-at-tree d s at ∙ ap passed (tree-back (w .tree) d s at (w .before) (w .after) (w .bytes) (w .spells) (w .within) (w .whole) (w .starts)) ∙ ap (got tt) (sym (w .ends))
 
+-- and, at a position, exactly the spellings of some tree that nests at most so deep
 pub element-exact : (d : ℕ) (s : List ℕ) → Bytes s → (at n : ℕ) → elementAt d s at ≡ got tt n ↔ SpellsAt d s at n
 element-exact d s hs at n = (element-spelled d s hs at n, element-accepted d s at n)

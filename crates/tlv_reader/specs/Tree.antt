@@ -1,5 +1,5 @@
 -- An element as a tree, and what its legal spellings are (RULES 4). Nothing here reads.
-use Prim.Native.Nat.{ℕ, suc, _-_, _/_, _%_, _^_, _<_, _≤_, max}
+use Prim.Native.Nat.{ℕ, suc, _+_, _-_, _/_, _%_, _^_, _<_, _≤_, max}
 use mathlib.Core.Path.{_≡_}
 use mathlib.Core.List.{List, [], _∷_, _++_}
 use mathlib.Core.Bool.{Bool, true, false, not}
@@ -139,3 +139,15 @@ unfoldable mutual
 pub record SpellsMessage (ts : Trees) (bs : List ℕ) : Type 0 where
   pub spells : Spells (container anonymous structure ts) bs
   pub within : depth (container anonymous structure ts) ≤ maxDepth
+
+-- bytes from one place to another that spell some tree, which nests at most so deep
+pub record SpellsAt (d : ℕ) (s : List ℕ) (at n : ℕ) : Type 0 where
+  pub tree : Tree
+  pub before : List ℕ
+  pub bytes : List ℕ
+  pub after : List ℕ
+  pub spells : Spells tree bytes
+  pub within : depth tree ≤ d
+  pub whole : s ≡ before ++ (bytes ++ after)
+  pub starts : at ≡ length before
+  pub ends : n ≡ at + length bytes
