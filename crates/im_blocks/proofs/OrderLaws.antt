@@ -6,7 +6,8 @@ use Rattle.tlv_reader.specs.Tree.{Tag, Tree, Trees, tagOfTree}
 use Rattle.tlv_reader.specs.Tree.Tree.{container}
 use Rattle.tlv_reader.specs.Tree.Trees.{more}
 use Rattle.im_members.specs.Fields.{slotT}
-use Rattle.im_members.proofs.OrderLaws.{Reordered, inside-any-order, inside-unlisted}
+use Rattle.im_members.specs.Order.{Reordered}
+use Rattle.im_members.proofs.OrderLaws.{inside-any-order, inside-unlisted}
 use Rattle.im_blocks.specs.Path.{pathTags, pathOf, pathT}
 use Rattle.im_blocks.specs.Filter.{clusterTags, clusterOf, clusterT, pairTags, filterSlots, filterT}
 use Rattle.im_blocks.specs.Status.{statusOf, statusT, answerOf, answerT}

@@ -16,13 +16,8 @@ use Rattle.tlv_reader.specs.Decode.{Opt, bindO, foldT}
 use Rattle.tlv_reader.specs.Decode.Opt.{just, nothing}
 use Rattle.im_members.specs.Fields.{Slot, free, putT, slotT, fieldM, fieldsT, insideT}
 use Rattle.im_members.specs.Fields.Slot.{absent, present}
-
--- the same members in another order
-pub data Reordered : Trees → Trees → Type 0 where
-  same : (ts : Trees) → Reordered ts ts
-  swap : (a b : Tree) (ts : Trees) → Reordered (more a (more b ts)) (more b (more a ts))
-  skip : (t : Tree) {ts us : Trees} → Reordered ts us → Reordered (more t ts) (more t us)
-  both : {ts us vs : Trees} → Reordered ts us → Reordered us vs → Reordered ts vs
+use Rattle.im_members.specs.Order.{Reordered}
+use Rattle.im_members.specs.Order.Reordered.{same, swap, skip, both}
 
 -- a view of what putting does
 data Put (xs : List Slot) (i : ℕ) (t : Tree) : Opt (List Slot) → Type 0 where

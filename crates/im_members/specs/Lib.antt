@@ -1,4 +1,5 @@
 pub mod Fields
+pub mod Order
 pub mod Scalar
 pub mod Array
 pub mod Pass

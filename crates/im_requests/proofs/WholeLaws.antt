@@ -28,7 +28,8 @@ use Rattle.tlv_reader.proofs.MessageLaws.{message-accepted, accepted}
 use Rattle.im_members.specs.Fields.{Slot, slotT, slotIn, insideAt, insideT, insideBy, fieldsAt, fieldsT, orNone}
 use Rattle.im_members.specs.Fields.Slot.{absent}
 use Rattle.im_members.specs.Array.{mapO, optOf, requiredIn, requiredT, optionalIn, optionalT}
-use Rattle.im_members.proofs.OrderLaws.{Reordered, any-order, unlisted}
+use Rattle.im_members.specs.Order.{Reordered}
+use Rattle.im_members.proofs.OrderLaws.{any-order, unlisted}
 use Rattle.im_members.proofs.MeaningLaws.{inside-law, fields-law, at-place}
 use Rattle.im_members.proofs.ArrayLaws.{required-here, number-here, flag-here}
 use Rattle.im_requests.specs.Message.{untagged, messageAt, wholeIn, wholeT, listT, listAt}

@@ -20,7 +20,7 @@ use Rattle.im_members.specs.Fields.{slotT, slotIn}
 use Rattle.im_members.specs.Pass.{Pass, codeIn, numberBy, flagBy}
 use Rattle.im_members.specs.Scalar.{numberIn, flagIn}
 use Rattle.im_members.specs.Array.{mapO, requiredIn}
-use Rattle.im_members.proofs.OrderLaws.{Reordered}
+use Rattle.im_members.specs.Order.{Reordered}
 use Rattle.im_members.proofs.MeaningLaws.{at-place}
 use Rattle.im_members.proofs.ArrayLaws.{required-mapped, number-here, flag-here}
 use Rattle.im_members.proofs.PassLaws.{Left, Reads, number-coded, flag-coded}

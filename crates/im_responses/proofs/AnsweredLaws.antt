@@ -17,7 +17,7 @@ use Rattle.tlv_reader.specs.Decode.Opt.{just, nothing}
 use Rattle.im_members.specs.Fields.{slotT}
 use Rattle.im_members.specs.Scalar.{ABSENT, numberIn}
 use Rattle.im_members.specs.Array.{optOf, requiredIn}
-use Rattle.im_members.proofs.OrderLaws.{Reordered}
+use Rattle.im_members.specs.Order.{Reordered}
 use Rattle.im_members.proofs.ArrayLaws.{number-here, required-here}
 use Rattle.im_members.proofs.PassLaws.{Reads, then-reads}
 use Rattle.im_blocks.specs.declared.Answer.{Answer}

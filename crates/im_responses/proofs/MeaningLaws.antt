@@ -15,7 +15,7 @@ use Rattle.tlv_reader.specs.Decode.Opt.{just, nothing}
 use Rattle.im_members.specs.Fields.{slotT, slotIn}
 use Rattle.im_members.specs.Scalar.{WRONG, numberIn, flagIn}
 use Rattle.im_members.specs.Array.{mapO, optionalIn, optionalT}
-use Rattle.im_members.proofs.OrderLaws.{Reordered}
+use Rattle.im_members.specs.Order.{Reordered}
 use Rattle.im_members.proofs.MeaningLaws.{at-place}
 use Rattle.im_members.proofs.ArrayLaws.{member-mapped, number-here, flag-here}
 use Rattle.im_blocks.specs.Data.{ReportOf, reportAt, reportT, reportTree}
