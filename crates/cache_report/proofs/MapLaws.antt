@@ -14,8 +14,7 @@ use Rattle.tlv_reader.specs.declared.Value.{Value}
 use Rattle.tlv_reader.specs.declared.Value.the-variants as value
 use Rattle.tlv_reader.specs.Decode.Opt.{just}
 use Rattle.tlv_reader.specs.Value.{Datum, datumIn}
-use Rattle.node_kinds.specs.Stored.{wordOf}
-use Rattle.node_kinds.proofs.StoredLaws.{Sized}
+use Rattle.node_kinds.specs.Stored.{wordOf, Sized}
 use Rattle.node_schema.specs.declared.Found.{Found}
 use Rattle.node_schema.specs.declared.Found.the-variants as found
 use Rattle.node_schema.proofs.BoolLaws.{by-test}

@@ -15,8 +15,7 @@ use Rattle.tlv_reader.specs.declared.Value.the-variants as value
 use Rattle.tlv_reader.specs.Octet.{pick}
 use Rattle.tlv_reader.specs.Value.{valueIn}
 use Rattle.base_utf8.specs.WellFormed.{wellFormed}
-use Rattle.node_kinds.specs.Stored.{wordOf}
-use Rattle.node_kinds.proofs.StoredLaws.{Sized}
+use Rattle.node_kinds.specs.Stored.{wordOf, Sized}
 use Rattle.node_kinds.proofs.SizedLaws.{value-in-sized}
 use Rattle.im_blocks.specs.declared.Report.{Report}
 use Rattle.im_blocks.specs.declared.Report.the-variants as report

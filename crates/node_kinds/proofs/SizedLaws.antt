@@ -18,7 +18,7 @@ use Rattle.tlv_reader.specs.Walk.{headed}
 use Rattle.tlv_reader.specs.Value.{signedOf, valueOf, valueIn}
 use Rattle.tlv_reader.proofs.Picks.{pick-elim}
 use Rattle.tlv_reader.proofs.ValueLaws.{each}
-use Rattle.node_kinds.proofs.StoredLaws.{Sized}
+use Rattle.node_kinds.specs.Stored.{Sized}
 
 -- two's complement of at most 64 bits
 complement-small : (top v : ℕ) → top ≤ 18446744073709551615 → mag (complement top v) < 9223372036854775808

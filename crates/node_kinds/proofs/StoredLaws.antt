@@ -8,7 +8,7 @@ use borrow.Author.Tests.{eq-eqb, eqb-true, lt-ltb, ltb-true, leb-true}
 use lib.Dec.{leb, ltb, eqb}
 use lib.ListN.{take, drop}
 use mir.Syntax.{w64}
-use mir.Val.{Fits, SFits}
+use mir.Val.{Fits}
 use mir.ValLaws.{toZ-ofZ, ofZ-toZ}
 use Rattle.base_bounds.specs.Bounds.{textMax}
 use Rattle.tlv_reader.specs.declared.Value.{Value}
@@ -19,7 +19,7 @@ use Rattle.node_kinds.specs.declared.Kind.the-variants as Kinds
 use Rattle.node_kinds.specs.declared.Verdict.the-variants.{Success}
 use Rattle.node_kinds.specs.Float.{inRange}
 use Rattle.node_kinds.specs.Limits.{limited, against, againstIn, nullOf, inside, judgedIn}
-use Rattle.node_kinds.specs.Stored.{wordOf, valueFrom, held, equal, nextVersion}
+use Rattle.node_kinds.specs.Stored.{wordOf, valueFrom, held, equal, nextVersion, Sized}
 use Rattle.node_kinds.proofs.LimitLaws.{Fit, fit, also-wrong, text-verdict}
 use Rattle.node_kinds.proofs.LimitLaws.Fit.{boolean, unsigned, signed, float, text, apart}
 
@@ -63,16 +63,6 @@ within true h = refl
 within false h = cc
 
 -- ---- a value that passed the limits reads back as itself, a text at the place where it is shown
-
--- the numbers of a value fit their widths, as those of the code's values do
-abbrev pub Sized : Value → Type 0
-Sized Null = Unit
-Sized (Boolean b) = Unit
-Sized (Unsigned n) = Unit
-Sized (Signed z) = SFits w64 z
-Sized (Float n) = n < 4294967296
-Sized (Text a n) = Unit
-Sized Other = Unit
 
 abbrev pub shownAt : ℕ → Value → Value
 shownAt start Null = Null

@@ -1,10 +1,10 @@
 -- Stored values: 64 bits and whether it is null; changes and versions (RULES 2.24, 2.25).
 use mathlib.Core.List.{List, [], _∷_}
 use mathlib.Core.Bool.{Bool, true, false, not, _&&_, cond}
-use Prim.Native.Nat.{ℕ, _+_, _%_}
+use Prim.Native.Nat.{ℕ, _+_, _%_, _<_}
 use lib.Dec.{leb, ltb, eqb}
 use mir.Syntax.{w64}
-use mir.Val.{toZ, ofZ}
+use mir.Val.{toZ, ofZ, SFits}
 use Rattle.base_bounds.specs.Bounds.{textMax, versionLimit}
 use Rattle.tlv_reader.specs.declared.Value.{Value}
 use Rattle.tlv_reader.specs.declared.Value.the-variants.{Null, Boolean, Unsigned, Signed, Float, Text, Other}
@@ -46,3 +46,13 @@ equal (x ∷ a) (y ∷ b) = eqb x y && equal a b
 -- RULES 2.25: the version after a change
 unfoldable pub nextVersion : ℕ → ℕ
 nextVersion v = (v + 1) % versionLimit
+
+-- the numbers of a value fit their widths, as those of the code's values do
+abbrev pub Sized : Value → Type 0
+Sized Null = Unit
+Sized (Boolean b) = Unit
+Sized (Unsigned n) = Unit
+Sized (Signed z) = SFits w64 z
+Sized (Float n) = n < 4294967296
+Sized (Text a n) = Unit
+Sized Other = Unit

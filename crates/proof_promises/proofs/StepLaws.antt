@@ -16,7 +16,7 @@ use Rattle.tlv_writer.specs.Meaning.{Writable}
 use Rattle.node_schema.specs.Rules.{Rules}
 use Rattle.node_schema.proofs.RulesLaws.{well-formed-rules}
 use Rattle.node_schema.proofs.BoolLaws.{by-test}
-use Rattle.node_kinds.proofs.StoredLaws.{Sized}
+use Rattle.node_kinds.specs.Stored.{Sized}
 use Rattle.im_writer.specs.Spelling.{primitiveD}
 use Rattle.im_writer.specs.Meaning.{PathFits}
 use Rattle.im_envelope.specs.declared.Envelope.{Envelope}

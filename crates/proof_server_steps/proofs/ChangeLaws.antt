@@ -7,7 +7,7 @@ use lib.Dec.{eqb}
 use Rattle.tlv_reader.specs.declared.Value.{Value}
 use Rattle.tlv_reader.specs.Value.{Datum, datumIn}
 use Rattle.node_kinds.specs.declared.Verdict.the-variants.{Success}
-use Rattle.node_kinds.proofs.StoredLaws.{Sized}
+use Rattle.node_kinds.specs.Stored.{Sized}
 use Rattle.node_schema.specs.Rows.{attributeRow, attributeCount}
 use Rattle.node_schema.proofs.RulesLaws.{well-formed-rules}
 use Rattle.node_access.specs.declared.Grants.{Grants}

@@ -7,7 +7,7 @@ use Prim.Native.Nat.{ℕ, _*_, _^_, _≤_, _<_}
 use lib.ListN.{length, getD}
 use Rattle.tlv_reader.specs.declared.Value.{Value}
 use Rattle.tlv_reader.specs.Value.{Datum}
-use Rattle.node_kinds.proofs.StoredLaws.{Sized}
+use Rattle.node_kinds.specs.Stored.{Sized}
 use Rattle.node_schema.specs.Layout.{subjectWord, textSize}
 use Rattle.node_schema.specs.Check.{textCount}
 use Rattle.node_plan.specs.Check.{accepted}

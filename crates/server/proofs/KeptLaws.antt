@@ -9,7 +9,7 @@ use Rattle.tlv_reader.specs.declared.Value.{Value}
 use Rattle.tlv_reader.proofs.Picks.{pick-elim}
 use Rattle.im_envelope.specs.declared.Fields.{Fields}
 use Rattle.im_requests.specs.Write.{writeIn, writeRead}
-use Rattle.node_kinds.proofs.StoredLaws.{Sized}
+use Rattle.node_kinds.specs.Stored.{Sized}
 use Rattle.node_schema.specs.Rules.{Rules}
 use Rattle.node_schema.proofs.RulesLaws.{well-formed-rules}
 use Rattle.node_access.specs.declared.Grants.{Grants}

@@ -15,10 +15,10 @@ use Rattle.node_kinds.specs.declared.Kind.{Kind}
 use Rattle.node_kinds.specs.declared.Kind.the-variants as Kinds
 use Rattle.node_kinds.specs.declared.Verdict.the-variants.{Success}
 use Rattle.node_kinds.specs.Limits.{isNull, inside, against, againstIn, judgedIn}
-use Rattle.node_kinds.specs.Stored.{held}
+use Rattle.node_kinds.specs.Stored.{held, Sized}
 use Rattle.node_kinds.proofs.LimitLaws.{Fit, fit, also-wrong}
 use Rattle.node_kinds.proofs.LimitLaws.Fit.{boolean, unsigned, signed, float, text, apart}
-use Rattle.node_kinds.proofs.StoredLaws.{Sized, accepted-held}
+use Rattle.node_kinds.proofs.StoredLaws.{accepted-held}
 use Rattle.node_schema.specs.Layout.{textSize}
 use Rattle.node_plan.proofs.TextLaws.{Judged, judged-text}
 use Rattle.server_values.specs.Values.{heldDatum}

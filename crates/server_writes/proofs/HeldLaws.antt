@@ -10,7 +10,7 @@ use Rattle.tlv_reader.specs.Value.{Datum, datumIn}
 use Rattle.im_requests.specs.declared.write.WriteEntry.{WriteEntry}
 use Rattle.node_kinds.specs.declared.Verdict.{Verdict}
 use Rattle.node_kinds.specs.declared.Verdict.the-variants.{Success, ConstraintError, InvalidDataType}
-use Rattle.node_kinds.proofs.StoredLaws.{Sized}
+use Rattle.node_kinds.specs.Stored.{Sized}
 use Rattle.node_schema.specs.Rows.{attributeRow, attributeCount}
 use Rattle.node_schema.specs.Rules.{Rules}
 use Rattle.node_schema.proofs.BoolLaws.{by-test}
