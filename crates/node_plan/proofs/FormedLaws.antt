@@ -2,7 +2,7 @@
 use mathlib.Core.Path.{_≡_, refl, sym, ap, _∙_}
 use mathlib.Core.Bool.{true}
 use mathlib.Core.List.{List}
-use Prim.Native.Nat.{ℕ, zero, suc, _+_, _-_, _*_, _≤_, _<_}
+use Prim.Native.Nat.{ℕ, zero, suc, _+_, _-_, _*_, _≤_}
 use native.Mathlib.Omega.{arith}
 use borrow.Author.Tests.{eqb-true, eqb-false}
 use lib.Dec.{eqb}
@@ -16,16 +16,8 @@ use Rattle.base_utf8.proofs.Below.{ascii-formed, below-part}
 use Rattle.base_utf8.proofs.Joins.{joins}
 use Rattle.node_schema.specs.Layout.{textSize}
 use Rattle.node_schema.proofs.BoolLaws.{by-test}
-use Rattle.node_plan.specs.Pages.{place, padded}
+use Rattle.node_plan.specs.Pages.{place, padded, placed, PlacesFormed}
 use Rattle.node_plan.proofs.PageLaws.{padded-length, part-stays}
-
--- what stands in the place of a rank
-abbrev placed : List ℕ → ℕ → List ℕ
-placed edits r = take textSize (drop (place r) edits)
-
--- the first n places hold valid UTF-8
-abbrev pub PlacesFormed : List ℕ → ℕ → Type 0
-PlacesFormed edits n = (r : ℕ) → r < n → wellFormed (placed edits r) ≡ true
 
 -- ---- zeros are valid
 

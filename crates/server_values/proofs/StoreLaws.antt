@@ -21,10 +21,10 @@ use Rattle.node_schema.proofs.BoolLaws.{by-test}
 use Rattle.node_schema.proofs.PathLaws.{cluster-there}
 use Rattle.node_schema.proofs.TextLaws.{text-inside}
 use Rattle.node_plan.specs.Attributes.{kindOf}
-use Rattle.node_plan.specs.Pages.{place, padded}
+use Rattle.node_plan.specs.Pages.{place, padded, PlacesFormed}
 use Rattle.node_plan.proofs.PageLaws.{padded-length, stored-shown}
 use Rattle.node_plan.proofs.TextLaws.{place-fits, ranks-apart, text-stays}
-use Rattle.node_plan.proofs.FormedLaws.{PlacesFormed, stored-placed}
+use Rattle.node_plan.proofs.FormedLaws.{stored-placed}
 use Rattle.server_values.specs.declared.Values.{Values}
 use Rattle.server_values.specs.Values.{rankText, rankLength, markAt, textAt, shownOf, datumAt}
 use Rattle.server_values.specs.Change.{textOf, isText, wordFor, markFor, changes, setAt, editsSet, storedValues, storedEdits}
