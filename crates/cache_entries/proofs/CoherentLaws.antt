@@ -12,25 +12,17 @@ use Rattle.tlv_reader.specs.Decode.Opt.{just, nothing}
 use Rattle.node_schema.proofs.BoolLaws.{both, left, right, by-test}
 use Rattle.cache_entries.specs.declared.Cached.{Cached}
 use Rattle.cache_entries.specs.Limits.{half, noVersion}
-use Rattle.cache_entries.specs.Coherent.{versionsFrom, versionsOf, allAre, shared, coherentAt}
+use Rattle.cache_entries.specs.Coherent.{versionsFrom, versionsOf, allAre, shared, coherentAt, Of, All, Some}
 use Rattle.cache_entries.proofs.SharedLaws.{coherent-primed, coherent-unprimed}
 
 never : {A : Type 0} → _≡_ {A = ℕ} 0 1 → A
 never e = absurd (omega arith)
 
--- entry i is one of the cluster that stands at k
-abbrev pub Of : Cached → ℕ → ℕ → Type 0
-Of c k i = getD (c .keys) i 0 / half ≡ k
-
 module _ (c : Cached) (k v : ℕ) where
   abbrev versions : ℕ → ℕ → List ℕ
   versions = versionsFrom (c .keys) (c .versions) k
 
-  -- all of the n entries from i on that are of the cluster have version v
-  abbrev pub All : ℕ → ℕ → Type 0
-  All n i = (j : ℕ) → i ≤ j → j < n + i → Of c k j → getD (c .versions) j 0 ≡ v
-
-  to-all : (n i : ℕ) → allAre v (versions n i) ≡ true → All n i
+  to-all : (n i : ℕ) → allAre v (versions n i) ≡ true → All c k v n i
   unfolding versionsFrom allAre
   to-all zero i h j a b o = absurd (omega arith)
   to-all (suc n) i h j a b o = by-test (eqb (getD (c .keys) i 0 / half) k) (λ t. here (rw t at h) (λ q. to-all n (i + 1) q j)) (λ f. there f (to-all n (i + 1) (rw f at h) j))
@@ -45,7 +37,7 @@ module _ (c : Cached) (k v : ℕ) where
           by-test (eqb i j) (λ e. absurd (eqb-false _ _ f (ap (λ (x : ℕ). getD (c .keys) x 0 / half) (eqb-true i j e) ∙ o)))
           (λ e. next (omega (arith, eqb-false i j e)) (omega arith) o)
 
-  from-all : (n i : ℕ) → All n i → allAre v (versions n i) ≡ true
+  from-all : (n i : ℕ) → All c k v n i → allAre v (versions n i) ≡ true
   unfolding versionsFrom allAre
   from-all zero i h = refl
   from-all (suc n) i h =
@@ -53,19 +45,15 @@ module _ (c : Cached) (k v : ℕ) where
       by-test (eqb (getD (c .keys) i 0 / half) k)
       (λ t. rw t (both _ _ (eq-eqb _ _ (h i (omega arith) (omega arith) (eqb-true _ _ t))) rest)) (λ f. rw f rest)
 
-  -- one of them at least
-  abbrev pub Some : ℕ → ℕ → Type 0
-  Some n i = (j : ℕ) × (i ≤ j) × (j < n + i) × Of c k j
-
-  to-some : (n i : ℕ) {x : ℕ} {l : List ℕ} → versions n i ≡ x ∷ l → Some n i
+  to-some : (n i : ℕ) {x : ℕ} {l : List ℕ} → versions n i ≡ x ∷ l → Some c k n i
   unfolding versionsFrom
   to-some zero i h = never (cc)
   to-some (suc n) i {x} {l} h = by-test (eqb (getD (c .keys) i 0 / half) k) (λ t. (i, omega arith, omega arith, eqb-true _ _ t)) (λ f. next (to-some n (i + 1) (rw f at h)))
     where
-      next : Some n (i + 1) → Some (suc n) i
+      next : Some c k n (i + 1) → Some c k (suc n) i
       next s = (s .0, omega (arith, s .1), omega (arith, s .2), s .3)
 
-  from-some : (n i : ℕ) → Some n i → (x : ℕ) × (l : List ℕ) × (versions n i ≡ x ∷ l)
+  from-some : (n i : ℕ) → Some c k n i → (x : ℕ) × (l : List ℕ) × (versions n i ≡ x ∷ l)
   unfolding versionsFrom
   from-some zero i s = absurd (omega (arith, s .1, s .2))
   from-some (suc n) i s = by-test (eqb (getD (c .keys) i 0 / half) k) (λ t. (getD (c .versions) i 0, versions n (i + 1), rw t refl))
@@ -93,16 +81,16 @@ module _ (c : Cached) (k v : ℕ) where
       rw (lt-ltb x noVersion (omega (arith, e)), ap (λ (y : ℕ). allAre y l) e ∙ right (eqb x v) _ h) (ap just e)
 
   -- THE LAW
-  pub coherent-exactly : (coherentAt c k ≡ just v) ↔ ((c .primed ≡ true) × (v < noVersion) × Some (c .count) 0 × All (c .count) 0)
+  pub coherent-exactly : (coherentAt c k ≡ just v) ↔ ((c .primed ≡ true) × (v < noVersion) × Some c k (c .count) 0 × All c k v (c .count) 0)
   coherent-exactly = (to, from)
     where
-      to : coherentAt c k ≡ just v → (c .primed ≡ true) × (v < noVersion) × Some (c .count) 0 × All (c .count) 0
+      to : coherentAt c k ≡ just v → (c .primed ≡ true) × (v < noVersion) × Some c k (c .count) 0 × All c k v (c .count) 0
       to h =
           by-test (c .primed)
           (λ t. let (low, (x, l, e), all) = to-shared (versionsOf c k) (sym (coherent-primed c k t) ∙ h) in (t, low, to-some (c .count) 0 e, to-all (c .count) 0 all))
           (λ f. never (let q : nothing ≡ just v = sym (coherent-unprimed c k f) ∙ h in cc))
 
-      from : (c .primed ≡ true) × (v < noVersion) × Some (c .count) 0 × All (c .count) 0 → coherentAt c k ≡ just v
+      from : (c .primed ≡ true) × (v < noVersion) × Some c k (c .count) 0 × All c k v (c .count) 0 → coherentAt c k ≡ just v
       from (t, low, some, all) =
           let (x, l, e) = from-some (c .count) 0 some in
           coherent-primed c k t ∙ ap shared e ∙ from-shared x l low (ap (allAre v) (sym e) ∙ from-all (c .count) 0 all)

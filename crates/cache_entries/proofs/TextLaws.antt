@@ -17,8 +17,8 @@ use Rattle.cache_order.proofs.Pigeonhole.{pigeons, all-there}
 use Rattle.cache_entries.specs.declared.Cached.{Cached}
 use Rattle.cache_entries.specs.Limits.{maxEntries, textPlaces}
 use Rattle.cache_entries.specs.Texts.{isText, placeUsed, freePlace, orFirst, textPlace, placeGiven, Own}
-use Rattle.cache_entries.specs.Valid.{textsRight}
-use Rattle.cache_entries.proofs.ValidLaws.{RightHeld, text-right}
+use Rattle.cache_entries.specs.Valid.{textsRight, RightHeld}
+use Rattle.cache_entries.proofs.ValidLaws.{text-right}
 
 -- entry j of the first n is the text at place p
 pub record TextAt (kinds words : List ℕ) (n p j : ℕ) : Type 0 where

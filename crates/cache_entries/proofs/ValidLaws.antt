@@ -14,22 +14,11 @@ use Rattle.cache_entries.specs.declared.Cached.{Cached}
 use Rattle.cache_entries.specs.Limits.{maxEntries, maxClusters, textPlaces, textSize, pageSize, orderSize, half, noVersion}
 use Rattle.cache_entries.specs.Entries.{clusterOrder, textIn}
 use Rattle.cache_entries.specs.Texts.{isText, placeUsed}
-use Rattle.cache_entries.specs.Valid.{wordRight, entryRight, entryRightAt, entriesRight, textRight, textRightAt, textsRight, clustersRight, heldRight}
+use Rattle.cache_entries.specs.Valid.{wordRight, entryRight, entryRightAt, entriesRight, textRight, textRightAt, textsRight, clustersRight, heldRight, RightHeld}
 
 -- a cluster's word has 48 bits
 abbrev pub below : List ℕ → ℕ → Bool
 below l k = ltb (getD l k 0) (2 ^ 48)
-
--- the parts of the rules
-pub record RightHeld (page : List ℕ) (c : Cached) : Type 0 where
-  pub size : length page ≡ pageSize
-  pub few-entries : c .count ≤ maxEntries
-  pub few-clusters : c .«cluster_count» ≤ maxClusters
-  pub clusters : clustersRight (c .clusters) (c .«cluster_count») ≡ true
-  pub cluster-order : orderRight (c .clusters) (clusterOrder (c .order)) (c .«cluster_count») ≡ true
-  pub entry-order : orderRight (c .keys) (c .order) (c .count) ≡ true
-  pub entries : entriesRight c ≡ true
-  pub texts : textsRight page c ≡ true
 
 module _ (page : List ℕ) (c : Cached) where
   -- the rules are kept exactly if each part is

@@ -1,7 +1,8 @@
 -- When a cluster is whole (RULES 7.11). Whole is called coherent here, filled primed.
+use mathlib.Core.Path.{_≡_}
 use mathlib.Core.Bool.{Bool, true, false, _&&_}
 use mathlib.Core.List.{List, [], _∷_}
-use Prim.Native.Nat.{ℕ, zero, suc, _+_, _/_}
+use Prim.Native.Nat.{ℕ, zero, suc, _+_, _/_, _≤_, _<_}
 use lib.Dec.{eqb, ltb}
 use lib.ListN.{getD}
 use Rattle.tlv_reader.specs.Octet.{pick}
@@ -38,6 +39,20 @@ coherentAt c k = pick (c .primed) (shared (versionsOf c k)) nothing
 abbrev pub coherentRead : Opt ℕ → Coherent
 coherentRead nothing = No
 coherentRead (just v) = At v
+
+-- ---- THE SAME IN WORDS, of the n entries from i on
+
+-- entry i is one of the cluster that stands at k
+abbrev pub Of : Cached → ℕ → ℕ → Type 0
+Of c k i = getD (c .keys) i 0 / half ≡ k
+
+-- one of them at least is
+abbrev pub Some : Cached → ℕ → ℕ → ℕ → Type 0
+Some c k n i = (j : ℕ) × (i ≤ j) × (j < n + i) × Of c k j
+
+-- all of them that are have version v
+abbrev pub All : Cached → ℕ → ℕ → ℕ → ℕ → Type 0
+All c k v n i = (j : ℕ) → i ≤ j → j < n + i → Of c k j → getD (c .versions) j 0 ≡ v
 
 -- ---- AS THE CODE HAS IT: what the versions of a cluster come to, in one word
 

@@ -4,7 +4,7 @@
 use mathlib.Core.Bool.{Bool, true, false, not, _&&_}
 use mathlib.Core.Path.{_≡_}
 use mathlib.Core.List.{List}
-use Prim.Native.Nat.{ℕ, zero, suc, _+_, _/_, _^_}
+use Prim.Native.Nat.{ℕ, zero, suc, _+_, _/_, _^_, _≤_}
 use lib.Dec.{eqb, ltb, leb}
 use lib.ListN.{length, getD}
 use Rattle.tlv_reader.specs.Octet.{pick}
@@ -77,3 +77,14 @@ pub record ColumnsSized (c : Cached) : Type 0 where
   pub words : length (c .words) ≡ maxEntries
   pub order : length (c .order) ≡ orderSize
   pub lengths : length (c .lengths) ≡ textPlaces
+
+-- the same, with each of its parts by name
+pub record RightHeld (page : List ℕ) (c : Cached) : Type 0 where
+  pub size : length page ≡ pageSize
+  pub few-entries : c .count ≤ maxEntries
+  pub few-clusters : c .«cluster_count» ≤ maxClusters
+  pub clusters : clustersRight (c .clusters) (c .«cluster_count») ≡ true
+  pub cluster-order : orderRight (c .clusters) (clusterOrder (c .order)) (c .«cluster_count») ≡ true
+  pub entry-order : orderRight (c .keys) (c .order) (c .count) ≡ true
+  pub entries : entriesRight c ≡ true
+  pub texts : textsRight page c ≡ true

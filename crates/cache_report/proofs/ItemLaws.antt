@@ -19,11 +19,10 @@ use Rattle.cache_entries.specs.Limits.{maxEntries, maxClusters, textPlaces, hal
 use Rattle.cache_entries.specs.Entries.{clusterOrder, clusterWord, keyWord}
 use Rattle.cache_entries.specs.Texts.{textPlace, Marked, Own}
 use Rattle.cache_entries.specs.Set.{clusterPlace, entryPlace, countWith, withCluster, withEntry}
-use Rattle.cache_entries.specs.Valid.{ColumnsSized}
+use Rattle.cache_entries.specs.Valid.{ColumnsSized, RightHeld}
 use Rattle.cache_entries.proofs.OrderWithLaws.{cluster-orders}
 use Rattle.cache_entries.proofs.SetLaws.{placed-next}
 use Rattle.cache_entries.proofs.TextLaws.{place-own}
-use Rattle.cache_entries.proofs.ValidLaws.{RightHeld}
 use Rattle.cache_entries.proofs.ValueLaws.{NoText}
 use Rattle.cache_report.specs.declared.position.Position.the-variants.{At}
 use Rattle.cache_report.specs.Entry.{positionOf, kindV, wordAs, withItem, textStored}

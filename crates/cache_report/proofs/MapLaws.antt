@@ -23,10 +23,10 @@ use Rattle.cache_entries.specs.Limits.{maxEntries, maxClusters, half, nullKind,
 use Rattle.cache_entries.specs.Entries.{clusterWord, keyWord, clusterAt, entryAt, textIn, datumBy, entryOf, atEntry, inCluster, pathAt, lookup}
 use Rattle.cache_entries.specs.Texts.{textPlace}
 use Rattle.cache_entries.specs.Set.{clusterPlace, entryPlace, countWith, withCluster, withEntry}
-use Rattle.cache_entries.specs.Valid.{wordRight, ColumnsSized}
+use Rattle.cache_entries.specs.Valid.{wordRight, ColumnsSized, RightHeld}
 use Rattle.cache_entries.proofs.SetLaws.{word-stands, Put, put, others-found, word-found}
 use Rattle.cache_entries.proofs.SetLaws.Put.{old, new}
-use Rattle.cache_entries.proofs.ValidLaws.{RightHeld, key-below, entry-word}
+use Rattle.cache_entries.proofs.ValidLaws.{key-below, entry-word}
 use Rattle.cache_report.specs.declared.block.NewEntry.{NewEntry}
 use Rattle.cache_report.specs.declared.position.Position.the-variants.{At}
 use Rattle.cache_entries.specs.Values.{usableIn}

@@ -27,9 +27,9 @@ use Rattle.cache_entries.specs.Limits.{maxEntries, maxClusters, textPlaces, tex
 use Rattle.cache_entries.specs.Entries.{clusterWord, keyWord, placeStart, textIn}
 use Rattle.cache_entries.specs.Texts.{isText, textPlace, Own}
 use Rattle.cache_entries.specs.Set.{clusterPlace, entryPlace, countWith, withCluster, withEntry}
-use Rattle.cache_entries.specs.Valid.{wordRight, entryRight, entryRightAt, entriesRight, textRightAt, textsRight, clustersRight, ColumnsSized}
+use Rattle.cache_entries.specs.Valid.{wordRight, entryRight, entryRightAt, entriesRight, textRightAt, textsRight, clustersRight, ColumnsSized, RightHeld}
 use Rattle.cache_entries.proofs.SetLaws.{placed-next, counted-here, counted-more, counted-other, counted-within}
-use Rattle.cache_entries.proofs.ValidLaws.{below, RightHeld, cluster-below, key-below, version-right, entry-word, TextRight, text-right, right-text}
+use Rattle.cache_entries.proofs.ValidLaws.{below, cluster-below, key-below, version-right, entry-word, TextRight, text-right, right-text}
 use Rattle.cache_entries.proofs.OrderWithLaws.{Orders, cluster-orders, entry-orders}
 use Rattle.cache_entries.proofs.TextLaws.{TextAt, unused, texts-apart, place-own}
 use Rattle.cache_report.specs.declared.block.NewEntry.{NewEntry}

@@ -16,7 +16,8 @@ use Rattle.cache_entries.specs.declared.Cached.{Cached}
 use Rattle.cache_entries.specs.Limits.{half}
 use Rattle.cache_entries.specs.Entries as cached
 use Rattle.cache_entries.specs.Entries.{clusterWord, clusterAt, entryOf, lookup}
-use Rattle.cache_entries.proofs.CoherentLaws.{Of, coherent-exactly}
+use Rattle.cache_entries.specs.Coherent.{Of}
+use Rattle.cache_entries.proofs.CoherentLaws.{coherent-exactly}
 use Rattle.cache_state.specs.declared.CacheState.{CacheState}
 use Rattle.cache_ask.specs.Ask.{coherentOf}
 use Rattle.proof_protocol.specs.Model.{ConcretePath, Entry, Cache, CoherentIn}
