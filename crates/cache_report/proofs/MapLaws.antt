@@ -30,9 +30,9 @@ use Rattle.cache_entries.proofs.ValidLaws.{key-below, entry-word}
 use Rattle.cache_report.specs.declared.block.NewEntry.{NewEntry}
 use Rattle.cache_report.specs.declared.position.Position.the-variants.{At}
 use Rattle.cache_entries.specs.Values.{usableIn}
-use Rattle.cache_report.specs.Entry.{positionOf, kindV, wordAs, withItem, textStored}
+use Rattle.cache_report.specs.Entry.{positionOf, kindV, wordAs, withItem, textStored, ItemRight}
 use Rattle.cache_report.proofs.EntryLaws.{Goes, position-goes, Below, position-below}
-use Rattle.cache_report.proofs.RightLaws.{ItemRight, Row, own-row, other-row, text-set, shown-stays}
+use Rattle.cache_report.proofs.RightLaws.{Row, own-row, other-row, text-set, shown-stays}
 
 never : {A : Type 0} → _≡_ {A = ℕ} 0 1 → A
 never e = absurd (omega arith)
@@ -111,7 +111,7 @@ module _ (s page : List ℕ) (c : Cached) (x : NewEntry) (k i : ℕ) (item : Ite
       shown a n e = ap (λ (v : Value). textIn after (next .lengths) (wordAs place v)) e ∙ text-set s page c x k i item r w position a n e
 
   -- THE PATH OF THE BLOCK
-  pub set-same : lookup next after (x .endpoint) (x .cluster) (x .attribute) ≡ just (record { version = x .version; value = datumIn s (x .value) })
+  pub set-same : lookup (withItem c k i x) (textStored s page (textPlace c i) (x .value)) (x .endpoint) (x .cluster) (x .attribute) ≡ just (record { version = x .version; value = datumIn s (x .value) })
   unfolding lookup pathAt
   set-same = ap (λ (f : Found). atEntry next after (inCluster next (x .attribute) f)) cluster-there ∙ ap (atEntry next after) entry-there ∙ ap just own-entry
 
@@ -182,7 +182,7 @@ module _ (s page : List ℕ) (c : Cached) (x : NewEntry) (k i : ℕ) (item : Ite
         go found.Nothing e = refl
 
   -- EVERY OTHER PATH
-  pub set-other : (e l a : ℕ) → e < 2 ^ 16 → l < 2 ^ 32 → a < 2 ^ 32 → (e ≡ x .endpoint → l ≡ x .cluster → a ≡ x .attribute → ⊥) → lookup next after e l a ≡ lookup c page e l a
+  pub set-other : (e l a : ℕ) → e < 2 ^ 16 → l < 2 ^ 32 → a < 2 ^ 32 → (e ≡ x .endpoint → l ≡ x .cluster → a ≡ x .attribute → ⊥) → lookup (withItem c k i x) (textStored s page (textPlace c i) (x .value)) e l a ≡ lookup c page e l a
   unfolding lookup pathAt
   set-other e l a fe fl fa apart = by-test (eqb (clusterWord e l) word)
       (λ t. let q = eqb-true (clusterWord e l) word t in

@@ -40,7 +40,7 @@ use Rattle.cache_report.specs.declared.position.Position.the-variants.{A
 use Rattle.cache_entries.specs.Values.{usableIn, insideUsable, longV}
 use Rattle.im_responses.specs.Kept.{concreteP}
 use Rattle.cache_report.specs.Block.{itemOf, judgementBy, judgementOf}
-use Rattle.cache_report.specs.Entry.{positionOf, kindV, wordAs, withItem, heldAt, heldFor, textStored, pageAt, pageFor}
+use Rattle.cache_report.specs.Entry.{positionOf, kindV, wordAs, withItem, heldAt, heldFor, textStored, pageAt, pageFor, ItemRight, Good}
 use Rattle.cache_report.specs.Part.{judgementIn, heldAll, pageAll}
 use Rattle.im_responses.proofs.KeptLaws.{concrete-widths}
 use Rattle.cache_entries.proofs.ValueLaws.{text-inside, text-short}
@@ -49,16 +49,6 @@ use Rattle.cache_report.proofs.EntryLaws.Form.{text, plain}
 
 never : {A : Type 0} → _≡_ {A = ℕ} 0 1 → A
 never e = absurd (omega arith)
-
--- an item that is taken: its numbers have their widths, its value can be kept
-pub record ItemRight (s : List ℕ) (x : NewEntry) : Type 0 where
-  pub endpoint : x .endpoint < 2 ^ 16
-  pub cluster : x .cluster < 2 ^ 32
-  pub attribute : x .attribute < 2 ^ 32
-  pub version : x .version < 2 ^ 32
-  pub sized : Sized (x .value)
-  pub usable : usableIn s (x .value) ≡ true
-  pub short : longV (x .value) ≡ false
 
 pub item-right : (s : List ℕ) (r : Report) (x : NewEntry) → judgementOf s r ≡ Taken x → ItemRight s x
 unfolding judgementOf judgementBy
@@ -340,11 +330,6 @@ module _ (s page : List ℕ) (c : Cached) (x : NewEntry) (k i : ℕ) (item : Ite
       go : Form (x .value) → length (next .lengths) ≡ textPlaces
       go (text a n e) = ap length (text-lengths a n e) ∙ length-set (c .lengths) place n ∙ w .lengths
       go (plain f same) = ap length (plain-lengths f) ∙ w .lengths
-
--- what is held keeps the rules
-pub record Good (page : List ℕ) (c : Cached) : Type 0 where
-  pub right : RightHeld page c
-  pub whole : ColumnsSized c
 
 -- A BLOCK, whatever it is
 pub block-right : (s page : List ℕ) (c : Cached) → Good page c → (b : Report) → Good (pageFor s c page (judgementOf s b)) (heldFor c (judgementOf s b))

@@ -21,10 +21,10 @@ use Rattle.cache_report.specs.declared.block.Judgement.{Judgement}
 use Rattle.cache_report.specs.declared.block.Judgement.the-variants.{Taken, Long, Unusable}
 use Rattle.cache_report.specs.declared.position.Position.{Position}
 use Rattle.cache_report.specs.declared.position.Position.the-variants.{At, Full}
-use Rattle.cache_report.specs.Entry.{positionOf, withItem, heldAt, heldFor, textStored, pageAt, pageFor, worse}
+use Rattle.cache_report.specs.Entry.{positionOf, withItem, heldAt, heldFor, textStored, pageAt, pageFor, worse, ItemRight, Good}
 use Rattle.cache_report.specs.Words.{itemWords, judgementWords, judgementAt, judgementsFrom, alone, aloneAll, heldBy, pageBy, Frame, frameOf, positionIn, frameAt, frameNext, hasRoom, roomFrom, positionWord, positionsFrom}
 use Rattle.cache_report.proofs.EntryLaws.{position-below}
-use Rattle.cache_report.proofs.RightLaws.{ItemRight, Good, set-right, set-whole}
+use Rattle.cache_report.proofs.RightLaws.{set-right, set-whole}
 use Rattle.cache_report.proofs.JudgementLaws.{rest, rest-all, rest-next, rest-none}
 use Rattle.cache_report.proofs.FrameLaws.{frame-position, frame-next}
 

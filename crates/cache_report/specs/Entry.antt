@@ -1,19 +1,23 @@
 -- A block sets an entry: path, version, value (RULES 7.8); refusal 7 where there is no room (RULES 6.1).
+use mathlib.Core.Path.{_≡_}
+use mathlib.Core.Bool.{true, false}
 use mathlib.Core.List.{List}
-use Prim.Native.Nat.{ℕ}
+use Prim.Native.Nat.{ℕ, _^_, _<_}
 use lib.Dec.{eqb}
 use lib.ListN.{take, drop}
 use Rattle.base_octets.specs.Store.{store}
 use Rattle.tlv_reader.specs.declared.Value.{Value}
 use Rattle.tlv_reader.specs.declared.Value.the-variants as value
 use Rattle.tlv_reader.specs.Octet.{pick}
-use Rattle.node_kinds.specs.Stored.{wordOf}
+use Rattle.node_kinds.specs.Stored.{wordOf, Sized}
 use Rattle.cache_entries.specs.declared.Cached.{Cached}
 use Rattle.cache_entries.specs.declared.set.Placed.{Placed}
 use Rattle.cache_entries.specs.declared.set.Placed.the-variants as placed
 use Rattle.cache_entries.specs.Limits.{nullKind, booleanKind, unsignedKind, signedKind, floatKind, textKind}
 use Rattle.cache_entries.specs.Entries.{clusterWord, keyWord, placeStart}
 use Rattle.cache_entries.specs.Texts.{textPlace}
+use Rattle.cache_entries.specs.Values.{usableIn, longV}
+use Rattle.cache_entries.specs.Valid.{ColumnsSized, RightHeld}
 use Rattle.cache_entries.specs.Set.{clusterPlace, entryPlace, withCluster, withEntry}
 use Rattle.cache_report.specs.declared.block.NewEntry.{NewEntry}
 use Rattle.cache_report.specs.declared.block.Judgement.{Judgement}
@@ -96,3 +100,18 @@ unfoldable pub pageFor : List ℕ → Cached → List ℕ → Judgement → List
 pageFor s c page Unusable = page
 pageFor s c page Long = page
 pageFor s c page (Taken x) = pageAt s c page x (positionOf c x)
+
+-- an item that is taken: its numbers have their widths, its value can be kept
+pub record ItemRight (s : List ℕ) (x : NewEntry) : Type 0 where
+  pub endpoint : x .endpoint < 2 ^ 16
+  pub cluster : x .cluster < 2 ^ 32
+  pub attribute : x .attribute < 2 ^ 32
+  pub version : x .version < 2 ^ 32
+  pub sized : Sized (x .value)
+  pub usable : usableIn s (x .value) ≡ true
+  pub short : longV (x .value) ≡ false
+
+-- what is held keeps the rules; its arrays have their lengths, as those of the code do
+pub record Good (page : List ℕ) (c : Cached) : Type 0 where
+  pub right : RightHeld page c
+  pub whole : ColumnsSized c

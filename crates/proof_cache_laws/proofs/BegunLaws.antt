@@ -20,7 +20,7 @@ use Rattle.cache_entries.specs.Entries.{clusterOrder}
 use Rattle.cache_entries.specs.Valid.{clustersRight, entriesRight, textsRight}
 use Rattle.cache_entries.proofs.ValidLaws as Held
 use Rattle.im_writer.specs.Envelope.{cacheEdition, exchangeLimit}
-use Rattle.cache_report.proofs.RightLaws.{Good}
+use Rattle.cache_report.specs.Entry.{Good}
 use Rattle.cache_messages.specs.Filters.{filtersOf}
 use Rattle.cache_messages.specs.Messages.{readMessage, writeMessage}
 use Rattle.proof_cache_laws.proofs.BoundLaws.{Sized, filters-narrow, filters-few, read-sized, write-sized}

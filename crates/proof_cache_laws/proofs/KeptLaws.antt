@@ -26,7 +26,8 @@ use Rattle.cache_entries.specs.declared.Cached.{Cached}
 use Rattle.cache_entries.specs.Valid.{clustersRight, entriesRight, textsRight}
 use Rattle.cache_report.specs.Part.{blocksIn, judgedAll, heldAll, pageAll}
 use Rattle.im_writer.specs.Envelope.{cacheEdition}
-use Rattle.cache_report.proofs.RightLaws.{Good, part-right}
+use Rattle.cache_report.specs.Entry.{Good}
+use Rattle.cache_report.proofs.RightLaws.{part-right}
 use Rattle.cache_messages.specs.Messages.{successMessage}
 use Rattle.proof_cache_laws.proofs.BoundLaws.{success-sized}
 use Rattle.cache_state.specs.declared.Request.{Request}

@@ -22,9 +22,9 @@ use Rattle.cache_entries.specs.Entries as cached
 use Rattle.cache_entries.specs.Entries.{lookup}
 use Rattle.cache_report.specs.declared.block.NewEntry.{NewEntry}
 use Rattle.cache_report.specs.declared.block.Judgement.{Judgement}
-use Rattle.cache_report.specs.Entry.{positionOf, heldFor, numberFor, pageFor, worse}
+use Rattle.cache_report.specs.Entry.{positionOf, heldFor, numberFor, pageFor, worse, Good}
 use Rattle.cache_report.specs.Part.{blocksIn, judgementIn, judgedAll, heldAll, pageAll}
-use Rattle.cache_report.proofs.RightLaws.{Good, block-right}
+use Rattle.cache_report.proofs.RightLaws.{block-right}
 use Rattle.proof_trip.specs.Exact.{Distinct}
 use Rattle.proof_trip.specs.Taken.{Sent, TakenAs, Says, InStep}
 use Rattle.proof_trip.specs.Held.{holding, samePath}

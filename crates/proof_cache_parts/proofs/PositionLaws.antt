@@ -27,8 +27,7 @@ use Rattle.cache_entries.proofs.ValidLaws.{cluster-below, key-below}
 use Rattle.cache_report.specs.declared.block.NewEntry.{NewEntry}
 use Rattle.cache_report.specs.declared.position.Position.{Position}
 use Rattle.cache_report.specs.declared.position.Position.the-variants as position
-use Rattle.cache_report.specs.Entry.{entryPosition, positionOf, positionNumber, withItem, heldAt}
-use Rattle.cache_report.proofs.RightLaws.{Good}
+use Rattle.cache_report.specs.Entry.{entryPosition, positionOf, positionNumber, withItem, heldAt, Good}
 use Rattle.cache_report.proofs.EntryLaws.{Goes, position-goes}
 use Rattle.proof_trip.specs.Exact.{Distinct}
 use Rattle.proof_protocol.specs.Model.{Entry}

@@ -24,9 +24,9 @@ use Rattle.cache_report.specs.declared.block.Judgement.{Judgement}
 use Rattle.cache_report.specs.declared.block.Judgement.the-variants.{Taken, Long, Unusable}
 use Rattle.cache_report.specs.declared.position.Position.{Position}
 use Rattle.cache_report.specs.declared.position.Position.the-variants as position
-use Rattle.cache_report.specs.Entry.{positionOf, positionNumber, heldAt, heldFor, numberFor, worse, pageAt, pageFor}
+use Rattle.cache_report.specs.Entry.{positionOf, positionNumber, heldAt, heldFor, numberFor, worse, pageAt, pageFor, ItemRight, Good}
 use Rattle.cache_report.specs.Part.{Judged, blocksIn, judgementIn, judgedNext, judgedAll, heldAll, pageAll}
-use Rattle.cache_report.proofs.RightLaws.{ItemRight, Good, item-right, block-right}
+use Rattle.cache_report.proofs.RightLaws.{item-right, block-right}
 use Rattle.cache_report.proofs.MapLaws.{set-same, set-other}
 use Rattle.proof_trip.specs.Taken.{Sent, TakenAs, InStep}
 use Rattle.proof_trip.specs.Held.{holding, samePath, after}
