@@ -13,10 +13,10 @@ use Rattle.im_writer.specs.Envelope.{exchangeLimit}
 use Rattle.cache_state.specs.declared.CacheState.{CacheState}
 use Rattle.cache_state.specs.declared.Outcome.{Outcome}
 use Rattle.cache_state.specs.State.{isOpen, cacheRight}
-use Rattle.cache_state.specs.Words.{askedSize, wordsRight}
+use Rattle.cache_state.specs.Words.{askedSize, wordsRight, Narrow}
 use Rattle.cache_state.specs.Reaction.{CacheReaction, refusal, CacheReacted}
 use Rattle.cache_state.specs.Begin.{fresh, keptMessage, keeping, asking, askedAs, beginning, beginsRead, sendable, beginsWrite, resends}
-use Rattle.cache_state.proofs.WordLaws.{Narrow, still-right}
+use Rattle.cache_state.proofs.WordLaws.{still-right}
 
 -- A PANEL'S WORDS STAY A PANEL'S
 pub stays-cache : {x : CacheReaction} {r : Outcome} {s : CacheState} {asked newAsked page old new : List ℕ} → CacheReacted x r s asked newAsked page old new → wordsRight asked ≡ true → length asked ≡ askedSize → Narrow (x .state) → wordsRight newAsked ≡ true

@@ -2,7 +2,7 @@
 use mathlib.Core.Path.{_≡_, refl, sym}
 use mathlib.Core.Bool.{Bool, true, false, _&&_, false≢true}
 use mathlib.Core.List.{List}
-use Prim.Native.Nat.{ℕ, _≤_, _<_}
+use Prim.Native.Nat.{ℕ}
 use borrow.Author.Tests.{leb-true, ltb-true}
 use lib.Dec.{leb, ltb}
 use lib.ListN.{length}
@@ -18,16 +18,7 @@ use Rattle.cache_state.specs.declared.Request.{Request}
 use Rattle.cache_state.specs.declared.CacheState.{CacheState}
 use Rattle.cache_state.specs.Words.{wordsRight}
 use Rattle.cache_state.specs.Reaction.{CacheReaction, refusal, ofCache}
-use Rattle.cache_state.specs.State.{isOpen, withStatus, openRight, askedRight, cacheRight}
-
--- of the request
-pub record RightAsked (x : Request) : Type 0 where
-  pub used : x .used < exchangeLimit
-  pub exchange : x .exchange ≤ x .used
-  pub unknown : x .unknown ≤ x .used
-  pub stage : x .stage ≤ withStatus
-  pub len : x .len ≤ maxMessage
-  pub sent : pick (isOpen (x .stage)) (openRight x) true ≡ true
+use Rattle.cache_state.specs.State.{withStatus, askedRight, cacheRight, RightAsked}
 
 pub asked-right : (x : Request) → askedRight x ≡ true → RightAsked x
 unfolding askedRight

@@ -15,7 +15,7 @@ use Rattle.node_schema.specs.Rows.{rowsFrom}
 use Rattle.node_schema.proofs.BoolLaws.{left, right, by-test}
 use Rattle.cache_state.specs.declared.CacheState.{CacheState}
 use Rattle.cache_state.specs.declared.CacheStanding.{CacheStanding}
-use Rattle.cache_state.specs.Words.{askedSize, word, standingIn, standingWords, wordsRight, stateIn, standingOf, putState}
+use Rattle.cache_state.specs.Words.{askedSize, word, standingIn, standingWords, wordsRight, stateIn, standingOf, putState, Narrow}
 
 -- ---- words stored, one after the other
 
@@ -107,14 +107,6 @@ right-words w r =
       eq-eqb (word w 14) 0 (r .spare-2),
       eq-eqb (word w 15) 0 (r .spare-3),
     )
-
--- numbers in their widths
-pub record Narrow (s : CacheState) : Type 0 where
-  pub turn : s .asked .turn < 2 ^ 16
-  pub status : s .asked .status < 256
-  pub endpoint : s .asked .endpoint < 2 ^ 16
-  pub cluster : s .asked .cluster < 2 ^ 32
-  pub attribute : s .asked .attribute < 2 ^ 32
 
 -- ---- the mark of a cache that is primed
 

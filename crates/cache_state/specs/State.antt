@@ -1,7 +1,8 @@
 -- A cache's whole state, and the rules that it keeps (refusal 2, RULES 6.1).
+use mathlib.Core.Path.{_≡_}
 use mathlib.Core.Bool.{Bool, true, _&&_, _||_, not}
 use mathlib.Core.List.{List}
-use Prim.Native.Nat.{ℕ}
+use Prim.Native.Nat.{ℕ, _≤_, _<_}
 use lib.Dec.{eqb, ltb, leb}
 use Rattle.tlv_reader.specs.Octet.{pick}
 use Rattle.cache_entries.specs.Valid.{heldRight}
@@ -45,3 +46,12 @@ askedRight x =
 
 unfoldable pub cacheRight : List ℕ → CacheState → Bool
 cacheRight page s = heldRight page (s .held) && askedRight (s .asked)
+
+-- the same of the newest request, with each of its parts by name
+pub record RightAsked (x : Request) : Type 0 where
+  pub used : x .used < exchangeLimit
+  pub exchange : x .exchange ≤ x .used
+  pub unknown : x .unknown ≤ x .used
+  pub stage : x .stage ≤ withStatus
+  pub len : x .len ≤ maxMessage
+  pub sent : pick (isOpen (x .stage)) (openRight x) true ≡ true

@@ -1,7 +1,7 @@
 -- A PANEL AS IT IS LENT: an array for each column of what it holds, the counts and the newest request in words, the newest message in bytes.
 use mathlib.Core.Bool.{Bool, _&&_}
 use mathlib.Core.List.{List, [], _∷_}
-use Prim.Native.Nat.{ℕ, _^_}
+use Prim.Native.Nat.{ℕ, _^_, _<_}
 use lib.Dec.{eqb, ltb, leb}
 use lib.ListN.{getD}
 use Rattle.base_octets.specs.Store.{store}
@@ -103,3 +103,11 @@ standingOf s =
 -- a state stored over the words of another; spare words stay, and so do words that are no cache's
 unfoldable pub putState : List ℕ → CacheState → List ℕ
 putState old s = pick (wordsRight old) (store old 0 (standingWords (standingOf s))) old
+
+-- a state whose numbers have their widths, so that its words are a cache's
+pub record Narrow (s : CacheState) : Type 0 where
+  pub turn : s .asked .turn < 2 ^ 16
+  pub status : s .asked .status < 256
+  pub endpoint : s .asked .endpoint < 2 ^ 16
+  pub cluster : s .asked .cluster < 2 ^ 32
+  pub attribute : s .asked .attribute < 2 ^ 32

@@ -28,10 +28,9 @@ use Rattle.im_envelope.specs.Envelope.{maxMessage}
 use Rattle.im_exchange.specs.Rules.{firstReply}
 use Rattle.cache_state.specs.declared.Request.{Request}
 use Rattle.cache_state.specs.declared.CacheState.{CacheState}
-use Rattle.cache_state.specs.State.{reading, writing, withStatus, isOpen, openRight, askedRight, cacheRight}
+use Rattle.cache_state.specs.State.{reading, writing, withStatus, isOpen, openRight, askedRight, cacheRight, RightAsked}
 use Rattle.cache_state.specs.Reaction.{CacheReaction, refusal}
 use Rattle.cache_state.specs.Begin.{fresh, unknownAfter, keeping, nextRequest, askedAs, sent, beginning, beginsRead, sendable, beginsWrite, resends, keptMessage}
-use Rattle.cache_state.proofs.StateLaws.{RightAsked}
 use Rattle.cache_state.proofs.BeginLaws.{sendable-fits}
 
 -- a cache that keeps the rules; its arrays have their lengths, as those of the code do

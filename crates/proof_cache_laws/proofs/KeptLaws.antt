@@ -33,9 +33,8 @@ use Rattle.proof_cache_laws.proofs.BoundLaws.{success-sized}
 use Rattle.cache_state.specs.declared.Request.{Request}
 use Rattle.cache_state.specs.declared.CacheState.{CacheState}
 use Rattle.cache_state.specs.Reaction.{Silent, CacheReaction, refusal, begins-none, unsent}
-use Rattle.cache_state.specs.State.{reading, writing, lastPart, withStatus, isOpen, openRight, cacheRight}
+use Rattle.cache_state.specs.State.{reading, writing, lastPart, withStatus, isOpen, openRight, cacheRight, RightAsked}
 use Rattle.cache_state.specs.Begin.{keeping}
-use Rattle.cache_state.proofs.StateLaws.{RightAsked}
 use Rattle.proof_cache_laws.proofs.BegunLaws.{ValidCache, Holds, valid-right, keeping-right}
 use Rattle.cache_receive.specs.Receive.{forCache, opcodeAwaited, awaited, endedAs, primedAs, endedWith, statusTaken, byStatus, ofWrite, answerTaken, byAnswer, nextAwaited, goesOn, ends, pastTurns, partTaken, takesPart, takes, inEnvelope, received}
 

@@ -23,10 +23,9 @@ use Rattle.cache_entries.specs.declared.Cached.{Cached}
 use Rattle.cache_state.specs.declared.CacheState.{CacheState}
 use Rattle.cache_state.specs.declared.Outcome.{Outcome}
 use Rattle.cache_state.specs.State.{cacheRight}
-use Rattle.cache_state.specs.Words.{askedSize, wordsRight}
+use Rattle.cache_state.specs.Words.{askedSize, wordsRight, Narrow}
 use Rattle.cache_state.specs.Reaction.{CacheReaction, Silent, ofCache, CacheReacted}
 use Rattle.cache_state.specs.Begin.{keeping}
-use Rattle.cache_state.proofs.WordLaws.{Narrow}
 use Rattle.cache_state.proofs.NarrowLaws.{stays-cache}
 use Rattle.cache_receive.specs.Receive.{forCache, awaited, endedAs, endedWith, statusTaken, byStatus, ofWrite, answerTaken, byAnswer, goesOn, pastTurns, partTaken, takesPart, takes, inEnvelope, received}
 
