@@ -20,9 +20,9 @@ use Rattle.cache_entries.specs.Entries.{clusterOrder}
 use Rattle.cache_entries.specs.Valid.{clustersRight, entriesRight, textsRight}
 use Rattle.cache_entries.proofs.ValidLaws as Held
 use Rattle.im_writer.specs.Envelope.{cacheEdition, exchangeLimit}
-use Rattle.cache_report.specs.Entry.{Good}
 use Rattle.cache_messages.specs.Filters.{filtersOf}
 use Rattle.cache_messages.specs.Messages.{readMessage, writeMessage}
+use Rattle.proof_cache_laws.specs.Valid.{ValidCache, Holds}
 use Rattle.proof_cache_laws.proofs.BoundLaws.{Sized, filters-narrow, filters-few, read-sized, write-sized}
 use Rattle.im_envelope.specs.Envelope.{maxMessage}
 use Rattle.im_exchange.specs.Rules.{firstReply}
@@ -32,12 +32,6 @@ use Rattle.cache_state.specs.State.{reading, writing, withStatus, isOpen, openR
 use Rattle.cache_state.specs.Reaction.{CacheReaction, refusal}
 use Rattle.cache_state.specs.Begin.{fresh, unknownAfter, keeping, nextRequest, askedAs, sent, beginning, beginsRead, sendable, beginsWrite, resends, keptMessage}
 use Rattle.cache_state.proofs.BeginLaws.{sendable-fits}
-
--- a cache that keeps the rules; its arrays have their lengths, as those of the code do
-pub record ValidCache (page : List ℕ) (s : CacheState) : Type 0 where
-  pub held : Good page (s .held)
-  pub asked : RightAsked (s .asked)
-  pub kept : length (s .asked .kept) ≡ maxMessage
 
 asked-true : (x : Request) → RightAsked x → askedRight x ≡ true
 unfolding askedRight
@@ -88,10 +82,6 @@ keeping-right x u e k s n t w {m} z = record {
   where
     once : pick (eqb (x .stage) writing) (eqb (x .turn) firstReply) true ≡ true
     once = by-test (eqb (x .stage) writing) (λ q. rw q (eq-eqb (x .turn) firstReply (w (eqb-true (x .stage) writing q)))) (λ q. rw q refl)
-
--- what a call leaves keeps the rules
-abbrev pub Holds : CacheReaction → Type 0
-Holds r = ValidCache (r .page) (r .state)
 
 module _ (page : List ℕ) (s : CacheState) (v : ValidCache page s) where
   unknown-kept : unknownAfter (s .asked) ≤ s .asked .used

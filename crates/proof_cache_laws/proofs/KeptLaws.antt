@@ -35,7 +35,8 @@ use Rattle.cache_state.specs.declared.CacheState.{CacheState}
 use Rattle.cache_state.specs.Reaction.{Silent, CacheReaction, refusal, begins-none, unsent}
 use Rattle.cache_state.specs.State.{reading, writing, lastPart, withStatus, isOpen, openRight, cacheRight, RightAsked}
 use Rattle.cache_state.specs.Begin.{keeping}
-use Rattle.proof_cache_laws.proofs.BegunLaws.{ValidCache, Holds, valid-right, keeping-right}
+use Rattle.proof_cache_laws.specs.Valid.{ValidCache, Holds}
+use Rattle.proof_cache_laws.proofs.BegunLaws.{valid-right, keeping-right}
 use Rattle.cache_receive.specs.Receive.{forCache, opcodeAwaited, awaited, endedAs, primedAs, endedWith, statusTaken, byStatus, ofWrite, answerTaken, byAnswer, nextAwaited, goesOn, ends, pastTurns, partTaken, takesPart, takes, inEnvelope, received}
 
 -- a request ended: it is open no more

@@ -29,7 +29,8 @@ use Rattle.cache_report.specs.Entry.{positionOf, positionNumber, numberFor, wor
 use Rattle.cache_state.specs.declared.CacheState.{CacheState}
 use Rattle.cache_state.specs.Reaction.{Silent, CacheReaction}
 use Rattle.cache_state.specs.State.{cacheRight}
-use Rattle.proof_cache_laws.proofs.BegunLaws.{ValidCache, valid-right}
+use Rattle.proof_cache_laws.specs.Valid.{ValidCache}
+use Rattle.proof_cache_laws.proofs.BegunLaws.{valid-right}
 use Rattle.cache_receive.specs.Receive.{forCache, awaited, endedWith, statusTaken, byStatus, ofWrite, answerTaken, byAnswer, goesOn, pastTurns, partTaken, takesPart, takes, inEnvelope, received}
 
 -- another number than 2

@@ -23,7 +23,8 @@ use Rattle.cache_state.specs.State.{reading, writing, isOpen}
 use Rattle.cache_state.specs.Reaction.{CacheReaction, refusal, unsent}
 use Rattle.cache_receive.specs.Receive.{forCache, opcodeAwaited, awaited, endedAs, received}
 use Rattle.proof_cache_laws.proofs.ReceiveLaws.{small}
-use Rattle.proof_cache_laws.proofs.BegunLaws.{Holds, valid-right}
+use Rattle.proof_cache_laws.specs.Valid.{Holds}
+use Rattle.proof_cache_laws.proofs.BegunLaws.{valid-right}
 use Rattle.proof_cache_laws.proofs.KeptLaws.{received-kept}
 use Rattle.proof_trip.specs.Taken.{endedBy}
 use Rattle.proof_trip.proofs.ReceivedLaws.{write-ended}

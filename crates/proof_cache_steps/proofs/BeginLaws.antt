@@ -24,7 +24,8 @@ use Rattle.cache_state.specs.declared.CacheState.{CacheState}
 use Rattle.cache_state.specs.State.{reading, writing, isOpen, cacheRight}
 use Rattle.cache_state.specs.Reaction.{CacheReaction, refusal}
 use Rattle.cache_state.specs.Begin.{keptMessage, keeping, nextRequest, askedAs, sent, beginning, beginsRead, sendable, beginsWrite, resends}
-use Rattle.proof_cache_laws.proofs.BegunLaws.{Holds, read-kept, write-kept}
+use Rattle.proof_cache_laws.specs.Valid.{Holds}
+use Rattle.proof_cache_laws.proofs.BegunLaws.{read-kept, write-kept}
 use Rattle.proof_trip.proofs.BeginLaws.{filters-fit, filters-few}
 use Rattle.proof_trip.proofs.BegunLaws.{takable}
 use Rattle.proof_protocol.specs.Model.{Filter, Message, read, write, exchangeOf, Cache, System, beginRead, beginWrite, FiltersFor}

@@ -27,7 +27,8 @@ use Rattle.cache_state.specs.Begin.{keeping}
 use Rattle.cache_receive.specs.Receive.{opcodeAwaited, endedAs, primedAs, nextAwaited, goesOn, ends, received}
 use Rattle.cache_receive.specs.Receive
 use Rattle.proof_cache_laws.proofs.BoundLaws.{Sized, success-sized}
-use Rattle.proof_cache_laws.proofs.BegunLaws.{Holds, valid-right}
+use Rattle.proof_cache_laws.specs.Valid.{Holds}
+use Rattle.proof_cache_laws.proofs.BegunLaws.{valid-right}
 use Rattle.proof_cache_laws.proofs.KeptLaws.{received-kept}
 use Rattle.proof_trip.proofs.ReceivedLaws
 use Rattle.proof_protocol.specs.Model.{Message, success, exchangeOf, Part, System, awaited, accept, receive}

@@ -32,7 +32,8 @@ use Rattle.server_report.specs.Blocks.{valueBlock, blockOf}
 use Rattle.cache_entries.specs.Limits.{noVersion}
 use Rattle.cache_entries.specs.Entries.{CacheEntry, clusterWord, lookup}
 use Rattle.cache_state.specs.declared.CacheState.{CacheState}
-use Rattle.proof_cache_laws.proofs.BegunLaws.{ValidCache, valid-right}
+use Rattle.proof_cache_laws.specs.Valid.{ValidCache}
+use Rattle.proof_cache_laws.proofs.BegunLaws.{valid-right}
 use Rattle.cache_ask.specs.Ask.{Said, said, coherentOf, versionSaid, saysWhole, versioned, entrySaid, saysEntry}
 use Rattle.proof_refinement.proofs.Terms.{mayRead}
 use Rattle.proof_promises.specs.World.{Plan, World, granted}

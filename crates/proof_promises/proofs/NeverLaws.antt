@@ -31,7 +31,8 @@ use Rattle.cache_state.specs.declared.CacheState.{CacheState}
 use Rattle.cache_state.specs.Reaction.{CacheReaction}
 use Rattle.cache_state.specs.Begin as begin
 use Rattle.cache_receive.specs.Receive as receive
-use Rattle.proof_cache_laws.proofs.BegunLaws.{ValidCache, valid-right}
+use Rattle.proof_cache_laws.specs.Valid.{ValidCache}
+use Rattle.proof_cache_laws.proofs.BegunLaws.{valid-right}
 use Rattle.proof_cache_laws.proofs.NeverLaws as cache
 use Rattle.proof_cache_laws.proofs.ReceiveLaws.{small}
 use Rattle.proof_protocol.specs.Model as Model
