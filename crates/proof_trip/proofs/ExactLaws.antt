@@ -113,7 +113,7 @@ module _ (c : Cached) where
   lower-bound a b [] h r = tt
   lower-bound a b (f ∷ l) h r = (omega (arith, h, r .0), r .1)
 
-  module _ (words : (k : ℕ) → k < n → word k < 2 ^ 48) where
+  module _ (words : (k : ℕ) → k < c .«cluster_count» → getD (c .clusters) k 0 < 2 ^ 48) where
     word-back : (k v : ℕ) → k < n → wordOf (versionFilterAs (word k) v) ≡ word k
     word-back k v b = omega (arith, words k b)
 
@@ -136,7 +136,7 @@ module _ (c : Cached) where
     filters-rise = from-rise n 0
 
   -- NONE IS MISSING
-  module _ (distinct : Distinct c) (k v : ℕ) (b : k < n) (e : coherentAt c k ≡ just v) where
+  module _ (distinct : Distinct c) (k v : ℕ) (b : k < c .«cluster_count») (e : coherentAt c k ≡ just v) where
     abbrev Has : List VersionFilter → Type 0
     Has l = List·Memᴰ (versionFilterAs (word k) v) l
 
@@ -152,6 +152,6 @@ module _ (c : Cached) where
             subst (λ (i : ℕ). Has (filterFor c i (word i) ++ filtersFrom c m (word i + 1))) (sym q) (rw e (List·Memᴰ·head refl)))
             (λ t. mem-right (filterFor c j (word j)) (filtersFrom c m (word j + 1)) (rest (word j + 1) (omega (arith, few, left-drops (c .clusters) bound (word j + 1) (omega (arith, h .1)) n j (h .0) (h .1) (omega arith))) (omega (arith, eqb-false (word j) (word k) t, h .2 k b low))))
 
-    pub filters-complete : Has (filtersOf c)
+    pub filters-complete : List·Memᴰ (versionFilterAs (getD (c .clusters) k 0) v) (filtersOf c)
     unfolding filtersOf
     filters-complete = from-complete n 0 (left-few (c .clusters) 0 n) (omega arith)

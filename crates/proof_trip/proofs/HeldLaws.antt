@@ -28,7 +28,7 @@ use Rattle.cache_report.specs.Entry.{positionOf, positionNumber, heldAt, heldFo
 use Rattle.cache_report.specs.Part.{Judged, blocksIn, judgementIn, judgedNext, judgedAll, heldAll, pageAll}
 use Rattle.cache_report.proofs.RightLaws.{item-right, block-right}
 use Rattle.cache_report.proofs.MapLaws.{set-same, set-other}
-use Rattle.proof_trip.specs.Taken.{Sent, TakenAs, InStep}
+use Rattle.proof_trip.specs.Taken.{Sent, TakenAs, InStep, judgedFor, heldWith, pageWith}
 use Rattle.proof_trip.specs.Held.{holding, samePath, after}
 use Rattle.proof_trip.proofs.ReceivedLaws.{six-first, six-last}
 use Rattle.proof_trip.proofs.TakenLaws.{report-taken}
@@ -118,7 +118,7 @@ module _ (l : List Block) (m : Bool) (h : Each Sent l) (c : Cached) (page : List
   abbrev s : List ℕ
   s = reportOctets l m
 
-  pub report-held : judgedAll s (record { number = 0; held = c }) (blocksIn s) .number ≡ 0 → (e cl a : ℕ) → e < 2 ^ 16 → cl < 2 ^ 32 → a < 2 ^ 32 → lookup (heldAll s c (blocksIn s)) (pageAll s c page (blocksIn s)) e cl a ≡ after e cl a (lookup c page e cl a) l
+  pub report-held : judgedFor c l m ≡ 0 → (e cl a : ℕ) → e < 2 ^ 16 → cl < 2 ^ 32 → a < 2 ^ 32 → lookup (heldWith c l m) (pageWith c page l m) e cl a ≡ after e cl a (lookup c page e cl a) l
   report-held z e cl a fe fl fa =
       let (p, here, more, step) = report-taken l m h in
       all-after s e cl a fe fl fa l (blocksIn s) step c page good (room-for s (blocksIn s) (record { number = 0; held = c }) z)

@@ -32,14 +32,14 @@ use Rattle.cache_report.specs.declared.block.NewEntry.{NewEntry}
 use Rattle.cache_report.specs.declared.block.Judgement.the-variants.{Taken}
 use Rattle.cache_report.specs.declared.position.Position.{Position}
 use Rattle.cache_report.specs.declared.position.Position.the-variants.{At, Full}
-use Rattle.cache_report.specs.Part.{Judged, blocksIn, judgementIn, judgedNext, judgedAll, heldAll, pageAll}
+use Rattle.cache_report.specs.Part.{Judged, blocksIn, judgementIn, judgedNext, judgedAll}
 use Rattle.cache_report.specs.Entry.{positionOf, positionNumber, numberFor, worse}
 use Rattle.cache_state.specs.declared.CacheState.{CacheState}
 use Rattle.cache_state.specs.State.{reading, writing, isOpen, askedRight, cacheRight}
 use Rattle.cache_state.specs.Reaction.{CacheReaction, refusal, unsent}
 use Rattle.cache_receive.specs.Receive.{forCache, opcodeAwaited, awaited, byAnswer, goesOn, ends, pastTurns, partTaken, takesPart, takes, received}
 use Rattle.proof_cache_laws.proofs.ReceiveLaws.{taken-as}
-use Rattle.proof_trip.specs.Taken.{Sent, TakenAs, InStep, anyStatus, OfPath, endedBy}
+use Rattle.proof_trip.specs.Taken.{Sent, TakenAs, InStep, anyStatus, OfPath, endedBy, judgedFor, heldWith, pageWith, replyTo}
 use Rattle.proof_trip.proofs.BeginLaws.{after-envelope}
 use Rattle.proof_trip.proofs.TakenLaws.{report-taken}
 use Rattle.proof_trip.proofs.AnswerLaws.{answer-taken}
@@ -92,30 +92,21 @@ module _ (s : List ℕ) where
 
 -- A REPORT with a status block is refused whole, and leaves everything as it was
 module _ (l : List Block) (m : Bool) (h : Each Sent l) (page : List ℕ) (s : CacheState) where
-  abbrev judged : ℕ
-  judged = judgedAll (reportOctets l m) (record { number = 0; held = s .held }) (blocksIn (reportOctets l m)) .number
-
   pub status-refused : anyStatus l ≡ true → takesPart page s (reportOctets l m) ≡ refusal 6 s page
   unfolding takesPart
   status-refused t =
       let (p, here, more, step) = report-taken l m h in
-      let six : judged ≡ 6 = judged-six (reportOctets l m) l (blocksIn (reportOctets l m)) step (record { number = 0; held = s .held }) t in
+      let six : judgedFor (s .held) l m ≡ 6 = judged-six (reportOctets l m) l (blocksIn (reportOctets l m)) step (record { number = 0; held = s .held }) t in
       ap (partTaken page s (reportOctets l m)) here
       ∙ pick-elim (λ (r : CacheReaction). r ≡ refusal 6 s page) (pastTurns (p .more) (s .asked .turn)) _ _ (λ _. refl) (λ _. rw six refl)
 
   -- where there is room it is taken: with more promised a success is sent, and on the last part the read has ended
-  abbrev held : Cached
-  held = heldAll (reportOctets l m) (s .held) (blocksIn (reportOctets l m))
-
-  abbrev texts : List ℕ
-  texts = pageAll (reportOctets l m) (s .held) page (blocksIn (reportOctets l m))
-
-  part-as : (p : PartOf ℕ) (b : Bool) → p .more ≡ pick b 1 ABSENT → (b ≡ true → s .asked .turn ≡ maxTurn → ⊥) → judged ≡ 0 → partTaken page s (reportOctets l m) (just p) ≡ pick b (goesOn held (s .asked) texts) (ends held (s .asked) texts)
+  part-as : (p : PartOf ℕ) (b : Bool) → p .more ≡ pick b 1 ABSENT → (b ≡ true → s .asked .turn ≡ maxTurn → ⊥) → judgedFor (s .held) l m ≡ 0 → partTaken page s (reportOctets l m) (just p) ≡ pick b (goesOn (heldWith (s .held) l m) (s .asked) (pageWith (s .held) page l m)) (ends (heldWith (s .held) l m) (s .asked) (pageWith (s .held) page l m))
   unfolding pastTurns
   part-as p true e n z = rw (e, ne-eqb (s .asked .turn) maxTurn (n refl), z) refl
   part-as p false e n z = rw (e, z) refl
 
-  pub part-taken : (m ≡ true → s .asked .turn ≡ maxTurn → ⊥) → judged ≡ 0 → takesPart page s (reportOctets l m) ≡ pick m (goesOn held (s .asked) texts) (ends held (s .asked) texts)
+  pub part-taken : (m ≡ true → s .asked .turn ≡ maxTurn → ⊥) → judgedFor (s .held) l m ≡ 0 → takesPart page s (reportOctets l m) ≡ pick m (goesOn (heldWith (s .held) l m) (s .asked) (pageWith (s .held) page l m)) (ends (heldWith (s .held) l m) (s .asked) (pageWith (s .held) page l m))
   unfolding takesPart
   part-taken n z =
       let (p, here, more, step) = report-taken l m h in
@@ -123,9 +114,6 @@ module _ (l : List Block) (m : Bool) (h : Each Sent l) (page : List ℕ) (s : Ca
 
 -- THE REPLY AWAITED, in its envelope
 module _ (page : List ℕ) (s : CacheState) (room : ℕ) (valid : cacheRight page s ≡ true) (large : maxMessage ≤ room) (turn-fits : s .asked .turn < 2 ^ 16) (payload : List ℕ) (short : length payload ≤ maxPayload) where
-  abbrev reply : ℕ → List ℕ
-  reply opcode = envelopeOctets cacheEdition opcode (s .asked .exchange) (s .asked .turn) ++ payload
-
   exchange-fits : s .asked .exchange < exchangeLimit
   unfolding cacheRight askedRight
   exchange-fits =
@@ -133,16 +121,16 @@ module _ (page : List ℕ) (s : CacheState) (room : ℕ) (valid : cacheRight pag
       let b = right (ltb (s .asked .used) exchangeLimit) _ a in
       omega (arith, ltb-true (s .asked .used) exchangeLimit (left (ltb (s .asked .used) exchangeLimit) _ a), leb-true (s .asked .exchange) (s .asked .used) (left (leb (s .asked .exchange) (s .asked .used)) _ b))
 
-  replied : (opcode : ℕ) → opcode < 16 → forCache cacheEdition opcode ≡ true → awaited (s .asked) (record { edition = cacheEdition; opcode = opcode; exchange = s .asked .exchange; turn = s .asked .turn }) ≡ true → received page s (reply opcode) room ≡ takes page s opcode payload
+  replied : (opcode : ℕ) → opcode < 16 → forCache cacheEdition opcode ≡ true → awaited (s .asked) (record { edition = cacheEdition; opcode = opcode; exchange = s .asked .exchange; turn = s .asked .turn }) ≡ true → received page s (replyTo (s .asked) opcode payload) room ≡ takes page s opcode payload
   replied opcode small for a =
-      taken-as page s (reply opcode) room valid large (envelope-read cacheEdition opcode (s .asked .exchange) (s .asked .turn) (omega arith) small exchange-fits turn-fits payload) (omega (arith, short, length-append (envelopeOctets cacheEdition opcode (s .asked .exchange) (s .asked .turn)) payload, length-envelope cacheEdition opcode (s .asked .exchange) (s .asked .turn))) for a (sym (after-envelope cacheEdition opcode (s .asked .exchange) (s .asked .turn) payload))
+      taken-as page s (replyTo (s .asked) opcode payload) room valid large (envelope-read cacheEdition opcode (s .asked .exchange) (s .asked .turn) (omega arith) small exchange-fits turn-fits payload) (omega (arith, short, length-append (envelopeOctets cacheEdition opcode (s .asked .exchange) (s .asked .turn)) payload, length-envelope cacheEdition opcode (s .asked .exchange) (s .asked .turn))) for a (sym (after-envelope cacheEdition opcode (s .asked .exchange) (s .asked .turn) payload))
 
-  pub report-received : s .asked .stage ≡ reading → received page s (reply reportOpcode) room ≡ takesPart page s payload
+  pub report-received : s .asked .stage ≡ reading → received page s (replyTo (s .asked) reportOpcode payload) room ≡ takesPart page s payload
   unfolding takes forCache awaited opcodeAwaited isOpen
   report-received e =
       replied reportOpcode (omega arith) refl (rw (e, eq-eqb (s .asked .exchange) (s .asked .exchange) refl, eq-eqb (s .asked .turn) (s .asked .turn) refl) refl)
 
-  pub response-received : s .asked .stage ≡ writing → received page s (reply writeResponseOpcode) room ≡ unsent (byAnswer s payload) page
+  pub response-received : s .asked .stage ≡ writing → received page s (replyTo (s .asked) writeResponseOpcode payload) room ≡ unsent (byAnswer s payload) page
   unfolding takes forCache awaited opcodeAwaited isOpen
   response-received e =
       replied writeResponseOpcode (omega arith) refl (rw (e, eq-eqb (s .asked .exchange) (s .asked .exchange) refl, eq-eqb (s .asked .turn) (s .asked .turn) refl) refl)

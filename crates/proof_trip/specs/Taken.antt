@@ -1,7 +1,7 @@
 -- What a cache is to make of what a server writes: a block with a value is taken as it was meant, one with a status is not taken, and a write ends with its status.
 use mathlib.Core.Path.{_≡_}
 use mathlib.Core.Bool.{Bool, true, false}
-use mathlib.Core.List.{List, [], _∷_}
+use mathlib.Core.List.{List, [], _∷_, _++_}
 use Prim.Native.Nat.{ℕ, _≤_}
 use lib.ListN.{length}
 use Rattle.tlv_reader.specs.Value.{Datum, datumIn, null, boolean, unsigned, signed, float, text, other}
@@ -9,11 +9,13 @@ use Rattle.base_utf8.specs.WellFormed.{wellFormed}
 use Rattle.im_blocks.specs.Data.{ReportOf}
 use Rattle.im_writer.specs.Block.{Block, value, status}
 use Rattle.im_writer.specs.Meaning.{Fits}
-use Rattle.proof_round_trip.specs.Meant.{WriteStatus}
+use Rattle.im_writer.specs.Envelope.{envelopeOctets, cacheEdition}
+use Rattle.proof_round_trip.specs.Meant.{WriteStatus, reportOctets}
+use Rattle.cache_entries.specs.declared.Cached.{Cached}
 use Rattle.cache_entries.specs.Limits.{textSize}
 use Rattle.cache_report.specs.declared.block.NewEntry.{NewEntry}
 use Rattle.cache_report.specs.declared.block.Judgement.the-variants.{Taken, Unusable}
-use Rattle.cache_report.specs.Part.{judgementIn}
+use Rattle.cache_report.specs.Part.{blocksIn, judgementIn, judgedAll, heldAll, pageAll}
 use Rattle.cache_state.specs.declared.Request.{Request}
 use Rattle.cache_state.specs.declared.CacheState.{CacheState}
 use Rattle.cache_state.specs.State.{withStatus}
@@ -71,3 +73,17 @@ pub record OfPath (x : Request) (o : WriteStatus) : Type 0 where
 -- the newest request ended with this status; the cache is done with the exchange and sends nothing
 abbrev pub endedBy : CacheState → ℕ → Silent
 endedBy s code = begins-none 1 (record { held = s .held; asked = endedAs (s .asked) withStatus code })
+
+-- what a cache makes of a report of these blocks: the number that they get (0: there is room for all), what it then holds, and its page
+abbrev pub judgedFor : Cached → List Block → Bool → ℕ
+judgedFor c l m = judgedAll (reportOctets l m) (record { number = 0; held = c }) (blocksIn (reportOctets l m)) .number
+
+abbrev pub heldWith : Cached → List Block → Bool → Cached
+heldWith c l m = heldAll (reportOctets l m) c (blocksIn (reportOctets l m))
+
+abbrev pub pageWith : Cached → List ℕ → List Block → Bool → List ℕ
+pageWith c page l m = pageAll (reportOctets l m) c page (blocksIn (reportOctets l m))
+
+-- the reply that a request awaits, in its envelope
+abbrev pub replyTo : Request → ℕ → List ℕ → List ℕ
+replyTo x opcode payload = envelopeOctets cacheEdition opcode (x .exchange) (x .turn) ++ payload
