@@ -58,17 +58,17 @@ module _ (w : List ℕ) (right : wellFormed w ≡ true) (v : Values) (fits : (k 
       ∙ filled-at false (skipsAt w fs (v .versions)) clusterLimit (clusterCount w) place false (cluster-of w right i l)
 
   -- one that may be read
-  module _ (readable : eqb (attributeRow w i .read) 0 ≡ false) (granted : isGranted g place (attributeRow w i .read) ≡ true) where
+  module _ (readable : eqb (attributeRow w i .read) 0 ≡ false) (granted : isGranted g (attributeRow w i .clusterIndex) (attributeRow w i .read) ≡ true) where
     judged-now : readItem w g (viewOf w v defaults edits g (filterWords w fs) .skips) i ≡ pick (skipsBy fs endpoint cluster version) Nothing (Value i)
     judged-now = read-tests w g (viewOf w v defaults edits g (filterWords w fs) .skips) i ∙ rw (readable, granted, skips-now)
 
     -- THE VERSION MOVED AWAY from what a filter carries: the attribute is reported, even if that filter agreed when the request was taken
-    pub reported-now : (d : VersionFilter) (n : ℕ) → n < length fs → on endpoint cluster (getD fs n d) ≡ true → (getD fs n d .version ≡ version → ⊥) → readItem w g (viewOf w v defaults edits g (filterWords w fs) .skips) i ≡ Value i
+    pub reported-now : (d : VersionFilter) (n : ℕ) → n < length fs → on (clusterRow w (attributeRow w i .clusterIndex) .endpoint) (clusterRow w (attributeRow w i .clusterIndex) .cluster) (getD fs n d) ≡ true → (getD fs n d .version ≡ getD (v .versions) (attributeRow w i .clusterIndex) 0 → ⊥) → readItem w g (viewOf w v defaults edits g (filterWords w fs) .skips) i ≡ Value i
     unfolding skipsBy
     reported-now d n h o k =
         judged-now ∙ rw (disagrees endpoint cluster version d fs n h o k, and-false (some endpoint cluster fs))
 
     -- THE VERSION MOVED to what all its filters carry: the attribute is skipped, even if none agreed when the request was taken
-    pub skipped-now : some endpoint cluster fs ≡ true → agree endpoint cluster version fs ≡ true → readItem w g (viewOf w v defaults edits g (filterWords w fs) .skips) i ≡ Nothing
+    pub skipped-now : some (clusterRow w (attributeRow w i .clusterIndex) .endpoint) (clusterRow w (attributeRow w i .clusterIndex) .cluster) fs ≡ true → agree (clusterRow w (attributeRow w i .clusterIndex) .endpoint) (clusterRow w (attributeRow w i .clusterIndex) .cluster) (getD (v .versions) (attributeRow w i .clusterIndex) 0) fs ≡ true → readItem w g (viewOf w v defaults edits g (filterWords w fs) .skips) i ≡ Nothing
     unfolding skipsBy
     skipped-now s a = judged-now ∙ rw (s, a)
