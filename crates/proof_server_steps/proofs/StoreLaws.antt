@@ -17,7 +17,7 @@ use Rattle.node_schema.proofs.PathLaws.{cluster-there}
 use Rattle.server_values.specs.declared.Values.{Values}
 use Rattle.server_values.specs.Values.{datumAt}
 use Rattle.server_values.specs.Change.{changes, storedValues, storedEdits}
-use Rattle.server_values.proofs.StoreLaws.{Storing}
+use Rattle.server_values.specs.Storing.{Storing}
 use Rattle.server_values.proofs.MoveLaws.{version-stays, version-raised, stored-datum, other-datum}
 use Rattle.proof_protocol.specs.Model as Model
 use Rattle.proof_protocol.specs.Model.{System, Store, storedIn, storeAll, change}

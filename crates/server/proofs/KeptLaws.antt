@@ -13,7 +13,7 @@ use Rattle.node_kinds.specs.Stored.{Sized}
 use Rattle.node_schema.specs.Rules.{Rules}
 use Rattle.node_schema.proofs.RulesLaws.{well-formed-rules}
 use Rattle.node_access.specs.declared.Grants.{Grants}
-use Rattle.server_values.proofs.ValidLaws.{Whole}
+use Rattle.server_values.specs.Storing.{Whole}
 use Rattle.im_exchange.specs.declared.Step.{Step}
 use Rattle.im_exchange.specs.declared.Step.the-variants.{Silence, Begin, Repeat, Next, Close}
 use Rattle.im_exchange.specs.Rules.{nothing}

@@ -23,16 +23,9 @@ use Rattle.node_schema.specs.Layout.{textSize}
 use Rattle.node_plan.proofs.TextLaws.{Judged, judged-text}
 use Rattle.server_values.specs.Values.{heldDatum}
 use Rattle.server_values.specs.Change.{textOf, isText, wordFor}
+use Rattle.server_values.specs.Storing.{Accepted}
 use Rattle.server_values.proofs.ChangeLaws.{plain-word, null-in}
 use Rattle.server_values.proofs.ValueLaws.{part-length, textual}
-
-pub record Accepted (k : Kind) (nullable : Bool) (d : Datum) : Type 0 where
-  -- the limits allow what it is stored as
-  pub within : held k nullable (wordFor d) (isNull d) ≡ true
-  -- and that means this value
-  pub back : heldDatum k (wordFor d) (isNull d) (textOf d) ≡ d
-  pub size : length (textOf d) ≤ textSize
-  pub valid : wellFormed (textOf d) ≡ true
 
 module _ (s : List ℕ) (nullable : Bool) where
   -- only a text's kind allows a text

@@ -20,7 +20,8 @@ use Rattle.node_schema.proofs.BoolLaws.{left, by-test}
 use Rattle.server_values.specs.Values.{heldDatum}
 use Rattle.server_values.specs.Change.{textOf, isText, wordFor, differsFrom}
 use Rattle.server_values.proofs.ValueLaws.{textual, is-textual}
-use Rattle.server_values.proofs.AcceptedLaws.{Accepted, own-kind}
+use Rattle.server_values.specs.Storing.{Accepted}
+use Rattle.server_values.proofs.AcceptedLaws.{own-kind}
 
 -- the value of another kind than text does not depend on what is shown, a text's on nothing else
 number-held : (k : Kind) (word : ℕ) (shown other : List ℕ) → textual k ≡ false → heldDatum k word false shown ≡ heldDatum k word false other

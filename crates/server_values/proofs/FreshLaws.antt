@@ -20,7 +20,8 @@ use Rattle.server_values.specs.Values.{markAt}
 use Rattle.server_values.specs.Fresh.{startWord, freshValues}
 use Rattle.server_values.specs.Valid.{textRight, valuesRight}
 use Rattle.server_values.proofs.ValueLaws.{mark-there, part-length}
-use Rattle.server_values.proofs.ValidLaws.{withinLimits, whole-text, rank-cut, text-there, number-right, text-within, text-right, rightAt, right-all, Whole}
+use Rattle.server_values.specs.Storing.{Whole}
+use Rattle.server_values.proofs.ValidLaws.{withinLimits, whole-text, rank-cut, text-there, number-right, text-within, text-right, rightAt, right-all}
 
 module _ (f : ℕ → ℕ) (n : ℕ) (l : List ℕ) (i : ℕ) (filling : l ≡ filled 0 f n i) where
   -- a turn of the loop

@@ -18,7 +18,8 @@ use Rattle.server_values.specs.Values.{shownOf, datumAt, versionAt}
 use Rattle.server_values.specs.Change.{changes, setAt, editsSet, storedValues, storedEdits}
 use Rattle.server_values.proofs.ExactLaws.{means, same-held, exactly}
 use Rattle.server_values.proofs.ValidLaws.{right-at, limits-at}
-use Rattle.server_values.proofs.StoreLaws.{Storing, cluster-room, word-set, null-set, shown-set, datum-stays}
+use Rattle.server_values.specs.Storing.{Storing}
+use Rattle.server_values.proofs.StoreLaws.{cluster-room, word-set, null-set, shown-set, datum-stays}
 
 module _ (w defaults edits : List ℕ) (v : Values) (i : ℕ) (d : Datum) where
   -- other clusters keep their versions

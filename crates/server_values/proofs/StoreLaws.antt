@@ -16,11 +16,9 @@ use Rattle.node_kinds.specs.Stored.{nextVersion}
 use Rattle.node_schema.specs.Layout.{textLimit, textSize}
 use Rattle.node_schema.specs.Rows.{attributeRow, attributeCount, factoryStart, factoryLength}
 use Rattle.node_schema.specs.Rows as rows
-use Rattle.node_schema.specs.Rules.{Rules}
 use Rattle.node_schema.proofs.BoolLaws.{by-test}
 use Rattle.node_schema.proofs.PathLaws.{cluster-there}
 use Rattle.node_schema.proofs.TextLaws.{text-inside}
-use Rattle.node_plan.specs.Attributes.{kindOf}
 use Rattle.node_plan.specs.Pages.{place, padded, PlacesFormed}
 use Rattle.node_plan.proofs.PageLaws.{padded-length, stored-shown}
 use Rattle.node_plan.proofs.TextLaws.{place-fits, ranks-apart, text-stays}
@@ -31,8 +29,9 @@ use Rattle.server_values.specs.Change.{textOf, isText, wordFor, markFor,
 use Rattle.server_values.specs.Valid.{markMax, textRight, valueRight, valuesRight}
 use Rattle.server_values.proofs.ChangeLaws.{null-no-text, null-word, text-word, mark-length}
 use Rattle.server_values.proofs.ValueLaws.{mark-there, text-row}
-use Rattle.server_values.proofs.AcceptedLaws.{Accepted, own-kind, text-present}
-use Rattle.server_values.proofs.ValidLaws.{whole-text, text-null, text-there, mark-right, number-right, text-right, rightAt, edits-size, right-at, right-all, text-here, Whole}
+use Rattle.server_values.proofs.AcceptedLaws.{own-kind, text-present}
+use Rattle.server_values.specs.Storing.{Whole, Storing}
+use Rattle.server_values.proofs.ValidLaws.{whole-text, text-null, text-there, mark-right, number-right, text-right, rightAt, edits-size, right-at, right-all, text-here}
 
 -- the page of edits keeps its length
 pub edits-length : (w edits : List ℕ) (i : ℕ) (d : Datum) → length (editsSet w edits i d) ≡ length edits
@@ -41,13 +40,6 @@ edits-length w edits i d =
     by-test (isText d) (λ t. rw t (length-store edits (place (attributeRow w i .first)) (padded (textOf d)))) (λ t. rw t)
 
 -- ---- what is to be stored, and where
-
-pub record Storing (w defaults edits : List ℕ) (v : Values) (i : ℕ) (d : Datum) : Type 0 where
-  pub rules : Rules w
-  pub whole : Whole v
-  pub right : valuesRight w defaults edits v ≡ true
-  pub there : i < attributeCount w
-  pub accepted : Accepted (kindOf (attributeRow w i)) (eqb (attributeRow w i .nullable) 1) d
 
 module _ (w defaults edits : List ℕ) (v : Values) (i : ℕ) (d : Datum) (s : Storing w defaults edits v i d) where
   text-goes : isText d ≡ true → rows.isText (attributeRow w i) ≡ true

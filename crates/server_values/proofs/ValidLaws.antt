@@ -7,11 +7,11 @@ use native.Mathlib.Omega.{arith}
 use borrow.Author.Tests.{eqb-true, eq-eqb, ne-eqb, le-leb, lt-leb, leb-true}
 use lib.Dec.{eqb, leb}
 use lib.ListN.{length, getD, take, drop}
-use Rattle.base_bounds.specs.Bounds.{clusterLimit, attributeLimit, textMax}
+use Rattle.base_bounds.specs.Bounds.{textMax}
 use Rattle.base_utf8.specs.WellFormed.{wellFormed}
 use Rattle.base_utf8.specs.Boundary.{cutWell}
 use Rattle.base_utf8.proofs.Cuts.{cut-exactly}
-use Rattle.node_schema.specs.Layout.{textLimit, textSize}
+use Rattle.node_schema.specs.Layout.{textSize}
 use Rattle.node_schema.specs.Rows.{attributeRow, attributeCount, isText, factoryStart, factoryLength}
 use Rattle.node_schema.specs.Check.{every, textCount}
 use Rattle.node_schema.proofs.BoolLaws.{both, left, right}
@@ -220,10 +220,3 @@ module _ (w defaults edits : List ℕ) (v : Values) where
       let mark = markAt w (v .texts) i in
       let s = shown-here w defaults edits r mark (getD (v .nulls) i false) (text-here i t h) n in
       rw t (right-short (rankText w defaults edits r mark) (rankLength w r mark) s, right-formed (rankText w defaults edits r mark) (rankLength w r mark) s)
-
--- the arrays of what is held have their lengths, as those of the code do
-pub record Whole (v : Values) : Type 0 where
-  pub words : length (v .words) ≡ attributeLimit
-  pub nulls : length (v .nulls) ≡ attributeLimit
-  pub texts : length (v .texts) ≡ textLimit
-  pub versions : length (v .versions) ≡ clusterLimit

@@ -3,3 +3,4 @@ pub mod Change
 pub mod Fresh
 pub mod Valid
 pub mod Quick
+pub mod Storing

@@ -20,8 +20,8 @@ use Rattle.server_values.specs.declared.Values.{Values}
 use Rattle.server_values.specs.Change.{changes, storedEdits}
 use Rattle.server_values.specs.Valid.{valuesRight}
 use Rattle.server_values.proofs.AcceptedLaws.{accepted}
-use Rattle.server_values.proofs.ValidLaws.{Whole}
-use Rattle.server_values.proofs.StoreLaws.{Storing, edits-length, store-keeps, whole-kept}
+use Rattle.server_values.specs.Storing.{Whole, Storing}
+use Rattle.server_values.proofs.StoreLaws.{edits-length, store-keeps, whole-kept}
 use Rattle.server_selection.specs.declared.locate.Located.{Located}
 use Rattle.server_selection.specs.declared.locate.Located.the-variants.{Here, Refused}
 use Rattle.server_selection.specs.Locate.{located}
