@@ -19,7 +19,7 @@ use Rattle.server_replies.specs.declared.ExchangeRow.{ExchangeRow}
 use Rattle.server_replies.specs.Messages.{maxMessage}
 use Rattle.server_replies.specs.Server.{Server, ServerReaction, withState}
 use Rattle.server_replies.specs.Row.{keptReply, pathsOf}
-use Rattle.server.proofs.KeptLaws.{ValidServer}
+use Rattle.server.specs.Valid.{ValidServer}
 use Rattle.proof_protocol.specs.Model.{Part, ServedExchange, Cluster, System}
 use Rattle.proof_protocol.specs.Claims.{moved}
 use Rattle.proof_refinement.proofs.Terms.{readableFrom, filtersAs, ClustersAs}

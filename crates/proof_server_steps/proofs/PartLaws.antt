@@ -24,7 +24,7 @@ use Rattle.server_replies.proofs.MessageLaws.{report-length}
 use Rattle.server_replies.proofs.RowLaws.{kept-back}
 use Rattle.server_replies.proofs.KeptLaws.{keeping-whole}
 use Rattle.server.specs.Receive.{replied}
-use Rattle.server.proofs.KeptLaws.{ValidServer}
+use Rattle.server.specs.Valid.{ValidServer}
 use Rattle.proof_protocol.specs.Model.{Part, partOf, rowAfter, send}
 use Rattle.proof_refinement.proofs.Terms.{readableFrom, filtersAs}
 use Rattle.proof_refinement.proofs.Bytes.{reports}

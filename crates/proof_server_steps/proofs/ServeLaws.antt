@@ -14,7 +14,8 @@ use Rattle.im_exchange.specs.declared.Step.the-variants.{Silence, Repeat}
 use Rattle.server_replies.specs.declared.ExchangeRow.{ExchangeRow}
 use Rattle.server_replies.specs.Server.{Server, Caller, ServerReaction, withRow, withState}
 use Rattle.server.specs.Receive.{silence, replied, reacted, received}
-use Rattle.server.proofs.KeptLaws.{ValidServer, received-kept}
+use Rattle.server.specs.Valid.{ValidServer}
+use Rattle.server.proofs.KeptLaws.{received-kept}
 use Rattle.proof_protocol.specs.Model.{Message, Node, Part, Store, System, rowAfter, send, sendAgain, serve}
 use Rattle.proof_protocol.specs.Claims.{moved}
 use Rattle.proof_refinement.proofs.Bytes.{silent}

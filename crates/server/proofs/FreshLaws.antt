@@ -18,7 +18,7 @@ use Rattle.server_replies.specs.Row.{rowRight, servedRight, standingIn}
 use Rattle.server_replies.proofs.RowLaws.{right-row, kept-none}
 use Rattle.server.specs.Start.{freshRow, started}
 use Rattle.server.proofs.ServerLaws.{RightServer, right-server}
-use Rattle.server.proofs.KeptLaws.{ValidServer}
+use Rattle.server.specs.Valid.{ValidServer}
 
 pub fresh-row-right : rowRight freshRow ≡ true
 unfolding freshRow standingIn servedRight
@@ -42,7 +42,7 @@ module _ (w defaults : List ℕ) (h : accepted w defaults ≡ true) where
   unfolding checked
   fresh-rules = check-done w defaults .0 (ap (λ (b : Bool). pick b done schemaRefused) h)
 
-  pub fresh-valid : (edits : List ℕ) → length edits ≡ textSize * textCount w → ValidServer (fresh edits)
+  pub fresh-valid : (edits : List ℕ) → length edits ≡ textSize * textCount w → ValidServer (record { schema = w; defaults = defaults; state = started w defaults edits .state })
   fresh-valid edits size =
       let r : RightServer (made edits) = record {
         plan = h;

@@ -13,7 +13,6 @@ use Rattle.node_kinds.specs.Stored.{Sized}
 use Rattle.node_schema.specs.Rules.{Rules}
 use Rattle.node_schema.proofs.RulesLaws.{well-formed-rules}
 use Rattle.node_access.specs.declared.Grants.{Grants}
-use Rattle.server_values.specs.Storing.{Whole}
 use Rattle.im_exchange.specs.declared.Step.{Step}
 use Rattle.im_exchange.specs.declared.Step.the-variants.{Silence, Begin, Repeat, Next, Close}
 use Rattle.im_exchange.specs.Rules.{nothing}
@@ -30,18 +29,13 @@ use Rattle.server_replies.proofs.RowLaws.{row-right, right-row, served-some, pr
 use Rattle.im_writer.specs.Envelope.{exchangeLimit}
 use Rattle.im_exchange.specs.declared.Action.{Action}
 use Rattle.im_exchange.specs.declared.Action.the-variants.{Status, Read, Write, Other}
-use Rattle.server.specs.State.{serverRight}
 use Rattle.server.specs.Start.{alteredBy}
 use Rattle.server.specs.Receive.{closing, reacted, received}
+use Rattle.server.specs.Valid.{ValidServer}
 use Rattle.server.proofs.ServerLaws.{RightServer, server-right, right-server, schema-of}
 use Rattle.server.proofs.StartLaws.{altered-right}
 use Rattle.server.proofs.StepLaws.{Taken}
 use Rattle.server.proofs.ReceivedLaws.{received-holds}
-
--- a server that keeps the rules; its arrays have their lengths, as those of the code do
-pub record ValidServer (s : Server) : Type 0 where
-  pub whole : Whole (s .state .values)
-  pub right : serverRight s ≡ true
 
 -- a write keeps what is held right
 write-keeps : (s : Server) → Rules (s .schema) → Right (s .schema) (s .defaults) (heldBy (s .state)) → (g : Grants) (exchange : ℕ) (payload : List ℕ) → Right (s .schema) (s .defaults) (heldBy (writeBegun s g exchange payload))

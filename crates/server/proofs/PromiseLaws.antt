@@ -2,20 +2,17 @@
 use mathlib.Core.Path.{_≡_, refl, ap, _∙_}
 use mathlib.Core.Bool.{true, false, not}
 use mathlib.Core.List.{List, [], _∷_}
-use Prim.Native.Nat.{ℕ, _≤_, _<_}
+use Prim.Native.Nat.{ℕ, _≤_}
 use native.Mathlib.Omega.{arith}
 use borrow.Author.Tests.{eq-eqb, lt-ltb}
-use lib.ListN.{length, getD, drop}
+use lib.ListN.{length, drop}
 use Rattle.tlv_reader.specs.Decode.Opt.{just}
 use Rattle.im_envelope.specs.declared.Fields.{Fields}
-use Rattle.im_envelope.specs.declared.Envelope.the-variants.{Whole}
-use Rattle.im_envelope.specs.Envelope.{envelopeIn}
 use Rattle.im_requests.specs.Status.{responseIn}
-use Rattle.node_schema.specs.Layout.{subjectWord}
 use Rattle.im_exchange.specs.declared.Progress.{Progress}
 use Rattle.im_exchange.specs.declared.Step.the-variants.{Next}
 use Rattle.im_exchange.specs.declared.Action.the-variants.{Status}
-use Rattle.im_exchange.specs.Rules.{statusOpcode, maxTurn, part, actionOf, onStatus}
+use Rattle.im_exchange.specs.Rules.{maxTurn, actionOf, onStatus}
 use Rattle.im_exchange.proofs.ActionLaws.{status-action}
 use Rattle.server_replies.specs.Messages.{envelopeLength, maxMessage}
 use Rattle.server_replies.specs.Server.{Server, Caller, withRow}
@@ -24,24 +21,9 @@ use Rattle.server_replies.proofs.KeptLaws.{next-right, next-some}
 use Rattle.im_writer.specs.Envelope.{cacheEdition}
 use Rattle.server.specs.State.{serverRight}
 use Rattle.server.specs.Receive.{numberFor, replied, stepOf, reacted, received, forServer}
+use Rattle.server.specs.Promise.{Success, Promised}
 use Rattle.server.proofs.ReactLaws.{kept-length, next-whole, len-of}
 use Rattle.server.proofs.ReceiveLaws.{served, right-row-of}
-
--- a success for the newest reply of an exchange that promised more and was not closed
-pub record Success (s : Server) (c : Caller) (m : List ℕ) (e : Fields) : Type 0 where
-  pub found : envelopeIn m ≡ Whole e
-  pub fits : length m ≤ maxMessage
-  pub edition : e .edition ≡ cacheEdition
-  pub opcode : e .opcode ≡ statusOpcode
-  pub ours : c .subject ≡ getD (s .schema) subjectWord 0
-  pub exchange : e .exchange ≡ s .state .row .progress .last
-  pub turn : e .turn ≡ s .state .row .progress .turn
-  pub status : responseIn (drop envelopeLength m) ≡ just 0
-
-pub record Promised (x : Progress) : Type 0 where
-  pub promised : x .next ≡ part
-  pub unclosed : x .closed ≡ 0
-  pub left : x .turn < maxTurn
 
 step-next : (x : Progress) (e : Fields) (payload : List ℕ) → e .exchange ≡ x .last → e .turn ≡ x .turn → responseIn payload ≡ just 0 → Promised x → stepOf x Status e payload ≡ Next
 unfolding stepOf onStatus

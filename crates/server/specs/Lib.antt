@@ -1,3 +1,5 @@
 pub mod State
 pub mod Receive
 pub mod Start
+pub mod Valid
+pub mod Promise

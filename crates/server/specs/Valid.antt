@@ -1,0 +1,11 @@
+-- A server that keeps the rules (refusal 2, RULES 6.1).
+use mathlib.Core.Path.{_≡_}
+use mathlib.Core.Bool.{true}
+use Rattle.server_values.specs.Storing.{Whole}
+use Rattle.server_replies.specs.Server.{Server}
+use Rattle.server.specs.State.{serverRight}
+
+-- a server that keeps the rules; its arrays have their lengths, as those of the code do
+pub record ValidServer (s : Server) : Type 0 where
+  pub whole : Whole (s .state .values)
+  pub right : serverRight s ≡ true
