@@ -32,9 +32,9 @@ use Rattle.proof_trip.proofs.HeldLaws.{block-held}
 use Rattle.proof_trip.proofs.TakenLaws.{report-taken}
 use Rattle.proof_protocol.specs.Model.{Entry, Part, samePlace, setEntry, setEntries}
 use Rattle.proof_protocol.proofs.SmallLaws.{and-r, same-refl, select-mem, mem-select}
-use Rattle.proof_refinement.proofs.Terms.{placeAt}
-use Rattle.proof_refinement.proofs.Bytes.{EntryRight, PartRight, blockAs, partPayload}
-use Rattle.proof_refinement.proofs.Cache.{DistinctKeys, ClusterRows, Found, HeldAs}
+use Rattle.proof_refinement.specs.Terms.{placeAt}
+use Rattle.proof_refinement.specs.Bytes.{EntryRight, PartRight, blockAs, partPayload}
+use Rattle.proof_refinement.specs.Cache.{DistinctKeys, ClusterRows, Found, HeldAs}
 use Rattle.proof_cache_parts.proofs.PositionLaws.{row-fits, position-there, set-once}
 
 -- the test of paths

@@ -31,7 +31,7 @@ use Rattle.cache_report.specs.Entry.{entryPosition, positionOf, positionNumber,
 use Rattle.cache_report.proofs.EntryLaws.{Goes, position-goes}
 use Rattle.proof_trip.specs.Exact.{Distinct}
 use Rattle.proof_protocol.specs.Model.{Entry}
-use Rattle.proof_refinement.proofs.Cache.{DistinctKeys, ClusterRows, HeldAs}
+use Rattle.proof_refinement.specs.Cache.{DistinctKeys, ClusterRows, HeldAs}
 use Rattle.proof_cache_parts.proofs.RoomLaws.{room-left}
 use Rattle.proof_cache_parts.proofs.OnceLaws.{not-there, found-once, once-set}
 

@@ -29,8 +29,8 @@ use Rattle.proof_cache_laws.proofs.KeptLaws.{received-kept}
 use Rattle.proof_trip.specs.Taken.{endedBy}
 use Rattle.proof_trip.proofs.ReceivedLaws.{write-ended}
 use Rattle.proof_protocol.specs.Model.{Message, exchangeOf, System}
-use Rattle.proof_refinement.proofs.Bytes.{MessageAs, Wrote, answerBytes}
-use Rattle.proof_refinement.proofs.Cache.{CacheAs}
+use Rattle.proof_refinement.specs.Bytes.{MessageAs, Wrote, answerBytes}
+use Rattle.proof_refinement.specs.Cache.{CacheAs}
 use Rattle.proof_cache_steps.proofs.Reactions.{Still, Takes}
 
 module _ (w : List ℕ) (rules : Rules w) where

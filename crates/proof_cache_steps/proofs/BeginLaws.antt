@@ -29,9 +29,9 @@ use Rattle.proof_cache_laws.proofs.BegunLaws.{read-kept, write-kept}
 use Rattle.proof_trip.proofs.BeginLaws.{filters-fit, filters-few}
 use Rattle.proof_trip.proofs.BegunLaws.{takable}
 use Rattle.proof_protocol.specs.Model.{Filter, Message, read, write, exchangeOf, Cache, System, beginRead, beginWrite, FiltersFor}
-use Rattle.proof_refinement.proofs.Terms.{filtersAs}
-use Rattle.proof_refinement.proofs.Bytes.{MessageAs, reads, writes, WriteFits}
-use Rattle.proof_refinement.proofs.Cache.{Writing, CacheAs}
+use Rattle.proof_refinement.specs.Terms.{filtersAs}
+use Rattle.proof_refinement.specs.Bytes.{MessageAs, reads, writes, WriteFits}
+use Rattle.proof_refinement.specs.Cache.{Writing, CacheAs}
 use Rattle.im_writer.specs.Envelope.{cacheEdition, exchangeLimit}
 use Rattle.proof_cache_steps.proofs.Reactions.{Still, Begins}
 use Rattle.proof_cache_steps.proofs.FilterLaws.{filters-for}

@@ -21,8 +21,8 @@ use Rattle.cache_entries.proofs.CoherentLaws.{coherent-exactly}
 use Rattle.cache_state.specs.declared.CacheState.{CacheState}
 use Rattle.cache_ask.specs.Ask.{coherentOf}
 use Rattle.proof_protocol.specs.Model.{ConcretePath, Entry, Cache, CoherentIn}
-use Rattle.proof_refinement.proofs.Bytes.{EntryRight}
-use Rattle.proof_refinement.proofs.Cache.{CacheAs}
+use Rattle.proof_refinement.specs.Bytes.{EntryRight}
+use Rattle.proof_refinement.specs.Cache.{CacheAs}
 use Rattle.proof_cache_steps.proofs.EntryLaws.{word-at, cluster-held, stands, held-there, coherent-held, coherent-there}
 
 -- the cluster of an entry is a row of the schema

@@ -15,8 +15,7 @@ use Rattle.cache_entries.specs.declared.Cached.{Cached}
 use Rattle.cache_entries.specs.Limits.{half}
 use Rattle.cache_entries.specs.Entries.{CacheEntry, clusterWord, keyWord, clusterAt, entryAt, entryOf, atEntry, inCluster, pathAt, lookup}
 use Rattle.cache_order.specs.Order.{wordAt}
-use Rattle.cache_entries.specs.Coherent.{coherentAt}
-use Rattle.cache_entries.specs.Coherent.{Of}
+use Rattle.cache_entries.specs.Coherent.{coherentAt, Of}
 use Rattle.cache_ask.specs.Ask.{coherentThere, coherentOf}
 use Rattle.proof_cache_parts.proofs.OnceLaws.{Once, found-once}
 

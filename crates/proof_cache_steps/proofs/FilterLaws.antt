@@ -26,8 +26,8 @@ use Rattle.cache_ask.specs.Ask.{coherentOf}
 use Rattle.proof_trip.specs.Exact.{FilterOf}
 use Rattle.proof_trip.proofs.ExactLaws.{filters-exact, filters-complete}
 use Rattle.proof_protocol.specs.Model.{Filter, Cache, CoherentIn, FiltersFor}
-use Rattle.proof_refinement.proofs.Terms.{rowFound, clusterNumber, filterAs, filtersAs}
-use Rattle.proof_refinement.proofs.Cache.{CacheAs}
+use Rattle.proof_refinement.specs.Terms.{rowFound, clusterNumber, filterAs, filtersAs}
+use Rattle.proof_refinement.specs.Cache.{CacheAs}
 use Rattle.proof_cache_parts.proofs.OnceLaws.{found-once}
 use Rattle.proof_cache_steps.proofs.EntryLaws.{word-at, coherent-held, coherent-there}
 use Rattle.proof_cache_steps.proofs.CoherentLaws.{of-row, coherent-row, coherent-as}

@@ -12,7 +12,7 @@ use Rattle.cache_state.specs.State.{isOpen}
 use Rattle.cache_state.specs.Begin.{fresh}
 use Rattle.proof_cache_laws.proofs.BegunLaws.{fresh-valid}
 use Rattle.proof_protocol.specs.Model.{Node, start}
-use Rattle.proof_refinement.proofs.Cache.{CacheAs}
+use Rattle.proof_refinement.specs.Cache.{CacheAs}
 use Rattle.proof_cache_steps.proofs.EntryLaws.{cluster-held, word-at}
 
 module _ (w : List ℕ) (rules : Rules w) where

@@ -32,8 +32,8 @@ use Rattle.proof_cache_laws.proofs.BegunLaws.{valid-right}
 use Rattle.proof_cache_laws.proofs.KeptLaws.{received-kept}
 use Rattle.proof_trip.proofs.ReceivedLaws
 use Rattle.proof_protocol.specs.Model.{Message, success, exchangeOf, Part, System, awaited, accept, receive}
-use Rattle.proof_refinement.proofs.Bytes.{blockAs, partPayload, partBytes, PartRight, MessageAs, succeeds}
-use Rattle.proof_refinement.proofs.Cache.{HeldAs, CacheAs}
+use Rattle.proof_refinement.specs.Bytes.{blockAs, partPayload, partBytes, PartRight, MessageAs, succeeds}
+use Rattle.proof_refinement.specs.Cache.{HeldAs, CacheAs}
 use Rattle.proof_cache_parts.proofs.PartLaws.{each-sent, part-held}
 use Rattle.proof_cache_steps.proofs.Reactions.{sentWith, Takes}
 use Rattle.proof_cache_steps.proofs.PrimedLaws.{primed-all, primed-held}

@@ -21,7 +21,7 @@ use Rattle.cache_receive.specs.Receive.{primedAs}
 use Rattle.cache_receive.specs.Receive
 use Rattle.proof_trip.proofs.ReceivedLaws
 use Rattle.proof_protocol.specs.Model.{Entry}
-use Rattle.proof_refinement.proofs.Cache.{HeldAs}
+use Rattle.proof_refinement.specs.Cache.{HeldAs}
 
 -- BLOCKS
 primed-one : (c : Cached) (f : Judgement) → heldFor c f .primed ≡ c .primed

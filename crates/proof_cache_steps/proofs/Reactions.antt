@@ -7,8 +7,8 @@ use Rattle.tlv_reader.specs.Value.{Datum}
 use Rattle.cache_state.specs.declared.CacheState.{CacheState}
 use Rattle.cache_state.specs.Reaction.{CacheReaction}
 use Rattle.proof_protocol.specs.Model.{Message, Cache, System}
-use Rattle.proof_refinement.proofs.Bytes.{MessageAs}
-use Rattle.proof_refinement.proofs.Cache.{CacheAs}
+use Rattle.proof_refinement.specs.Bytes.{MessageAs}
+use Rattle.proof_refinement.specs.Cache.{CacheAs}
 
 -- nothing moved and nothing was sent
 pub record Still (page : List ℕ) (s : CacheState) (x : CacheReaction) : Type 0 where

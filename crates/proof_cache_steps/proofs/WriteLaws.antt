@@ -19,7 +19,7 @@ use Rattle.im_envelope.specs.Envelope.{envelopeIn}
 use Rattle.cache_messages.specs.Messages.{writeMessage}
 use Rattle.proof_trip.proofs.BeginLaws.{read-envelope, write-envelope, success-envelope, write-meant}
 use Rattle.proof_protocol.specs.Model.{Message, exchangeOf}
-use Rattle.proof_refinement.proofs.Bytes.{MessageAs, reads, writes, succeeds, WriteFits, Wrote}
+use Rattle.proof_refinement.specs.Bytes.{MessageAs, reads, writes, succeeds, WriteFits, Wrote}
 use Rattle.im_writer.specs.Envelope.{envelopeLength, cacheEdition, exchangeLimit}
 
 abbrev exchangeIn : Envelope → ℕ

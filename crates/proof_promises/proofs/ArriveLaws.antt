@@ -27,9 +27,9 @@ use Rattle.proof_protocol.proofs.ServeLaws.{most-one, most-all}
 use Rattle.proof_protocol.proofs.Inductive.{reach-inv}
 use Rattle.proof_protocol.proofs.OpenLaws.{reach-open}
 use Rattle.proof_protocol.proofs.ProgressLaws.{T-and, eqb-of, Answer, VersionFilters, says}
-use Rattle.proof_refinement.proofs.Terms.{filtersAs}
-use Rattle.proof_refinement.proofs.Bytes.{MessageAs, partBytes, ReplyAs, silent, reports, answers}
-use Rattle.proof_refinement.proofs.Server.{Serves}
+use Rattle.proof_refinement.specs.Terms.{filtersAs}
+use Rattle.proof_refinement.specs.Bytes.{MessageAs, partBytes, ReplyAs, silent, reports, answers}
+use Rattle.proof_refinement.specs.Server.{Serves}
 use Rattle.proof_cache_steps.proofs.Reactions.{Still, Begins, Takes}
 use Rattle.proof_cache_steps.proofs.BeginLaws.{read-begins}
 use Rattle.im_writer.specs.Envelope.{cacheEdition}
@@ -38,8 +38,9 @@ use Rattle.proof_promises.specs.Runs.{hears, gets, Run, none, then, Reac
 use Rattle.proof_promises.specs.Claims.{In, Complete, Possible}
 use Rattle.proof_promises.specs.Claims as claims
 use Rattle.proof_promises.proofs.MessageLaws.{InExchange, message-in, part-envelope, answer-envelope}
-use Rattle.proof_promises.proofs.Stands.{ReplyOf, part, answer, Stands, with-cases, with-new, with-none, server-stands}
-use Rattle.proof_promises.proofs.StepLaws.{node, rules, older, serves-as, takes-part, taken, receive-same, some-message, begun}
+use Rattle.proof_promises.specs.Follows.{ReplyOf, part, answer, Stands, node}
+use Rattle.proof_promises.proofs.Stands.{with-cases, with-new, with-none, server-stands}
+use Rattle.proof_promises.proofs.StepLaws.{rules, older, serves-as, takes-part, taken, receive-same, some-message, begun}
 use Rattle.proof_promises.proofs.FirstLaws.{just-same, nothing-just, from-fresh}
 
 longer : {A : Type 0} (x : A) (l : List A) → l ≡ x ∷ l → ⊥

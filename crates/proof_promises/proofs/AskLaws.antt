@@ -35,7 +35,7 @@ use Rattle.cache_state.specs.declared.CacheState.{CacheState}
 use Rattle.proof_cache_laws.specs.Valid.{ValidCache}
 use Rattle.proof_cache_laws.proofs.BegunLaws.{valid-right}
 use Rattle.cache_ask.specs.Ask.{Said, said, coherentOf, versionSaid, saysWhole, versioned, entrySaid, saysEntry}
-use Rattle.proof_refinement.proofs.Terms.{mayRead}
+use Rattle.proof_refinement.specs.Terms.{mayRead}
 use Rattle.proof_promises.specs.World.{Plan, World, granted}
 use Rattle.proof_promises.specs.Claims.{onRow, versionOf, changesOf, asked, shown, entryFor}
 

@@ -21,16 +21,16 @@ use Rattle.proof_protocol.specs.Steps as steps
 use Rattle.proof_protocol.specs.Claims.{Exact}
 use Rattle.proof_protocol.proofs.Main as protocol
 use Rattle.proof_protocol.proofs.Inductive.{reach-inv}
-use Rattle.proof_refinement.proofs.Terms.{placeAt}
-use Rattle.proof_refinement.proofs.Cache.{Found}
+use Rattle.proof_refinement.specs.Terms.{placeAt}
+use Rattle.proof_refinement.specs.Cache.{Found}
 use Rattle.proof_promises.specs.World.{Plan, World, Start, granted}
 use Rattle.proof_promises.specs.Runs.{Reach, Visits}
 use Rattle.proof_promises.specs.Claims.{FirstHalf, versionOf, shown, entryFor}
 use Rattle.proof_cache_steps.proofs.CoherentLaws.{coherent-as, coherent-row}
 use Rattle.proof_promises.proofs.ReadableLaws.{readable-is, readable-has}
-use Rattle.proof_promises.proofs.Stands.{Stands}
-use Rattle.proof_promises.proofs.StepLaws.{node, rules, stands-fresh}
-use Rattle.proof_promises.proofs.RunLaws.{Follows, follow}
+use Rattle.proof_promises.specs.Follows.{Stands, node, Follows}
+use Rattle.proof_promises.proofs.StepLaws.{rules, stands-fresh}
+use Rattle.proof_promises.proofs.RunLaws.{follow}
 use Rattle.proof_promises.proofs.AskLaws.{whole-coherent, says-held, row-found, version-at, changes-at, of-cluster, Sees, value, none, sees}
 
 pub just-same : {A : Type 0} (x y : A) → just x ≡ just y → x ≡ y

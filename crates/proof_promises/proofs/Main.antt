@@ -13,9 +13,8 @@ use Rattle.proof_promises.specs.Claims.{FirstHalf, Once, SecondHalf, Pos
 use Rattle.proof_promises.specs.Never.{Never}
 use Rattle.proof_promises.proofs.MessageLaws.{part-envelope, answer-envelope}
 use Rattle.proof_promises.proofs.ReadableLaws.{parts-few}
-use Rattle.proof_promises.proofs.Stands.{ReplyOf, part, answer}
-use Rattle.proof_promises.proofs.StepLaws.{node, opcodeIn}
-use Rattle.proof_promises.proofs.RunLaws.{Follows}
+use Rattle.proof_promises.specs.Follows.{ReplyOf, part, answer, node, Follows}
+use Rattle.proof_promises.proofs.StepLaws.{opcodeIn}
 use Rattle.proof_promises.proofs.FirstLaws as first
 use Rattle.proof_promises.proofs.FirstLaws.{from-fresh}
 use Rattle.proof_promises.proofs.OnceLaws as single

@@ -22,8 +22,8 @@ use Rattle.cache_messages.specs.Messages.{readMessage}
 use Rattle.proof_trip.specs.Begun.{envelopeAs}
 use Rattle.proof_trip.proofs.BeginLaws.{after-envelope, read-envelope, write-envelope, success-envelope}
 use Rattle.proof_protocol.specs.Model.{Message, read, write, success, Part, exchangeOf}
-use Rattle.proof_refinement.proofs.Terms.{filtersAs}
-use Rattle.proof_refinement.proofs.Bytes.{MessageAs, reads, writes, succeeds, partPayload, partBytes, PartRight, answerBytes}
+use Rattle.proof_refinement.specs.Terms.{filtersAs}
+use Rattle.proof_refinement.specs.Bytes.{MessageAs, reads, writes, succeeds, partPayload, partBytes, PartRight, answerBytes}
 use Rattle.im_writer.specs.Envelope.{envelopeLength, cacheEdition, exchangeLimit}
 
 abbrev filtersIn : Opt Read → List VersionFilter

@@ -44,9 +44,8 @@ use Rattle.im_writer.specs.Envelope.{exchangeLimit}
 use Rattle.proof_promises.specs.World.{Plan, World, Start, serverOf, callerOf, answered, altered}
 use Rattle.proof_promises.specs.Runs.{Reach}
 use Rattle.proof_promises.specs.Never.{Never}
-use Rattle.proof_promises.proofs.Stands.{ReplyOf, part, answer}
-use Rattle.proof_promises.proofs.StepLaws.{node, rules, part-low, older}
-use Rattle.proof_promises.proofs.RunLaws.{Follows}
+use Rattle.proof_promises.specs.Follows.{ReplyOf, part, answer, node, Follows}
+use Rattle.proof_promises.proofs.StepLaws.{rules, part-low, older}
 use Rattle.proof_promises.proofs.FirstLaws.{from-fresh}
 
 -- THE SIGN: no status of a local change is 2

@@ -19,14 +19,14 @@ use Rattle.proof_protocol.specs.Steps as model
 use Rattle.proof_protocol.proofs.CacheLaws.{awaited-is}
 use Rattle.proof_protocol.proofs.Inductive.{reach-inv}
 use Rattle.proof_protocol.proofs.OnceLaws as protocol
-use Rattle.proof_refinement.proofs.Bytes.{partBytes}
+use Rattle.proof_refinement.specs.Bytes.{partBytes}
 use Rattle.proof_promises.specs.World.{Plan, subjectOf, World, Start, afterServer, afterCache, answered, altered}
 use Rattle.proof_promises.specs.Runs.{Step, alters, beginsRead, beginsWrite, resends, hears, hearsOther, gets, Run, none, then, Reach, join, Passes, stepCount, indexOf, Same}
 use Rattle.proof_promises.specs.Claims.{Taking, Making, Ending, Once}
 use Rattle.proof_promises.proofs.MessageLaws.{part-envelope, answer-envelope}
-use Rattle.proof_promises.proofs.Stands.{ReplyOf, part, answer, Stands, with-old}
-use Rattle.proof_promises.proofs.StepLaws.{node, opcodeIn, Moves, stays, steps, Shadow, shadow}
-use Rattle.proof_promises.proofs.RunLaws.{Follows}
+use Rattle.proof_promises.specs.Follows.{ReplyOf, part, answer, Stands, node, Follows}
+use Rattle.proof_promises.proofs.Stands.{with-old}
+use Rattle.proof_promises.proofs.StepLaws.{opcodeIn, Moves, stays, steps, Shadow, shadow}
 use Rattle.proof_promises.proofs.FirstLaws.{from-fresh}
 use Rattle.proof_promises.proofs.TakenLaws.{after, ended-by}
 

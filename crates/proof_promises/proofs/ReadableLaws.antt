@@ -13,7 +13,7 @@ use Rattle.node_schema.proofs.BoolLaws.{by-test}
 use Rattle.node_access.specs.declared.Grants.{Grants}
 use Rattle.proof_protocol.specs.Model.{ConcretePath}
 use Rattle.proof_protocol.specs.Claims.{mostParts}
-use Rattle.proof_refinement.proofs.Terms.{placeAt, mayRead, readableFrom}
+use Rattle.proof_refinement.specs.Terms.{placeAt, mayRead, readableFrom}
 
 module _ (w : List ℕ) (g : Grants) where
   few-from : (n i : ℕ) → length (readableFrom w g n i) ≤ n

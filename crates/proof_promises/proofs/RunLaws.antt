@@ -6,37 +6,19 @@ use Prim.Native.Nat.{ℕ}
 use Rattle.tlv_reader.specs.Value.{Datum}
 use Rattle.proof_protocol.specs.Model.{Node, Message, Part, System}
 use Rattle.proof_protocol.specs.Steps as model
-use Rattle.proof_refinement.proofs.Bytes.{MessageAs, PartRight, partBytes}
+use Rattle.proof_refinement.specs.Bytes.{MessageAs, PartRight, partBytes}
 use Rattle.proof_promises.specs.World.{Plan, World, Start}
 use Rattle.proof_promises.specs.Runs.{Step, Run, none, then, join, Visits, Passes, BeginsNone, NoneBegun, Hears, Heard, Gets, Got}
-use Rattle.proof_promises.proofs.Stands.{Stands}
-use Rattle.proof_promises.proofs.StepLaws.{node, Moves, stays, steps, BeginsNoneMove, HearsMove, Received, Shadow, shadow}
+use Rattle.proof_promises.specs.Follows.{Stands, node, Took, Follows}
+use Rattle.proof_promises.proofs.StepLaws.{Moves, stays, steps, BeginsNoneMove, HearsMove, Received, Shadow, shadow}
 
 module _ (p : Plan) (b : Start p) where
   abbrev w : List ℕ
   w = p .words
 
-  -- the part whose bytes the cache got in the run
-  pub record Took (m : List ℕ) {s t : System Datum} (run : model.Run (node p b) s t) : Type 0 where
-    pub part-got : Part Datum
-    pub bytes : m ≡ partBytes w part-got
-    pub right : PartRight w part-got
-    pub got-it : model.Got part-got run
-
-  pub record Follows {u v : World} (run : Run p u v) (s : System Datum) : Type 0 where
-    pub end : System Datum
-    pub follows : model.Run (node p b) s end
-    pub stands : Stands p v end
-    pub none-begun : NoneBegun run → model.NoneBegun follows
-    pub visited : (x : World) → Visits run x → (t : System Datum) × model.Visits follows t × Stands p x t
-    pub origin : (t : System Datum) → model.Visits follows t → (x : World) × Visits run x × Stands p x t
-    pub passed : (t t′ : System Datum) → model.Passes follows t t′ → (x : World) × (x′ : World) × Passes run x x′ × Stands p x t × Stands p x′ t′
-    pub heard : (m : List ℕ) → Heard m run → (q : Message) → MessageAs w m q → model.Heard q follows
-    pub got : (m : List ℕ) → Got m run → (q : Part Datum) → PartRight w q → m ≡ partBytes w q → Took m follows
-
-  module _ {u v z : World} (run : Run p u v) (step : Step p v z) {s : System Datum} (f : Follows run s) where
+  module _ {u v z : World} (run : Run p u v) (step : Step p v z) {s : System Datum} (f : Follows p b run s) where
     -- the protocol stays where it is
-    unmoved : Stands p z (f .end) → (BeginsNone step → Unit {0}) → ((m : List ℕ) → Hears m step → (q : Message) → MessageAs w m q → ⊥) → ((m : List ℕ) → Gets m step → (q : Part Datum) → PartRight w q → m ≡ partBytes w q → ⊥) → Follows (then run step) s
+    unmoved : Stands p z (f .end) → (BeginsNone step → Unit {0}) → ((m : List ℕ) → Hears m step → (q : Message) → MessageAs w m q → ⊥) → ((m : List ℕ) → Gets m step → (q : Part Datum) → PartRight w q → m ≡ partBytes w q → ⊥) → Follows p b (then run step) s
     unmoved k begins-none heard got =
         record {
           end = f .end;
@@ -62,12 +44,12 @@ module _ (p : Plan) (b : Start p) where
         by-heard m (inl i) q a = f .heard m i q a
         by-heard m (inr i) q a = absurd (heard m i q a)
 
-        by-got : (m : List ℕ) → Got m run ⊎ Gets m step → (q : Part Datum) → PartRight w q → m ≡ partBytes w q → Took m (f .follows)
+        by-got : (m : List ℕ) → Got m run ⊎ Gets m step → (q : Part Datum) → PartRight w q → m ≡ partBytes w q → Took p b m (f .follows)
         by-got m (inl i) q r e = f .got m i q r e
         by-got m (inr i) q r e = absurd (got m i q r e)
 
     -- it takes a step
-    moved : {t : System Datum} (x : model.Step (node p b) (f .end) t) → Stands p z t → (BeginsNone step → model.BeginsNone x) → ((m : List ℕ) → Hears m step → (q : Message) → MessageAs w m q → model.Hears q x) → ((m : List ℕ) → Gets m step → (q : Part Datum) → PartRight w q → m ≡ partBytes w q → Received p b m (steps x)) → Follows (then run step) s
+    moved : {t : System Datum} (x : model.Step (node p b) (f .end) t) → Stands p z t → (BeginsNone step → model.BeginsNone x) → ((m : List ℕ) → Hears m step → (q : Message) → MessageAs w m q → model.Hears q x) → ((m : List ℕ) → Gets m step → (q : Part Datum) → PartRight w q → m ≡ partBytes w q → Received p b m (steps x)) → Follows p b (then run step) s
     moved {t} x k begins-none heard got =
         record {
           end = t;
@@ -97,20 +79,20 @@ module _ (p : Plan) (b : Start p) where
         by-heard m (inl i) q a = inl (f .heard m i q a)
         by-heard m (inr i) q a = inr (heard m i q a)
 
-        by-got : (m : List ℕ) → Got m run ⊎ Gets m step → (q : Part Datum) → PartRight w q → m ≡ partBytes w q → Took m (model.then (f .follows) x)
+        by-got : (m : List ℕ) → Got m run ⊎ Gets m step → (q : Part Datum) → PartRight w q → m ≡ partBytes w q → Took p b m (model.then (f .follows) x)
         by-got m (inl i) q r e = let k = f .got m i q r e in record { part-got = k .part-got; bytes = k .bytes; right = k .right; got-it = inl (k .got-it) }
         by-got m (inr i) q r e = let k = got m i q r e in record { part-got = k .part-got; bytes = k .bytes; right = k .right; got-it = inr (k .gets-it) }
 
-    one-more : (k : Shadow p b step (f .end)) → Follows (then run step) s
+    one-more : (k : Shadow p b step (f .end)) → Follows p b (then run step) s
     one-more k = go (k .move) (k .stands) (k .begins-none) (k .heard) (k .got)
       where
         go : {t : System Datum} (x : Moves p b (f .end) t) → Stands p z t → (BeginsNone step → BeginsNoneMove p b x) → ((m : List ℕ) → Hears m step → (q : Message) → MessageAs w m q → HearsMove p b q x)
-            → ((m : List ℕ) → Gets m step → (q : Part Datum) → PartRight w q → m ≡ partBytes w q → Received p b m x) → Follows (then run step) s
+            → ((m : List ℕ) → Gets m step → (q : Part Datum) → PartRight w q → m ≡ partBytes w q → Received p b m x) → Follows p b (then run step) s
         go stays i begins-none heard got = unmoved i begins-none heard (λ m j q r e. got m j q r e .gets-it)
         go (steps x) i begins-none heard got = moved x i begins-none heard got
 
   -- THE LAW
-  pub follow : {u v : World} (run : Run p u v) (s : System Datum) → Stands p u s → model.Reach (node p b) s → Follows run s
+  pub follow : {u v : World} (run : Run p u v) (s : System Datum) → Stands p u s → model.Reach (node p b) s → Follows p b run s
   follow {u} none s k reach =
       record {
         end = s;

@@ -37,8 +37,8 @@ use Rattle.proof_protocol.proofs.SmallLaws.{T-of}
 use Rattle.proof_protocol.proofs.CacheLaws.{awaited-is, last-taken}
 use Rattle.proof_protocol.proofs.OnceLaws.{part-once, passes-more, passes-reach, cut}
 use Rattle.proof_protocol.proofs.ProgressLaws.{none-begun-parts, none-begun-keeps}
-use Rattle.proof_refinement.proofs.Terms.{placeAt, mayRead}
-use Rattle.proof_refinement.proofs.Bytes.{blockAs, partPayload, partBytes, PartRight}
+use Rattle.proof_refinement.specs.Terms.{placeAt, mayRead}
+use Rattle.proof_refinement.specs.Bytes.{blockAs, partPayload, partBytes, PartRight}
 use Rattle.im_writer.specs.Envelope.{cacheEdition}
 use Rattle.proof_promises.specs.World.{Plan, World, Start, granted, afterCache}
 use Rattle.proof_promises.specs.Runs.{Step, Run, Reach, none, then, join, Passes, BeginsNone, NoneBegun}
@@ -47,9 +47,9 @@ use Rattle.proof_cache_parts.proofs.PartLaws.{each-sent}
 use Rattle.proof_cache_steps.proofs.CoherentLaws.{coherent-as}
 use Rattle.proof_promises.proofs.MessageLaws.{InExchange, message-in, part-envelope}
 use Rattle.proof_promises.proofs.ReadableLaws.{readable-has}
-use Rattle.proof_promises.proofs.Stands.{ReplyOf, part, answer, Stands}
-use Rattle.proof_promises.proofs.StepLaws.{node, rules, other-reply}
-use Rattle.proof_promises.proofs.RunLaws.{Took, Follows, follow, passes-first, passes-second, model-passes}
+use Rattle.proof_promises.specs.Follows.{ReplyOf, part, answer, Stands, node, Took, Follows}
+use Rattle.proof_promises.proofs.StepLaws.{rules, other-reply}
+use Rattle.proof_promises.proofs.RunLaws.{follow, passes-first, passes-second, model-passes}
 use Rattle.proof_promises.proofs.AskLaws.{coherent-whole, row-found, version-at, changes-at, Sees, value, sees}
 use Rattle.proof_promises.proofs.AskLaws as asks
 use Rattle.proof_promises.proofs.StageLaws.{Goes, run-goes, Handed, begins-none-step}

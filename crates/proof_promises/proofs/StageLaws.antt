@@ -32,8 +32,7 @@ use Rattle.im_writer.specs.Envelope.{exchangeLimit}
 use Rattle.proof_promises.specs.World.{Plan, World, Start, afterServer, afterCache}
 use Rattle.proof_promises.specs.Runs.{Step, alters, beginsRead, beginsWrite, resends, hears, hearsOther, gets, Run, none, then, BeginsNone, NoneBegun}
 use Rattle.proof_promises.proofs.MessageLaws.{part-envelope, answer-envelope}
-use Rattle.proof_promises.proofs.Stands.{ReplyOf, part, answer, Stands}
-use Rattle.proof_promises.proofs.StepLaws.{node}
+use Rattle.proof_promises.specs.Follows.{ReplyOf, part, answer, Stands, node}
 use Rattle.proof_promises.proofs.RunLaws.{follow}
 
 -- an open read, or one that has ended on its last part

@@ -1,4 +1,4 @@
--- Both ends in bytes, as they stand for a state of the protocol; and what keeps it so.
+-- What keeps both ends in bytes standing for a state of the protocol.
 use mathlib.Core.Path.{_≡_, refl, sym, ap, _∙_, subst}
 use mathlib.Core.Logic.{_⊎_, inl, inr}
 use mathlib.Core.List.{List, [], _∷_, _++_, List·Memᴰ, List·Memᴰ·head, List·Memᴰ·tail, List·Memᴰ·not-nil, List·Memᴰ·append-cases}
@@ -14,26 +14,13 @@ use Rattle.server_replies.specs.Server as server
 use Rattle.cache_state.specs.declared.CacheState.{CacheState}
 use Rattle.cache_state.specs.Reaction.{CacheReaction}
 use Rattle.proof_protocol.specs.Model.{Message, Part, Cache, System}
-use Rattle.proof_refinement.proofs.Bytes.{MessageAs, PartRight, partBytes, answerBytes, Wrote, ReplyAs, silent, reports, answers}
-use Rattle.proof_refinement.proofs.Server.{ServerAs, Serves}
-use Rattle.proof_refinement.proofs.Cache.{CacheAs}
+use Rattle.proof_refinement.specs.Bytes.{MessageAs, PartRight, partBytes, answerBytes, Wrote, ReplyAs, silent, reports, answers}
+use Rattle.proof_refinement.specs.Server.{ServerAs, Serves}
+use Rattle.proof_refinement.specs.Cache.{CacheAs}
 use Rattle.im_writer.specs.Envelope.{exchangeLimit}
 use Rattle.proof_promises.specs.World.{Plan, World, granted, serverOf, with, afterServer, afterCache}
+use Rattle.proof_promises.specs.Follows.{ReplyOf, part, answer, Stands}
 use Rattle.proof_promises.proofs.MessageLaws.{part-envelope}
-
--- a reply ever made: a part that the protocol has, or the answer to a write
-pub data ReplyOf (w : List ℕ) (sent : List (List ℕ)) (parts : List (Part Datum)) (m : List ℕ) : Type 0 where
-  part : (q : Part Datum) → List·Memᴰ q parts → m ≡ partBytes w q → ReplyOf w sent parts m
-  answer : (x : ℕ) (o : WriteStatus) → m ≡ answerBytes x o → x < exchangeLimit → OutcomeFits o → Wrote sent x (o .endpoint) (o .cluster) (o .attribute) → ReplyOf w sent parts m
-
-pub record Stands (p : Plan) (u : World) (s : System Datum) : Type 0 where
-  pub server : ServerAs (serverOf p (u .server)) (granted p) (u .requests) (s .clusters) (s .row)
-  pub cache : CacheAs (p .words) (u .requests) (u .page) (u .cache) (s .cache)
-  pub requests : (m : List ℕ) → List·Memᴰ m (u .requests) → (q : Message) × MessageAs (p .words) m q × List·Memᴰ q (s .messages)
-  pub messages : (q : Message) → List·Memᴰ q (s .messages) → (m : List ℕ) × MessageAs (p .words) m q × List·Memᴰ m (u .requests)
-  pub replies : (m : List ℕ) → List·Memᴰ m (u .replies) → ReplyOf (p .words) (u .requests) (s .parts) m
-  pub parts : (q : Part Datum) → List·Memᴰ q (s .parts) → List·Memᴰ (partBytes (p .words) q) (u .replies) × PartRight (p .words) q
-  pub counted : (k : ℕ) → k < clusterCount (p .words) → u .changes k ≡ s .clusters k .changes
 
 -- WHAT IS SENT GROWS
 -- a message that is there was there, or is the new one

@@ -41,10 +41,10 @@ use Rattle.proof_protocol.specs.Steps as model
 use Rattle.proof_protocol.specs.Claims.{moved}
 use Rattle.proof_protocol.proofs.SmallLaws.{by-cond}
 use Rattle.proof_protocol.proofs.Inductive.{reach-inv}
-use Rattle.proof_refinement.proofs.Terms.{nodeOf, filtersAs}
-use Rattle.proof_refinement.proofs.Bytes.{MessageAs, PartRight, partBytes, answerBytes, silent}
-use Rattle.proof_refinement.proofs.Server.{ServerAs, Serves}
-use Rattle.proof_refinement.proofs.Cache.{CacheAs}
+use Rattle.proof_refinement.specs.Terms.{nodeOf, filtersAs}
+use Rattle.proof_refinement.specs.Bytes.{MessageAs, PartRight, partBytes, answerBytes, silent}
+use Rattle.proof_refinement.specs.Server.{ServerAs, Serves}
+use Rattle.proof_refinement.specs.Cache.{CacheAs}
 use Rattle.proof_server_steps.proofs.Main.{fresh-as, message-served, change-served, other-silent, too-small, more-sent}
 use Rattle.proof_cache_steps.proofs.Reactions.{Still, Begins, Takes}
 use Rattle.proof_cache_steps.proofs.FreshLaws.{fresh-cache}
@@ -56,7 +56,8 @@ use Rattle.proof_promises.specs.World.{Plan, subjectOf, World, Start, be
 use Rattle.proof_promises.specs.Runs.{Step, alters, beginsRead, beginsWrite, resends, hears, hearsOther, gets, BeginsNone, Hears, Gets}
 use Rattle.proof_promises.proofs.MessageLaws.{InExchange, message-one, message-in, part-envelope, answer-envelope}
 use Rattle.proof_promises.proofs.ReadableLaws.{readable-few, parts-few}
-use Rattle.proof_promises.proofs.Stands.{ReplyOf, part, answer, Stands, Told, nothing-sent, known, new-one, server-stands, cache-stands, cache-known, with-none}
+use Rattle.proof_promises.specs.Follows.{ReplyOf, part, answer, Stands, node}
+use Rattle.proof_promises.proofs.Stands.{Told, nothing-sent, known, new-one, server-stands, cache-stands, cache-known, with-none}
 
 -- a value as the code's types have it can be stored and written
 pub typed-sized : (v : Value) → Typed v → Sized v
@@ -103,16 +104,13 @@ other-reply {w} q r x o fx e =
     let five : _≡_ {A = ℕ} 5 7 = ap opcodeIn (sym (part-envelope w q r) ∙ ap envelopeIn e ∙ answer-envelope x o fx) in omega (arith, five)
 
 module _ (p : Plan) (b : Start p) where
-  abbrev pub node : Node Datum
-  node = nodeOf (p .words) (p .defaults) (b .edits) (granted p)
-
   pub rules : Rules (p .words)
   rules = well-formed-rules (p .words) .0 (accepted-schema (p .words) (p .defaults) (b .accepts))
 
   -- what the protocol does while the ends take one step
   pub data Moves (s : System Datum) : System Datum → Type 0 where
     stays : Moves s s
-    steps : {t : System Datum} → model.Step node s t → Moves s t
+    steps : {t : System Datum} → model.Step (node p b) s t → Moves s t
 
   abbrev pub BeginsNoneMove : {s t : System Datum} → Moves s t → Type 0
   BeginsNoneMove stays = Unit {0}
@@ -141,16 +139,16 @@ module _ (p : Plan) (b : Start p) where
     pub heard : (m : List ℕ) → Hears m step → (q : Message) → MessageAs (p .words) m q → HearsMove q move
     pub got : (m : List ℕ) → Gets m step → (q : Part Datum) → PartRight (p .words) q → m ≡ partBytes (p .words) q → Received m move
 
-  module _ (u : World) (s : System Datum) (h : Stands p u s) (reach : model.Reach node s) where
+  module _ (u : World) (s : System Datum) (h : Stands p u s) (reach : model.Reach (node p b) s) where
     -- the protocol's bounds
     row-low : s .row .more ≡ true → s .row .turn < maxTurn
-    row-low e = omega (arith, reach-inv node reach .row .size e, readable-few (p .words) (granted p))
+    row-low e = omega (arith, reach-inv (node p b) reach .row .size e, readable-few (p .words) (granted p))
 
     pub part-low : (q : Part Datum) → List·Memᴰ q (s .parts) → q .turn < maxTurn
-    part-low q i = omega (arith, reach-inv node reach .parts q i .few, parts-few (p .words) (granted p))
+    part-low q i = omega (arith, reach-inv (node p b) reach .parts q i .few, parts-few (p .words) (granted p))
 
     pub older : (m : List ℕ) → List·Memᴰ m (u .requests) → (q : Message) × MessageAs (p .words) m q × (exchangeOf q ≤ s .cache .exchange)
-    older m i = let r = h .requests m i in (r .0, r .1, reach-inv node reach .cache .ids (r .0) (r .2))
+    older m i = let r = h .requests m i in (r .0, r .1, reach-inv (node p b) reach .cache .ids (r .0) (r .2))
 
     -- THE SIGN
     -- a call that touched nothing
@@ -197,10 +195,10 @@ module _ (p : Plan) (b : Start p) where
 
     -- a message of the cache
     pub serves-as : (m : List ℕ) (room : ℕ) → List·Memᴰ m (u .requests) → (q : Message) → MessageAs (p .words) m q → maxMessage ≤ room
-        → (size : ℕ) × (stores : List (Store Datum)) × Serves (serverOf p (u .server)) (granted p) (u .requests) (answered p u (subjectOf p) m room) s (serve node s q size stores)
+        → (size : ℕ) × (stores : List (Store Datum)) × Serves (serverOf p (u .server)) (granted p) (u .requests) (answered p u (subjectOf p) m room) s (serve (node p b) s q size stores)
     serves-as m room i q a l =
         let r = message-served (serverOf p (u .server)) (b .edits) (granted p) (b .words-fit) s (u .requests) (h .server) row-low m q a i room l in
-        (r .0, r .1, subst (λ (z : Bool). Serves (serverOf p (u .server)) (granted p) (u .requests) (by-table z) s (serve node s q (r .0) (r .1))) (sym (b .table-right)) (r .2))
+        (r .0, r .1, subst (λ (z : Bool). Serves (serverOf p (u .server)) (granted p) (u .requests) (by-table z) s (serve (node p b) s q (r .0) (r .1))) (sym (b .table-right)) (r .2))
       where
         by-table : Bool → server.ServerReaction
         by-table t = received (serverOf p (u .server)) (record { subject = subjectOf p; grants = granted p; table = t }) m room
@@ -227,9 +225,9 @@ module _ (p : Plan) (b : Start p) where
             let q = h .requests m i in
             let r = serves-as m room i (q .0) (q .1) l in
             record {
-              next = serve node s (q .0) (r .0) (r .1);
+              next = serve (node p b) s (q .0) (r .0) (r .1);
               move = steps (model.serves (q .0) (r .0) (r .1) (q .2));
-              stands = server-stands p u s (serve node s (q .0) (r .0) (r .1)) h x (r .2);
+              stands = server-stands p u s (serve (node p b) s (q .0) (r .0) (r .1)) h x (r .2);
               begins-none = λ _. tt;
               heard = λ z y v a. message-one (p .words) m (q .0) v (q .1) (subst (λ (y : List ℕ). MessageAs (p .words) y v) (sym (y .0)) a);
               got = λ z y. absurd y;
@@ -423,11 +421,11 @@ module _ (p : Plan) (b : Start p) where
     shadow (gets m room i) = get m room i
 
   -- FRESH ENDS
-  pub stands-fresh : Stands p (begin p b) (Model.start node)
+  pub stands-fresh : Stands p (begin p b) (Model.start (node p b))
   stands-fresh =
       record {
         server = fresh-as (p .words) (p .defaults) (b .edits) (granted p) (b .accepts) (b .edits-size) [];
-        cache = fresh-cache (p .words) rules node (b .page) (b .page-size) [];
+        cache = fresh-cache (p .words) rules (node p b) (b .page) (b .page-size) [];
         requests = λ m i. absurd (List·Memᴰ·not-nil i);
         messages = λ q i. absurd (List·Memᴰ·not-nil i);
         replies = λ m i. absurd (List·Memᴰ·not-nil i);

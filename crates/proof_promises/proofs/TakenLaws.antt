@@ -13,12 +13,12 @@ use Rattle.cache_receive.specs.Receive.{received}
 use Rattle.proof_protocol.specs.Model.{Part, System, awaited, receive}
 use Rattle.proof_protocol.specs.Steps as model
 use Rattle.proof_protocol.proofs.SmallLaws.{T-false, bool-cases}
-use Rattle.proof_refinement.proofs.Bytes.{partBytes}
+use Rattle.proof_refinement.specs.Bytes.{partBytes}
 use Rattle.proof_cache_steps.proofs.Reactions.{Takes}
 use Rattle.proof_cache_steps.proofs.AnswerLaws.{answer-taken, room-small}
 use Rattle.proof_promises.specs.World.{Plan, World, Start, afterCache}
-use Rattle.proof_promises.proofs.Stands.{ReplyOf, part, answer, Stands}
-use Rattle.proof_promises.proofs.StepLaws.{node, rules, older, unbegun, taken, receive-same, takes-part}
+use Rattle.proof_promises.specs.Follows.{ReplyOf, part, answer, Stands, node}
+use Rattle.proof_promises.proofs.StepLaws.{rules, older, unbegun, taken, receive-same, takes-part}
 
 abbrev pub after : World → List ℕ → ℕ → World
 after u m room = afterCache u (received (u .page) (u .cache) m room)

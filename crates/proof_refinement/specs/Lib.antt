@@ -1,0 +1,4 @@
+pub mod Terms
+pub mod Bytes
+pub mod Server
+pub mod Cache

@@ -17,7 +17,7 @@ use Rattle.node_schema.proofs.FindLaws.{cluster-found, cluster-none}
 use Rattle.im_requests.specs.declared.VersionFilter.{VersionFilter}
 use Rattle.server_selection.specs.Filters.{on, some, agree, skipsBy}
 use Rattle.proof_protocol.specs.Model.{Filter, Cluster, any, every, skips}
-use Rattle.proof_refinement.proofs.Terms.{rowFound, clusterNumber, filtersAs}
+use Rattle.proof_refinement.specs.Terms.{rowFound, clusterNumber, filtersAs}
 
 -- row k of the schema's clusters
 module _ (w : List ℕ) (rules : Rules w) (k : ℕ) (there : k < clusterCount w) where

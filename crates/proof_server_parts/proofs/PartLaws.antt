@@ -34,8 +34,8 @@ use Rattle.server_replies.specs.Messages.{reportMessage}
 use Rattle.proof_protocol.specs.Model.{ConcretePath, Cluster, Part, reported, remaining, entryAt, skips, partOf}
 use Rattle.proof_protocol.proofs.SmallLaws.{all-cons, reported-in}
 use Rattle.proof_protocol.proofs.ServeLaws.{map-from}
-use Rattle.proof_refinement.proofs.Terms.{placeAt, mayRead, readableFrom, filtersAs, ClustersAs}
-use Rattle.proof_refinement.proofs.Bytes.{partPayload, partBytes, EntryRight, PartRight}
+use Rattle.proof_refinement.specs.Terms.{placeAt, mayRead, readableFrom, filtersAs, ClustersAs}
+use Rattle.proof_refinement.specs.Bytes.{partPayload, partBytes, EntryRight, PartRight}
 use Rattle.proof_server_parts.proofs.ValueLaws.{value-takable, value-writable}
 use Rattle.proof_server_parts.proofs.RowLaws.{paths, blocksAt, placesAt}
 use Rattle.proof_server_parts.proofs.TakenLaws.{anyShown, none-reported, treesAs, Takes, none, some, takes, more-ahead}

@@ -32,7 +32,7 @@ use Rattle.server_report.specs.Blocks.{View, viewOf, valueBlock, blockOf, start
 use Rattle.server_report.proofs.BlockLaws.{path-past, path-step}
 use Rattle.proof_round_trip.specs.Meant.{everything}
 use Rattle.proof_protocol.specs.Model.{ConcretePath, Cluster, skips}
-use Rattle.proof_refinement.proofs.Terms.{placeAt, mayRead, readableFrom, filtersAs, ClustersAs}
+use Rattle.proof_refinement.specs.Terms.{placeAt, mayRead, readableFrom, filtersAs, ClustersAs}
 use Rattle.proof_server_parts.proofs.FilterLaws.{skips-same}
 
 -- the paths of the read: one, which names nothing

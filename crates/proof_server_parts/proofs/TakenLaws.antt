@@ -22,8 +22,8 @@ use Rattle.server_report.specs.Blocks.{PlacedBlock, viewOf, startOf, valueBlock
 use Rattle.server_report.specs.Chunk.{size, taken, after, trees}
 use Rattle.server_report.specs.Chunk as chunk
 use Rattle.proof_protocol.specs.Model.{ConcretePath, Cluster, any, reported, remaining, entryAt, skips}
-use Rattle.proof_refinement.proofs.Terms.{placeAt, filtersAs, ClustersAs}
-use Rattle.proof_refinement.proofs.Bytes.{blockAs}
+use Rattle.proof_refinement.specs.Terms.{placeAt, filtersAs, ClustersAs}
+use Rattle.proof_refinement.specs.Bytes.{blockAs}
 use Rattle.proof_server_parts.proofs.RowLaws.{blocksAt, placesAt, placed, Row, unread, skipped, shown, blocks-past, places-past, at-row}
 
 -- a place among these that is not skipped

@@ -24,8 +24,8 @@ use Rattle.server.specs.Start.{altered, alteredBy}
 use Rattle.server.proofs.StartLaws.{altered-right}
 use Rattle.server.proofs.KeptLaws.{change-kept}
 use Rattle.proof_protocol.specs.Model.{System, storeAll}
-use Rattle.proof_refinement.proofs.Bytes.{silent}
-use Rattle.proof_refinement.proofs.Server.{Serves}
+use Rattle.proof_refinement.specs.Bytes.{silent}
+use Rattle.proof_refinement.specs.Server.{Serves}
 use Rattle.server.proofs.ServerLaws.{schema-of}
 use Rattle.proof_server_steps.proofs.Standing.{Standing, right-of}
 use Rattle.proof_server_steps.proofs.StoreLaws.{Stored, Holds, unmoved, stored-as}

@@ -26,7 +26,7 @@ use Rattle.server_replies.specs.Server.{ServerReaction}
 use Rattle.server.specs.Receive.{stepOf, reacted, forServer}
 use Rattle.server.proofs.ReceiveLaws.{served}
 use Rattle.proof_protocol.specs.Model.{Message, success, Node, System, Store, partOf, send, sendAgain, serve}
-use Rattle.proof_refinement.proofs.Server.{promised}
+use Rattle.proof_refinement.specs.Server.{promised}
 use Rattle.im_writer.specs.Envelope.{cacheEdition}
 use Rattle.proof_server_steps.proofs.Standing.{Standing}
 use Rattle.proof_server_steps.proofs.RuleLaws.{fields, repeats, request-step, own, newest, earlier, success-step, newest-only, own-same, newest-same, earlier-same}

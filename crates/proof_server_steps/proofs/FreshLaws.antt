@@ -28,9 +28,9 @@ use Rattle.server.specs.Start.{freshRow, started}
 use Rattle.server.proofs.StartLaws.{accepted-schema}
 use Rattle.server.proofs.FreshLaws.{fresh-valid}
 use Rattle.proof_protocol.specs.Model as Model
-use Rattle.proof_refinement.proofs.Terms.{nodeOf, ClustersAs}
-use Rattle.proof_refinement.proofs.Bytes.{silent}
-use Rattle.proof_refinement.proofs.Server.{RowAs, ServerAs}
+use Rattle.proof_refinement.specs.Terms.{nodeOf, ClustersAs}
+use Rattle.proof_refinement.specs.Bytes.{silent}
+use Rattle.proof_refinement.specs.Server.{RowAs, ServerAs}
 
 module _ (w defaults : List ℕ) (h : accepted w defaults ≡ true) where
   rules : Rules w

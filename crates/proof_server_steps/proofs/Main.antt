@@ -20,9 +20,9 @@ use Rattle.server.specs.Start.{started, alteredBy}
 use Rattle.server.proofs.ReceivedLaws.{Untouched}
 use Rattle.proof_protocol.specs.Model as Model
 use Rattle.proof_protocol.specs.Model.{Message, Node, System, Store, storeAll, serve}
-use Rattle.proof_refinement.proofs.Terms.{nodeOf}
-use Rattle.proof_refinement.proofs.Bytes.{MessageAs}
-use Rattle.proof_refinement.proofs.Server.{ServerAs, Serves}
+use Rattle.proof_refinement.specs.Terms.{nodeOf}
+use Rattle.proof_refinement.specs.Bytes.{MessageAs}
+use Rattle.proof_refinement.specs.Server.{ServerAs, Serves}
 use Rattle.proof_server_steps.proofs.Standing.{Standing}
 use Rattle.proof_server_steps.proofs.SentLaws.{server-still}
 use Rattle.proof_server_steps.proofs.SilenceLaws.{other-still, small-still}

@@ -22,8 +22,8 @@ use Rattle.proof_trip.proofs.BeginLaws.{after-envelope, read-envelope, write-en
 use Rattle.server_replies.specs.Messages.{maxMessage}
 use Rattle.server.specs.Receive.{reacted}
 use Rattle.proof_protocol.specs.Model.{Message, read, write, success, Node, storeAll, written, changesOf, partOf, send, serve}
-use Rattle.proof_refinement.proofs.Terms.{nodeOf, filtersAs}
-use Rattle.proof_refinement.proofs.Bytes.{WriteFits, MessageAs, reads, writes, succeeds}
+use Rattle.proof_refinement.specs.Terms.{nodeOf, filtersAs}
+use Rattle.proof_refinement.specs.Bytes.{WriteFits, MessageAs, reads, writes, succeeds}
 use Rattle.im_writer.specs.Envelope.{envelopeLength, cacheEdition, exchangeLimit}
 use Rattle.proof_server_steps.proofs.Standing.{Standing}
 use Rattle.proof_server_steps.proofs.SizeLaws.{read-short, write-short}

@@ -26,9 +26,9 @@ use Rattle.server_replies.proofs.KeptLaws.{keeping-whole}
 use Rattle.server.specs.Receive.{replied}
 use Rattle.server.specs.Valid.{ValidServer}
 use Rattle.proof_protocol.specs.Model.{Part, partOf, rowAfter, send}
-use Rattle.proof_refinement.proofs.Terms.{readableFrom, filtersAs}
-use Rattle.proof_refinement.proofs.Bytes.{reports}
-use Rattle.proof_refinement.proofs.Server.{RowAs}
+use Rattle.proof_refinement.specs.Terms.{readableFrom, filtersAs}
+use Rattle.proof_refinement.specs.Bytes.{reports}
+use Rattle.proof_refinement.specs.Server.{RowAs}
 use Rattle.proof_server_parts.proofs.PartLaws.{Makes, part-made}
 use Rattle.im_writer.specs.Envelope.{cacheEdition, exchangeLimit}
 use Rattle.server.proofs.ServerLaws.{schema-of}

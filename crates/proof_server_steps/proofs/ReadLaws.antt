@@ -30,8 +30,8 @@ use Rattle.server_replies.proofs.RowLaws.{row-right}
 use Rattle.server_replies.proofs.BeginLaws.{read-answered}
 use Rattle.server.specs.Receive.{replied}
 use Rattle.proof_protocol.specs.Model.{Part, changesOf, partOf, send}
-use Rattle.proof_refinement.proofs.Terms.{readableFrom, nodeOf, filtersAs}
-use Rattle.proof_refinement.proofs.Server.{Going}
+use Rattle.proof_refinement.specs.Terms.{readableFrom, nodeOf, filtersAs}
+use Rattle.proof_refinement.specs.Server.{Going}
 use Rattle.im_writer.specs.Envelope.{exchangeLimit}
 use Rattle.proof_server_steps.proofs.Standing.{Standing, right-of}
 use Rattle.proof_server_steps.proofs.ServeLaws.{Serving, Valid}

@@ -22,7 +22,7 @@ use Rattle.im_exchange.specs.Rules.{statusOpcode, maxTurn, beginning, onRequest
 use Rattle.server_replies.specs.declared.ExchangeRow.{ExchangeRow}
 use Rattle.server.specs.Receive.{stepOf}
 use Rattle.proof_protocol.specs.Model.{ServedExchange}
-use Rattle.proof_refinement.proofs.Server.{promised, RowAs}
+use Rattle.proof_refinement.specs.Server.{promised, RowAs}
 use Rattle.im_writer.specs.Envelope.{cacheEdition}
 
 abbrev pub fields : ℕ → ℕ → ℕ → Fields

@@ -6,8 +6,8 @@ use Rattle.node_access.specs.declared.Grants.{Grants}
 use Rattle.server_replies.specs.declared.ExchangeRow.{ExchangeRow}
 use Rattle.server_replies.specs.Server.{Server}
 use Rattle.proof_protocol.specs.Model.{Part, ServedExchange, Cluster}
-use Rattle.proof_refinement.proofs.Bytes.{Wrote, ReplyAs, silent, reports, answers}
-use Rattle.proof_refinement.proofs.Server.{RowAs, ServerAs}
+use Rattle.proof_refinement.specs.Bytes.{Wrote, ReplyAs, silent, reports, answers}
+use Rattle.proof_refinement.specs.Server.{RowAs, ServerAs}
 
 module _ (sent : List (List ℕ)) (m : List ℕ) where
   wrote-still : {x e c a : ℕ} → Wrote sent x e c a → Wrote (m ∷ sent) x e c a

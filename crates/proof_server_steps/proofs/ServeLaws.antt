@@ -18,8 +18,8 @@ use Rattle.server.specs.Valid.{ValidServer}
 use Rattle.server.proofs.KeptLaws.{received-kept}
 use Rattle.proof_protocol.specs.Model.{Message, Node, Part, Store, System, rowAfter, send, sendAgain, serve}
 use Rattle.proof_protocol.specs.Claims.{moved}
-use Rattle.proof_refinement.proofs.Bytes.{silent}
-use Rattle.proof_refinement.proofs.Server.{RowAs, Serves}
+use Rattle.proof_refinement.specs.Bytes.{silent}
+use Rattle.proof_refinement.specs.Server.{RowAs, Serves}
 use Rattle.im_exchange.specs.declared.Action.{Action}
 use Rattle.proof_server_steps.proofs.Standing.{Standing}
 use Rattle.proof_server_steps.proofs.StoreLaws.{unmoved}

@@ -13,7 +13,7 @@ use Rattle.cache_messages.specs.Messages.{readMessage, writeMessage}
 use Rattle.proof_cache_laws.proofs.BoundLaws.{Narrow, read-sized, write-sized}
 use Rattle.proof_trip.specs.Taken.{Takable}
 use Rattle.server_replies.specs.Messages.{maxMessage}
-use Rattle.proof_refinement.proofs.Bytes.{WriteFits}
+use Rattle.proof_refinement.specs.Bytes.{WriteFits}
 
 each-narrow : (fs : List VersionFilter) → Each VersionFilterFits fs → Each Narrow fs
 unfolding Each

@@ -6,7 +6,7 @@ use Rattle.node_access.specs.declared.Grants.{Grants}
 use Rattle.server_replies.specs.Server.{Server}
 use Rattle.server.proofs.ServerLaws.{RightServer, server-right}
 use Rattle.proof_protocol.specs.Model.{System}
-use Rattle.proof_refinement.proofs.Server.{ServerAs}
+use Rattle.proof_refinement.specs.Server.{ServerAs}
 
 pub record Standing (g : Grants) (sent : List (List ℕ)) : Type 0 where
   pub server : Server

@@ -22,7 +22,7 @@ use Rattle.server_values.proofs.MoveLaws.{version-stays, version-raised, stored
 use Rattle.proof_protocol.specs.Model as Model
 use Rattle.proof_protocol.specs.Model.{System, Store, storedIn, storeAll, change}
 use Rattle.proof_protocol.specs.Claims.{moved}
-use Rattle.proof_refinement.proofs.Terms.{ClustersAs}
+use Rattle.proof_refinement.specs.Terms.{ClustersAs}
 
 -- the protocol has made these changes, in one step
 abbrev pub Stored : System Datum → System Datum → Type 0

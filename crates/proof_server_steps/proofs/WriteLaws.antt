@@ -32,8 +32,8 @@ use Rattle.server_replies.specs.Begin.{answered, responseTo, writeBy, writeBegu
 use Rattle.server_replies.proofs.KeptLaws.{keeping-whole, write-reply}
 use Rattle.server.specs.Receive.{replied}
 use Rattle.proof_protocol.specs.Model.{System, Store, storeAll, written}
-use Rattle.proof_refinement.proofs.Bytes.{WriteFits, answerBytes, answers}
-use Rattle.proof_refinement.proofs.Server.{promised, RowAs}
+use Rattle.proof_refinement.specs.Bytes.{WriteFits, answerBytes, answers}
+use Rattle.proof_refinement.specs.Server.{promised, RowAs}
 use Rattle.im_writer.specs.Envelope.{cacheEdition, exchangeLimit}
 use Rattle.proof_server_steps.proofs.Standing.{Standing}
 use Rattle.proof_server_steps.proofs.ChangeLaws.{Reached, placed-as, stored-beside}

@@ -19,7 +19,7 @@ use Rattle.im_exchange.specs.Rules.{reportOpcode, writeResponseOpcode, firstRep
 use Rattle.cache_messages.specs.Messages.{readMessage, writeMessage, successMessage}
 use Rattle.proof_trip.specs.Taken.{Takable}
 use Rattle.proof_protocol.specs.Model.{Entry, Message, read, write, success, Part}
-use Rattle.proof_refinement.proofs.Terms.{placeAt, filtersAs}
+use Rattle.proof_refinement.specs.Terms.{placeAt, filtersAs}
 
 -- THE SIGN'S: an entry of a part as a block of a report
 abbrev pub blockAs : List ℕ → Entry Datum → Block

@@ -15,10 +15,10 @@ use Rattle.cache_entries.specs.Entries.{clusterWord, lookup}
 use Rattle.cache_state.specs.declared.CacheState.{CacheState}
 use Rattle.cache_state.specs.State.{reading, writing, isOpen}
 use Rattle.cache_state.specs.Begin.{keptMessage}
-use Rattle.proof_cache_laws.specs.Valid.{ValidCache}
 use Rattle.proof_trip.specs.Exact.{Distinct}
 use Rattle.proof_protocol.specs.Model.{Entry, Cache}
-use Rattle.proof_refinement.proofs.Bytes.{EntryRight, Wrote}
+use Rattle.proof_refinement.specs.Bytes.{EntryRight, Wrote}
+use Rattle.proof_cache_laws.specs.Valid.{ValidCache}
 
 -- no entry twice
 abbrev pub DistinctKeys : Cached → Type 0

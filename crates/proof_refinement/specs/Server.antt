@@ -19,11 +19,11 @@ use Rattle.server_replies.specs.declared.ExchangeRow.{ExchangeRow}
 use Rattle.server_replies.specs.Messages.{maxMessage}
 use Rattle.server_replies.specs.Server.{Server, ServerReaction, withState}
 use Rattle.server_replies.specs.Row.{keptReply, pathsOf}
-use Rattle.server.specs.Valid.{ValidServer}
 use Rattle.proof_protocol.specs.Model.{Part, ServedExchange, Cluster, System}
 use Rattle.proof_protocol.specs.Claims.{moved}
-use Rattle.proof_refinement.proofs.Terms.{readableFrom, filtersAs, ClustersAs}
-use Rattle.proof_refinement.proofs.Bytes.{ReplyAs}
+use Rattle.proof_refinement.specs.Terms.{readableFrom, filtersAs, ClustersAs}
+use Rattle.proof_refinement.specs.Bytes.{ReplyAs}
+use Rattle.server.specs.Valid.{ValidServer}
 
 -- the read that is being answered: one full wildcard path, its filters, which were judged when it was asked, and what is ahead
 pub record Going (w : List ℕ) (g : Grants) (x : ExchangeRow) (r : ServedExchange Datum) : Type 0 where

@@ -1,4 +1,0 @@
-pub mod Terms
-pub mod Bytes
-pub mod Server
-pub mod Cache
