@@ -26,7 +26,7 @@ use Rattle.im_envelope.specs.Envelope.{envelopeIn, maxMessage}
 use Rattle.im_exchange.specs.Rules.{maxTurn}
 use Rattle.server_replies.specs.Server as server
 use Rattle.server.specs.Receive.{received}
-use Rattle.server.proofs.ReceivedLaws.{Untouched}
+use Rattle.server.specs.Valid.{Untouched}
 use Rattle.server.proofs.StartLaws.{accepted-schema}
 use Rattle.cache_state.specs.declared.CacheState.{CacheState}
 use Rattle.cache_state.specs.State.{cacheRight}

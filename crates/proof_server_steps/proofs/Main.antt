@@ -17,7 +17,7 @@ use Rattle.server_replies.specs.Messages.{maxMessage}
 use Rattle.server_replies.specs.Server.{Server, Caller}
 use Rattle.server.specs.Receive.{received}
 use Rattle.server.specs.Start.{started, alteredBy}
-use Rattle.server.proofs.ReceivedLaws.{Untouched}
+use Rattle.server.specs.Valid.{Untouched}
 use Rattle.proof_protocol.specs.Model as Model
 use Rattle.proof_protocol.specs.Model.{Message, Node, System, Store, storeAll, serve}
 use Rattle.proof_refinement.specs.Terms.{nodeOf}

@@ -15,7 +15,7 @@ use Rattle.server_replies.specs.Messages.{maxMessage}
 use Rattle.server_replies.specs.Server.{Server, Caller, ServerReaction}
 use Rattle.server.specs.State.{serverRight}
 use Rattle.server.specs.Receive.{refusal, silence, inEnvelope, received, forServer}
-use Rattle.server.proofs.ReceivedLaws.{Untouched}
+use Rattle.server.specs.Valid.{Untouched}
 use Rattle.im_exchange.specs.Rules.{actionOf}
 
 module _ (n : Server) (c : Caller) (m : List ℕ) (room : ℕ) where

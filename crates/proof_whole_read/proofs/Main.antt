@@ -40,7 +40,8 @@ use Rattle.server.specs.Receive.{received, replied, reacted, stepOf, forServer}
 use Rattle.server.proofs.ServerLaws.{server-right, right-server}
 use Rattle.server.proofs.ReactLaws.{next-whole}
 use Rattle.server.proofs.ReceiveLaws.{served, exchange-below}
-use Rattle.server.proofs.PromiseLaws.{Success, promised-part}
+use Rattle.server.specs.Promise.{Success}
+use Rattle.server.proofs.PromiseLaws.{promised-part}
 use Rattle.proof_round_trip.proofs.BackLaws.{status-back}
 use Rattle.proof_whole_read.specs.Through.{Answers, successFor, andThen, goesOn, readThrough, partMessage, some, messagesOf, Asks, partsOf}
 

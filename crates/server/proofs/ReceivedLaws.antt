@@ -26,6 +26,7 @@ use Rattle.im_exchange.specs.declared.Action.{Action}
 use Rattle.im_exchange.specs.declared.Action.the-variants.{Status, Read, Write, Other}
 use Rattle.server.proofs.StepLaws.{Taken, step-taken}
 use Rattle.server.specs.State.{serverRight}
+use Rattle.server.specs.Valid.{Untouched}
 use Rattle.server.specs.Receive.{refusal, numberFor, answering, silence, stepOf, reacted, inEnvelope, received, forServer}
 
 -- ---- an envelope's exchange has 40 bits
@@ -80,11 +81,6 @@ module _ (P : ServerReaction → Type 0) (s : Server) (c : Caller) where
   answers-hold f no-message = received-holds no-message (f (s .state) []) (λ e b payload action step t. reacted-holds f e payload action step)
 
 -- ---- the laws
-
--- nothing moved, and no reply was written
-pub record Untouched (u : ServerState) (x : ServerReaction) : Type 0 where
-  pub state : x .state ≡ u
-  pub reply : x .reply ≡ []
 
 reply-number : (reply : List ℕ) → numberFor reply < 2
 reply-number [] = omega arith
