@@ -1,4 +1,4 @@
--- WHAT A PANEL MAKES OF A MESSAGE (RULES 6 and 7).
+-- WHAT A CACHE MAKES OF A MESSAGE (RULES 6 and 7).
 use mathlib.Core.Bool.{Bool, true, _&&_, _||_}
 use mathlib.Core.List.{List, []}
 use Prim.Native.Nat.{ℕ, _+_}

@@ -1,4 +1,4 @@
--- A PANEL THAT KEEPS THE RULES STILL KEEPS THEM AFTER A BLOCK, whatever the block is.
+-- A CACHE THAT KEEPS THE RULES STILL KEEPS THEM AFTER A BLOCK, whatever the block is.
 use mathlib.Core.Path.{_≡_, refl, sym, ap, subst, _∙_}
 use mathlib.Core.Bool.{Bool, true, false, _&&_, false≢true}
 use mathlib.Core.List.{List, [], _∷_}

@@ -18,7 +18,7 @@ use Rattle.cache_state.specs.Reaction.{CacheReaction, refusal, CacheReac
 use Rattle.cache_state.specs.Begin.{fresh, keptMessage, keeping, asking, askedAs, beginning, beginsRead, sendable, beginsWrite, resends}
 use Rattle.cache_state.proofs.WordLaws.{still-right}
 
--- A PANEL'S WORDS STAY A PANEL'S
+-- A CACHE'S WORDS STAY A CACHE'S
 pub stays-cache : {x : CacheReaction} {r : Outcome} {s : CacheState} {asked newAsked page old new : List ℕ} → CacheReacted x r s asked newAsked page old new → wordsRight asked ≡ true → length asked ≡ askedSize → Narrow (x .state) → wordsRight newAsked ≡ true
 stays-cache {x} {r} {s} {asked} k h size n = ap wordsRight (k .words) ∙ still-right asked h size (x .state) n
 

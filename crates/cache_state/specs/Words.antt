@@ -1,4 +1,4 @@
--- A PANEL AS IT IS LENT: an array for each column of what it holds, the counts and the newest request in words, the newest message in bytes.
+-- A CACHE AS IT IS LENT: an array for each column of what it holds, the counts and the newest request in words, the newest message in bytes.
 use mathlib.Core.Bool.{Bool, _&&_}
 use mathlib.Core.List.{List, [], _∷_}
 use Prim.Native.Nat.{ℕ, _^_, _<_}

@@ -1,4 +1,4 @@
--- A FRESH PANEL IS VALID, and beginning and resending keep it valid.
+-- A FRESH CACHE IS VALID, and beginning and resending keep it valid.
 use mathlib.Core.Path.{_≡_, refl, sym, ap, subst, _∙_}
 use mathlib.Core.Bool.{Bool, true, false, _&&_, not}
 use mathlib.Core.List.{List, []}

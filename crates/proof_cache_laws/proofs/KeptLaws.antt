@@ -1,4 +1,4 @@
--- A VALID PANEL STAYS VALID, whatever it is handed; so it never answers 2 on its own account.
+-- A VALID CACHE STAYS VALID, whatever it is handed; so it never answers 2 on its own account.
 use mathlib.Core.Path.{_≡_, refl, sym, ap, _∙_}
 use mathlib.Core.Bool.{Bool, true, false, _&&_, not, false≢true}
 use mathlib.Core.List.{List, []}

@@ -101,6 +101,6 @@ module _ (page : List ℕ) (s : CacheState) (n : Narrow s) where
           pick-elim NarrowR (leb (length m) maxMessage && forCache (e .edition) (e .opcode)) _ _
           (λ _. pick-elim NarrowR (awaited (s .asked) e) _ _ (λ _. takes-narrow (e .opcode) (drop envelopeLength m)) (λ _. n)) (λ _. n)
 
--- SO THE WORDS OF A PANEL STAY A PANEL'S, as every call has it that says what it leaves
+-- SO THE WORDS OF A CACHE STAY A CACHE'S, as every call has it that says what it leaves
 pub words-stay : (page : List ℕ) (before : CacheState) (x : CacheReaction) {r : Outcome} {after : CacheState} {asked newAsked newPage old new : List ℕ} → wordsRight asked ≡ true → length asked ≡ askedSize → Narrow (x .state) → CacheReacted (ofCache asked page before x) r after asked newAsked newPage old new → wordsRight newAsked ≡ true
 words-stay page before x h size n k = stays-cache k h size (rw h n)

@@ -1,4 +1,4 @@
--- A VALID PANEL NEVER ANSWERS 2, whatever it is handed.
+-- A VALID CACHE NEVER ANSWERS 2, whatever it is handed.
 use mathlib.Core.Path.{_≡_, refl, sym, ap, _∙_}
 use mathlib.Core.Bool.{Bool, true, _&&_}
 use mathlib.Core.List.{List, [], _∷_}

@@ -1,4 +1,4 @@
--- WHAT THE PANEL RECEIVES AND DOES NOT AWAIT leaves everything as it was; the answer to its write ends the write.
+-- WHAT THE CACHE RECEIVES AND DOES NOT AWAIT leaves everything as it was; the answer to its write ends the write.
 use mathlib.Core.Path.{_≡_, refl, sym, ap, subst, _∙_}
 use mathlib.Core.Logic.{inl}
 use mathlib.Core.Bool.{false, _&&_}

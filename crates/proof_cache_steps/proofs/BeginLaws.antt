@@ -76,7 +76,7 @@ module _ (w : List ℕ) (rules : Rules w) where
     before : (m : List ℕ) → List·Memᴰ m old → (u : Message) × MessageAs w m u × (exchangeOf u < s .asked .used + 1)
     before m h = let (u, is, low) = older m h in (u, is, omega (arith, low, next-exchange))
 
-    -- THE PANEL AFTER a request is sent
+    -- THE CACHE AFTER a request is sent
     abbrev cacheWith : Bool → List Filter → Cache Datum
     cacheWith b filters =
         record { exchange = suc (sys .cache .exchange); reading = b; next = 1; entries = sys .cache .entries; primed = sys .cache .primed; filters = filters }

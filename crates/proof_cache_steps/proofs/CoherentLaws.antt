@@ -1,4 +1,4 @@
--- A CLUSTER IS COHERENT AT THE PANEL EXACTLY IF IT IS IN THE PROTOCOL, and only a cluster of the schema is.
+-- A CLUSTER IS COHERENT AT THE CACHE EXACTLY IF IT IS IN THE PROTOCOL, and only a cluster of the schema is.
 use mathlib.Core.Path.{_≡_, sym, ap, _∙_}
 use mathlib.Core.Logic.{_↔_}
 use mathlib.Core.List.{List, List·Memᴰ}

@@ -1,4 +1,4 @@
--- A FRESH PANEL stands for the protocol's.
+-- A FRESH CACHE stands for the protocol's.
 use mathlib.Core.Path.{_≡_, refl}
 use mathlib.Core.List.{List, List·Memᴰ·not-nil}
 use Prim.Native.Nat.{ℕ}

@@ -36,7 +36,7 @@ byEnvelope w q (Whole f) =
     pick (eqb (f .opcode) readOpcode) (read (f .exchange) (filtersAs w (filtersIn (readIn q))))
     (pick (eqb (f .opcode) writeOpcode) (write (f .exchange)) (success (f .exchange) (f .turn)))
 
--- WHAT A MESSAGE OF THE PANEL IS, from its bytes
+-- WHAT A MESSAGE OF THE CACHE IS, from its bytes
 unfoldable meaning : List ℕ → List ℕ → Message
 meaning w m = byEnvelope w (drop envelopeLength m) (envelopeIn m)
 

@@ -48,7 +48,7 @@ use Rattle.proof_promises.specs.Follows.{ReplyOf, part, answer, node, Fo
 use Rattle.proof_promises.proofs.StepLaws.{rules, part-low, older}
 use Rattle.proof_promises.proofs.FirstLaws.{from-fresh}
 
--- THE SIGN: no status of a local change is 2
+-- THE SERVER: no status of a local change is 2
 abbrev NotTwo : Located → Type 0
 NotTwo (Here i) = Unit {0}
 NotTwo (Refused code) = code ≡ 2 → ⊥
@@ -78,7 +78,7 @@ changed-code w defaults h e c a src new = go (located w e c a) (located-code w e
     go (Here i) n = by i (verdictOn w i src new)
     go (Refused code) n = n
 
--- THE PANEL: a request, whatever the buffer
+-- THE CACHE: a request, whatever the buffer
 module _ (page : List ℕ) (s : CacheState) (valid : ValidCache page s) (room : ℕ) where
   abbrev Fair : CacheReaction → Type 0
   Fair x = x .number ≡ 2 → ⊥

@@ -111,7 +111,7 @@ module _ (page : List ℕ) (s : CacheState) where
       pick-elim (λ (x : CacheReaction). x .state ≡ s) (cacheRight page s) _ _
       (λ _. pick-elim (λ (x : CacheReaction). x .state ≡ s) (ltb room maxMessage) _ _ (λ _. refl) (λ _. pick-elim (λ (x : CacheReaction). x .state ≡ s) (isOpen (s .asked .stage)) _ _ (λ _. refl) (λ _. refl))) (λ _. refl)
 
--- A STEP IN WHICH THE PANEL BEGINS NOTHING leaves it as it is, or hands it a reply
+-- A STEP IN WHICH THE CACHE BEGINS NOTHING leaves it as it is, or hands it a reply
 pub record Handed (u v : World) : Type 0 where
   pub message : List ℕ
   pub room : ℕ

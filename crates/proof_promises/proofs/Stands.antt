@@ -67,7 +67,7 @@ only-one : {A : Type 0} {x y : A} → List·Memᴰ x (y ∷ []) → x ≡ y
 only-one (List·Memᴰ·head e) = e
 only-one (List·Memᴰ·tail i) = absurd (List·Memᴰ·not-nil i)
 
--- A CALL OF THE SIGN
+-- A CALL OF THE SERVER
 module _ (p : Plan) (u : World) (s t : System Datum) (h : Stands p u s) (x : server.ServerReaction) (k : Serves (serverOf p (u .server)) (granted p) (u .requests) x s t) where
   abbrev reply : List ℕ
   reply = x .reply
@@ -116,7 +116,7 @@ module _ (p : Plan) (u : World) (s t : System Datum) (h : Stands p u s) (x : ser
       had r (inl i) = part-of (k .reply-is) r i
       had r (inr i) = let old = h .parts r i in (with-old reply (u .replies) (partBytes w r) (old .0), old .1)
 
--- A CALL OF THE PANEL: it sends nothing, something that it has sent before, or something new
+-- A CALL OF THE CACHE: it sends nothing, something that it has sent before, or something new
 pub data Told (p : Plan) (u : World) (s t : System Datum) (m : List ℕ) : Type 0 where
   nothing-sent : m ≡ [] → t .messages ≡ s .messages → Told p u s t m
   known : List·Memᴰ m (u .requests) → t .messages ≡ s .messages → Told p u s t m

@@ -150,7 +150,7 @@ module _ (p : Plan) (b : Start p) where
     pub older : (m : List ℕ) → List·Memᴰ m (u .requests) → (q : Message) × MessageAs (p .words) m q × (exchangeOf q ≤ s .cache .exchange)
     older m i = let r = h .requests m i in (r .0, r .1, reach-inv (node p b) reach .cache .ids (r .0) (r .2))
 
-    -- THE SIGN
+    -- THE SERVER
     -- a call that touched nothing
     still-serves : (x : server.ServerReaction) → Untouched (u .server) x → Serves (serverOf p (u .server)) (granted p) (u .requests) x s s
     still-serves x k =
@@ -245,7 +245,7 @@ module _ (p : Plan) (b : Start p) where
           got = λ z y. absurd y;
         }
 
-    -- THE PANEL
+    -- THE CACHE
     -- a call that moved nothing
     unchanged : (x : CacheReaction) → x .state ≡ u .cache → x .page ≡ u .page → x .reply ≡ [] → Stands p (afterCache u x) s
     unchanged x es ep er =

@@ -1,4 +1,4 @@
--- WHAT THE PANEL MAKES OF A REPLY: the one that ends a read is the part that the protocol awaits.
+-- WHAT THE CACHE MAKES OF A REPLY: the one that ends a read is the part that the protocol awaits.
 use mathlib.Core.Path.{_≡_, refl, sym, subst}
 use mathlib.Core.Logic.{_⊎_, inl, inr}
 use mathlib.Core.Bool.{true}

@@ -116,7 +116,7 @@ samePlace p q = eqb (p .cluster) (q .cluster) && eqb (p .attribute) (q .attribut
 abbrev pub nextVersion : ℕ → ℕ
 nextVersion version = (version + 1) % versionLimit
 
--- THE SIGN
+-- THE SERVER
 
 -- of the paths ahead, those that a part reports: those not skipped, at most size + 1 of them
 unfoldable pub reported : (ConcretePath → Bool) → ℕ → List ConcretePath → List ConcretePath
@@ -236,7 +236,7 @@ module _ {Value : Type 0} where
       s
   serve node s (failure exchange turn) size stores = cond (eqb exchange (s .row .exchange) && eqb turn (s .row .turn) && s .row .more) (close s) s
 
-  -- THE PANEL
+  -- THE CACHE
 
   -- RULES 7.8
   unfoldable pub setEntry : Entry Value → List (Entry Value) → List (Entry Value)

@@ -21,7 +21,7 @@ use Rattle.proof_trip.specs.Taken.{Takable}
 use Rattle.proof_protocol.specs.Model.{Entry, Message, read, write, success, Part}
 use Rattle.proof_refinement.specs.Terms.{placeAt, filtersAs}
 
--- THE SIGN'S: an entry of a part as a block of a report
+-- THE SERVER'S: an entry of a part as a block of a report
 abbrev pub blockAs : List ℕ → Entry Datum → Block
 blockAs w e =
     Block.value (e .version) (pathAt w (e .place .attribute) .endpoint) (pathAt w (e .place .attribute) .cluster) (pathAt w (e .place .attribute) .attribute) (e .value)
@@ -50,7 +50,7 @@ pub record PartRight (w : List ℕ) (p : Part Datum) : Type 0 where
 unfoldable pub answerBytes : ℕ → WriteStatus → List ℕ
 answerBytes exchange o = envelopeOctets cacheEdition writeResponseOpcode exchange firstReply ++ outcomesOctets (o ∷ [])
 
--- THE PANEL'S
+-- THE CACHE'S
 pub record WriteFits (version endpoint cluster attribute : ℕ) (d : Datum) : Type 0 where
   pub version-fits : version < versionLimit
   pub path : PathFits endpoint cluster attribute

@@ -53,7 +53,7 @@ pub record ServerAs (n : Server) (g : Grants) (sent : List (List ℕ)) (clusters
   pub held : ClustersAs (n .schema) (n .defaults) (n .state .edits) (n .state .values) clusters
   pub row : RowAs (n .schema) g sent (n .state .row) r
 
--- WHAT A CALL OF THE SIGN LEAVES: what the server holds after it, the reply, and the step that the protocol takes
+-- WHAT A CALL OF THE SERVER LEAVES: what the server holds after it, the reply, and the step that the protocol takes
 pub record Serves (n : Server) (g : Grants) (sent : List (List ℕ)) (x : ServerReaction) (s t : System Datum) : Type 0 where
   pub server : ServerAs (withState n (x .state)) g sent (t .clusters) (t .row)
   pub made : List (Part Datum)

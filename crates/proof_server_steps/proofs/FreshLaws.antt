@@ -1,4 +1,4 @@
--- A FRESH SIGN stands for the protocol's start.
+-- A FRESH SERVER stands for the protocol's start.
 use mathlib.Core.Path.{_≡_, refl, sym, ap, _∙_}
 use mathlib.Core.Bool.{true, true≢false}
 use mathlib.Core.List.{List}

@@ -1,4 +1,4 @@
--- EVERY CALL OF THE SIGN TAKES A STEP OF THE PROTOCOL, or leaves everything as it was.
+-- EVERY CALL OF THE SERVER TAKES A STEP OF THE PROTOCOL, or leaves everything as it was.
 use mathlib.Core.Path.{_≡_}
 use mathlib.Core.Logic.{_⊎_}
 use mathlib.Core.Bool.{true}

@@ -1,4 +1,4 @@
--- WHAT A PANEL'S READ ASKS, as a server's row has it: everything, with the filters that were given; its first part and its next ones.
+-- WHAT A CACHE'S READ ASKS, as a server's row has it: everything, with the filters that were given; its first part and its next ones.
 use mathlib.Core.Path.{_≡_, refl, sym, ap}
 use mathlib.Core.List.{List, [], _∷_}
 use Prim.Native.Nat.{ℕ, suc, _+_, _-_, _^_, _≤_, _<_}

@@ -1,4 +1,4 @@
--- A WRITE ENDS WITH THE STATUS THAT THE SIGN WROTE, if it is of the path that was written; a status of another path is refused.
+-- A WRITE ENDS WITH THE STATUS THAT THE SERVER WROTE, if it is of the path that was written; a status of another path is refused.
 use mathlib.Core.Path.{_≡_, refl, sym, ap, _∙_}
 use mathlib.Core.Bool.{true}
 use mathlib.Core.List.{[], _∷_}

@@ -1,4 +1,4 @@
--- WHAT THE PANEL BEGINS IS READ AS IT WAS MEANT: reads, writes and the successes between the parts of a report.
+-- WHAT THE CACHE BEGINS IS READ AS IT WAS MEANT: reads, writes and the successes between the parts of a report.
 use mathlib.Core.Path.{_≡_, refl, ap, _∙_}
 use mathlib.Core.Bool.{Bool}
 use mathlib.Core.List.{List, _++_}

@@ -1,4 +1,4 @@
--- WHAT THE SIGN WROTE IS WHAT THE PANEL THEN HOLDS: of every path, what the last block of that path says, else what was held before.
+-- WHAT THE SERVER WROTE IS WHAT THE CACHE THEN HOLDS: of every path, what the last block of that path says, else what was held before.
 use mathlib.Core.Path.{_≡_, refl, sym, ap, _∙_}
 use mathlib.Core.Logic.{_⊎_, inl, inr}
 use mathlib.Core.Bool.{Bool, true, false, _&&_}

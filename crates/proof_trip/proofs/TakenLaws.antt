@@ -1,4 +1,4 @@
--- WHAT THE SIGN WRITES IS TAKEN AS IT WAS MEANT: every block of a report, whatever it is written of that fits.
+-- WHAT THE SERVER WRITES IS TAKEN AS IT WAS MEANT: every block of a report, whatever it is written of that fits.
 use mathlib.Core.Path.{_≡_, refl, sym, ap, subst, _∙_}
 use mathlib.Core.Bool.{Bool, true, false}
 use mathlib.Core.List.{List}

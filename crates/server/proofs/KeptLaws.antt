@@ -1,4 +1,4 @@
--- A VALID SIGN STAYS VALID: a local change and a received message, whatever they are, leave a server that keeps the rules.
+-- A VALID SERVER STAYS VALID: a local change and a received message, whatever they are, leave a server that keeps the rules.
 use mathlib.Core.Path.{_≡_, refl, subst, sym}
 use mathlib.Core.Bool.{true}
 use mathlib.Core.List.{List}

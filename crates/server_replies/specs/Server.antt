@@ -7,13 +7,13 @@ use Rattle.server_values.specs.declared.Values.{Values}
 use Rattle.server_writes.specs.Offer.{HeldValues}
 use Rattle.server_replies.specs.declared.ExchangeRow.{ExchangeRow}
 
--- WHAT A SIGN HOLDS, and a call may change: the values, the page of edits, the exchange that it serves
+-- WHAT A SERVER HOLDS, and a call may change: the values, the page of edits, the exchange that it serves
 pub record ServerState : Type 0 where
   pub values : Values
   pub edits : List ℕ
   pub row : ExchangeRow
 
--- WHAT A CALL IS LENT OF A SIGN: the schema's words and the factory page, which no call changes, and what it holds
+-- WHAT A CALL IS LENT OF A SERVER: the schema's words and the factory page, which no call changes, and what it holds
 pub record Server : Type 0 where
   pub schema : List ℕ
   pub defaults : List ℕ
