@@ -63,23 +63,47 @@ pub fn hold(first: u64, count: u64) -> Judged {
 /// how much of the place was sent.
 const HIGHEST: [u64; 10] = [(1 << 40) - 1, 65_535, 1, 1, 16, 16, 256, MESSAGE as u64, 0, 0];
 
-/// Any paths and filters; of how the exchange stands each word in its limits, or seldom past them. Whether none is.
+/// Any paths and filters; of how the exchange stands each word in its limits, or seldom past them, and as a rule together such as a sign leaves them. Whether
+/// all of them keep the rules.
 fn touch_row(ours: &mut Sign, rng: &mut Rng) -> bool {
     let (request, standing) = ours.row();
     for word in request {
         *word = *rng.pick(&[0, 1, 0x0500, 1 << 32, u64::MAX]);
     }
-    let mut kept = true;
     for (word, highest) in standing.iter_mut().zip(HIGHEST) {
-        let past = rng.chance(5);
-        *word = if past {
-            *rng.pick(&[highest + 1, highest + (1 << 32), u64::MAX])
-        } else {
-            (*rng.pick(&[0, 1, 1, highest])).min(highest)
-        };
-        kept &= !past;
+        *word = (*rng.pick(&[0, 1, 1, 7, 8, highest])).min(highest);
     }
-    kept
+    if rng.chance(80) {
+        let [last, turn, next, closed, asked, path, _, len, ..] = standing else {
+            unreachable!("ten words")
+        };
+        *path = (*path).min(*asked);
+        if *last == 0 {
+            (*turn, *next, *closed, *len) = (0, 0, 0, 0);
+        } else {
+            *turn = (*turn).max(1);
+            *len = if *len < 8 { 0 } else { *len };
+        }
+    }
+    for (word, highest) in standing.iter_mut().zip(HIGHEST) {
+        if rng.chance(4) {
+            *word = *rng.pick(&[highest + 1, highest + (1 << 32), u64::MAX]);
+        }
+    }
+    row_kept(standing)
+}
+
+/// Each word in its limits, the place one of the request's, an envelope in the kept reply, and a reply exactly if there is an exchange.
+fn row_kept(standing: &[u64]) -> bool {
+    let [last, turn, next, closed, asked, path, _, len, ..] = *standing else {
+        unreachable!("ten words")
+    };
+    let within = standing.iter().zip(HIGHEST).all(|(word, highest)| *word <= highest);
+    let served = match last {
+        0 => [turn, next, closed, len] == [0; 4],
+        _ => turn > 0,
+    };
+    within && path <= asked && !(1..8).contains(&len) && served
 }
 
 /// 2 for every call exactly if the row breaks the rules.

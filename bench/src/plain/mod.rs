@@ -37,8 +37,9 @@ const PATHS: usize = 16;
 const FILTERS: usize = 32;
 const WRITES: usize = 16;
 const EXCHANGES: u64 = 1 << 40;
-/// Eight bytes of envelope and 1,024 of payload.
-const MESSAGE: usize = 1032;
+const ENVELOPE: usize = 8;
+/// The envelope and 1,024 bytes of payload.
+const MESSAGE: usize = ENVELOPE + 1024;
 /// How many containers may stand in the message's own structure, one inside the other.
 const DEPTH: usize = 9;
 

@@ -9,7 +9,7 @@ use super::schema::Schema;
 use super::status::*;
 use super::values::Values;
 use super::writer::{Writer, ROOM};
-use super::{Lent, ATTRIBUTES, EXCHANGES, FILTERS, MESSAGE, PATHS};
+use super::{Lent, ATTRIBUTES, ENVELOPE, EXCHANGES, FILTERS, MESSAGE, PATHS};
 
 /// The opcodes that a sign takes.
 const TAKEN: [u8; 3] = [STATUS_RESPONSE, READ_REQUEST, WRITE_REQUEST];
@@ -235,14 +235,24 @@ impl Row {
         self.last < EXCHANGES
             && self.request.path_count <= PATHS
             && self.request.filter_count <= FILTERS
-            && self.place.path <= PATHS
+            && self.place.path <= self.request.path_count
             && self.place.index <= ATTRIBUTES
-            && self.len <= MESSAGE
+            && (self.len == 0 || (ENVELOPE..=MESSAGE).contains(&self.len))
+            && self.served_sound()
+    }
+
+    /// An exchange that was served has a reply; without one nothing is promised, closed or kept.
+    fn served_sound(&self) -> bool {
+        match self.last {
+            0 => self.turn == 0 && !self.promised && !self.closed && self.len == 0,
+            _ => self.turn > 0,
+        }
     }
 
     /// The status that refuses a request; nothing of it is kept.
     fn refuse(&mut self, status: u8) {
         (self.request.path_count, self.request.filter_count) = (0, 0);
+        self.place = Place { path: 0, index: 0 };
         let mut writer = Writer::message(&mut self.kept, STATUS_RESPONSE, self.last, 1);
         writer.unsigned(0, status.into());
         self.len = writer.finish();

@@ -56,11 +56,17 @@ impl Kind {
             Kind::Text { start, len, rank } => {
                 let ranked = rank == *texts;
                 *texts += 1;
-                let text = defaults.get(start as usize..).and_then(|rest| rest.get(..len.into()));
-                ranked && usize::from(len) <= TEXT_SIZE && text.is_some_and(right)
+                ranked && factory_sound(defaults, start, len, false)
             }
         }
     }
+}
+
+/// A factory text: its length, its place in the page and, unless the page is ASCII, its bytes.
+#[inline]
+fn factory_sound(defaults: &[u8], start: u32, len: u16, ascii: bool) -> bool {
+    let text = defaults.get(start as usize..).and_then(|rest| rest.get(..len.into()));
+    usize::from(len) <= TEXT_SIZE && text.is_some_and(|text| ascii || right(text))
 }
 
 #[inline]
@@ -72,20 +78,25 @@ fn right(text: &[u8]) -> bool {
     std::str::from_utf8(text).is_ok()
 }
 
+/// Which pages are ASCII: no text of theirs needs a look of its own.
+struct Ascii {
+    defaults: bool,
+    edits: bool,
+}
+
 impl Values {
-    /// Schema, values, shown texts and pages, in one walk of the attributes.
+    /// Schema with its factory texts, values, changed texts and pages, in one walk of the attributes.
     pub fn sound(&self, schema: &Schema, edits: &[u8]) -> bool {
         if !schema.clusters_sound() {
             return false;
         }
-        // Where the pages that are shown are ASCII, no text needs a look of its own.
-        let shows = |mark| self.edited[..schema.attributes.len()].contains(&mark);
+        let changed = self.edited[..schema.attributes.len()].contains(&true);
         let ascii =
-            (!shows(false) || schema.defaults.is_ascii()) && (!shows(true) || edits.is_ascii());
+            Ascii { defaults: schema.defaults.is_ascii(), edits: changed && edits.is_ascii() };
         let (mut least, mut texts) = (0, 0);
         for (i, attribute) in schema.attributes.iter().enumerate() {
             if !attribute.follows(&mut least, schema.clusters.len())
-                || !self.attribute_sound(schema, edits, i, ascii, &mut texts)
+                || !self.attribute_sound(schema, edits, i, &ascii, &mut texts)
             {
                 return false;
             }
@@ -93,14 +104,14 @@ impl Values {
         edits.len() == TEXT_SIZE * usize::from(texts)
     }
 
-    /// Limits with the first value, a text's rank, and what is held; null is held as 0.
+    /// Limits with the first value, a text's rank and its factory text, and what is held; null is held as 0.
     #[inline]
     fn attribute_sound(
         &self,
         schema: &Schema,
         edits: &[u8],
         i: usize,
-        ascii: bool,
+        ascii: &Ascii,
         texts: &mut u16,
     ) -> bool {
         let attribute = &schema.attributes[i];
@@ -119,12 +130,17 @@ impl Values {
                 let within = word >> 32 == 0 && low <= held && held <= high;
                 finite(low, high) && low <= first && first <= high && (null || within)
             }
-            Kind::Text { start, rank, .. } => {
+            Kind::Text { start, len, rank } => {
                 let ranked = rank == *texts;
                 *texts += 1;
                 let shown = || self.shown(schema, edits, i, start, rank);
-                let text = || shown().is_some_and(|text| ascii || right(text));
-                ranked && (null || word <= TEXT_SIZE as u64 && text())
+                let text = || shown().is_some_and(|text| ascii.edits || right(text));
+                // A text that was never changed is its factory text.
+                let held = match self.edited[i] {
+                    true => null || word <= TEXT_SIZE as u64 && text(),
+                    false => null || word == len.into(),
+                };
+                ranked && held && factory_sound(schema.defaults, start, len, ascii.defaults)
             }
         };
         held && (!null || attribute.nullable && word == 0)
