@@ -12,25 +12,25 @@ use crate::setup::{is_text, rows, word, Row, Setup, ATTRIBUTES, CLUSTERS, MESSAG
 
 pub const PAYLOAD: usize = 1024;
 
-// The schema's words (crates/schema/src/lib.rt): a header, then columns.
-const CLUSTER_COUNT_WORD: usize = 0;
-const ATTRIBUTE_COUNT_WORD: usize = 1;
+// The schema's words (crates/node_schema/src/lib.rt): a header, then columns.
+pub const CLUSTER_COUNT_WORD: usize = 0;
+pub const ATTRIBUTE_COUNT_WORD: usize = 1;
 const SUBJECT_WORD: usize = 2;
-const SPARE: usize = 3;
-const PATH: usize = 16;
-const VERSION: usize = PATH + CLUSTERS;
-const KEY: usize = VERSION + CLUSTERS;
-const TRAITS: usize = KEY + ATTRIBUTES;
-const LOW: usize = TRAITS + ATTRIBUTES;
-const HIGH: usize = LOW + ATTRIBUTES;
-const FIRST: usize = HIGH + ATTRIBUTES;
-const FACTORY: usize = FIRST + ATTRIBUTES;
+pub const SPARE: usize = 3;
+pub const PATH: usize = 16;
+pub const VERSION: usize = PATH + CLUSTERS;
+pub const KEY: usize = VERSION + CLUSTERS;
+pub const TRAITS: usize = KEY + ATTRIBUTES;
+pub const LOW: usize = TRAITS + ATTRIBUTES;
+pub const HIGH: usize = LOW + ATTRIBUTES;
+pub const FIRST: usize = HIGH + ATTRIBUTES;
+pub const FACTORY: usize = FIRST + ATTRIBUTES;
 const WORDS: usize = FACTORY + TEXTS;
 
-// The words of an exchange row (crates/selection/src/request.rt): the paths of the request, a filter for each cluster, and how the exchange stands.
+// The words of an exchange row (crates/server_selection/src/request.rt): the paths of the request, a filter for each cluster, and how the exchange stands.
 const PATHS: usize = 16;
 const FILTERS_AT: usize = 3 * PATHS;
-const STANDING_AT: usize = FILTERS_AT + CLUSTERS;
+pub const STANDING_AT: usize = FILTERS_AT + CLUSTERS;
 const ROW_WORDS: usize = STANDING_AT + 10;
 /// A field of a path that was left out, and the filter of a cluster that has none.
 const ANY: u64 = 1 << 32;
@@ -165,12 +165,12 @@ fn words_of(setup: &Setup) -> Box<[u64; WORDS]> {
 
 /// What a sign holds, and the exchange that it serves: memory that each call is lent.
 #[derive(Clone, Debug, PartialEq)]
-struct Held {
-    words: [u64; ATTRIBUTES],
-    nulls: [bool; ATTRIBUTES],
-    texts: [u16; TEXTS],
-    versions: [u32; CLUSTERS],
-    row: [u64; ROW_WORDS],
+pub struct Held {
+    pub words: [u64; ATTRIBUTES],
+    pub nulls: [bool; ATTRIBUTES],
+    pub texts: [u16; TEXTS],
+    pub versions: [u32; CLUSTERS],
+    pub row: [u64; ROW_WORDS],
     kept: [u8; MESSAGE],
 }
 
@@ -262,13 +262,14 @@ pub fn code(value: &Value) -> u8 {
 }
 
 /// A sign beside what it is lent. The library's calls have one access entry that grants everything.
+#[derive(Clone, PartialEq)]
 pub struct Sign {
-    schema: Box<[u64; WORDS]>,
-    subject: u64,
-    defaults: Vec<u8>,
+    pub schema: Box<[u64; WORDS]>,
+    pub subject: u64,
+    pub defaults: Vec<u8>,
     /// May be written by a run, which leaves nothing else behind.
-    edits: RefCell<Vec<u8>>,
-    held: Held,
+    pub edits: RefCell<Vec<u8>>,
+    pub held: Held,
     /// A row that asks for everything.
     everything: [u64; ROW_WORDS],
 }

@@ -3,6 +3,7 @@
 
 mod against;
 mod beside;
+mod broken;
 mod called;
 mod clock;
 mod library;
@@ -29,6 +30,7 @@ fn main() {
     let number = |word: &str| word.parse::<u64>().expect("a number");
     match words[..] {
         [] => {
+            broken::hold();
             against::hold(SEEDS, 1);
             against::panel::hold(SEEDS, 1);
             refusal::print();
@@ -40,6 +42,7 @@ fn main() {
             stack::print();
             panel_stack::print();
         }
+        ["broken"] => broken::hold(),
         ["stack"] => {
             stack::print();
             panel_stack::print();

@@ -10,13 +10,13 @@ use crate::setup::{is_text, rows, word, Row, Setup, ATTRIBUTES, MESSAGE, TEXT_SI
 
 /// `CHECKED`: each call tests what refusal 2 asks.
 pub struct Ordinary<const CHECKED: bool> {
-    subject: u64,
-    clusters: Vec<Cluster>,
-    attributes: Vec<Attribute>,
-    defaults: Vec<u8>,
-    edits: Vec<u8>,
-    table: Vec<Entry>,
-    sign: plain::Sign<CHECKED>,
+    pub subject: u64,
+    pub clusters: Vec<Cluster>,
+    pub attributes: Vec<Attribute>,
+    pub defaults: Vec<u8>,
+    pub edits: Vec<u8>,
+    pub table: Vec<Entry>,
+    pub sign: plain::Sign<CHECKED>,
 }
 
 pub type Checked = Ordinary<true>;

@@ -23,9 +23,15 @@ pub const CLUSTER_COUNT: usize = 0;
 pub const COUNT: usize = 1;
 pub const PRIMED: usize = 2;
 pub const USED: usize = 3;
+pub const EXCHANGE: usize = 4;
 pub const STAGE: usize = 5;
+pub const TURN: usize = 6;
 pub const STATUS: usize = 7;
+pub const ENDPOINT: usize = 8;
+pub const CLUSTER: usize = 9;
+pub const ATTRIBUTE: usize = 10;
 pub const UNKNOWN: usize = 11;
+pub const LENGTH: usize = 12;
 pub const SPARE: usize = 13;
 pub const ASKED: usize = 16;
 

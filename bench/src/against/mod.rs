@@ -12,9 +12,11 @@ use reference::player::Printed;
 use reference::rng::Rng;
 use reference::script::Line;
 
-use self::play::{play, proved};
+use self::play::play;
+pub use self::play::proved;
 use self::reached::Reached;
-use self::steps::{Script, Step};
+use self::steps::Script;
+pub use self::steps::Step;
 use crate::library;
 use crate::ordinary::{Checked, Unchecked};
 
