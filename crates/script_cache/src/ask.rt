@@ -1,5 +1,6 @@
 // Lines that ask the cache what it holds.
 ghost use mathlib.Core.Path.{_≡_};
+ghost use Prim.Native.Nat.{_≤_};
 ghost use Rattle.base_octets.specs.Store.{store};
 ghost use Rattle.im_writer.specs.Envelope.{bigOctets};
 ghost use Rattle.tlv_writer.specs.Element.{InPage};
@@ -27,25 +28,30 @@ const VERSION_SIZE: usize = 4;
 
 const EXCHANGE_SIZE: usize = 5;
 
-// A version's four bytes, the most significant first.
+// The four low bytes of a number, the most significant first.
+fn put_four(out: &mut [u8; MAX_MESSAGE], at: usize, n: u64)
+    requires { ⌜ at ≤ 1 ⌝ }
+    ensures { λ _. ⌜ now (out .exit) ≡ store (now (out .entry)) at (bigOctets 4 n) ⌝ }
+{
+    out[at] = (n / 16_777_216 % 256) as u8;
+    out[at + 1] = (n / 65_536 % 256) as u8;
+    out[at + 2] = (n / 256 % 256) as u8;
+    out[at + 3] = (n % 256) as u8;
+}
+
+// A version's four bytes.
 fn put_version(out: &mut [u8; MAX_MESSAGE], v: u32)
     ensures { λ _. ⌜ now (out .exit) ≡ store (now (out .entry)) 0 (bigOctets 4 v) ⌝ }
 {
-    out[0] = (v / 16_777_216 % 256) as u8;
-    out[1] = (v / 65_536 % 256) as u8;
-    out[2] = (v / 256 % 256) as u8;
-    out[3] = (v % 256) as u8;
+    put_four(out, 0, v as u64);
 }
 
-// An exchange's five bytes, likewise.
+// An exchange's five bytes.
 fn put_exchange(out: &mut [u8; MAX_MESSAGE], n: u64)
     ensures { λ _. ⌜ now (out .exit) ≡ store (now (out .entry)) 0 (bigOctets 5 n) ⌝ }
 {
     out[0] = (n / 4_294_967_296 % 256) as u8;
-    out[1] = (n / 16_777_216 % 256) as u8;
-    out[2] = (n / 65_536 % 256) as u8;
-    out[3] = (n / 256 % 256) as u8;
-    out[4] = (n % 256) as u8;
+    put_four(out, 1, n);
 }
 
 // A value whose text, if it is one, lies in the page; null for one that does not, which no call of ours makes.

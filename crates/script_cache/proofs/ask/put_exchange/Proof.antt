@@ -1,9 +1,8 @@
-use mathlib.Core.Path.{_≡_, refl}
-use Prim.Native.Nat.{_/_}
+use mathlib.Core.Path.{_≡_}
 use native.Mathlib.Omega.{arith}
+use borrow.Author.Needs.{needs}
 use Rattle.base_octets.specs.Store.{store}
 use Rattle.im_writer.specs.Envelope.{bigOctets}
-use borrow.Author.Needs.{needs}
 use Rattle.script_cache.proofs.ask.put_exchange.Statement.{statement}
 use Rattle.script_cache.proofs.ask.put_exchange.Tie as tie
 
@@ -13,46 +12,12 @@ cast-out c = search needs
 element-write-out : tie.Need-element-write-out
 element-write-out c = search needs
 
-cast-out-2 : tie.Need-cast-out-2
-cast-out-2 c = search needs
-
-element-write-out-2 : tie.Need-element-write-out-2
-element-write-out-2 c = search needs
-
-cast-out-3 : tie.Need-cast-out-3
-cast-out-3 c = search needs
-
-element-write-out-3 : tie.Need-element-write-out-3
-element-write-out-3 c = search needs
-
-cast-out-4 : tie.Need-cast-out-4
-cast-out-4 c = search needs
-
-element-write-out-4 : tie.Need-element-write-out-4
-element-write-out-4 c = search needs
-
-cast-out-5 : tie.Need-cast-out-5
-cast-out-5 c = search needs
-
-element-write-out-5 : tie.Need-element-write-out-5
-element-write-out-5 c = search needs
+put-four-requires : tie.Need-put-four-requires
+put-four-requires c κs = search needs
 
 returns : tie.Need-returns
 unfolding store bigOctets
-returns c = let low : c .args .n / 1 ≡ c .args .n = omega arith in rw low refl
+returns c = c .put-four .ensures
 
 pub put-exchange-spec : {M : Type 1} → statement M
-put-exchange-spec =
-    tie.close
-    (tie.spec
-    cast-out
-    element-write-out
-    cast-out-2
-    element-write-out-2
-    cast-out-3
-    element-write-out-3
-    cast-out-4
-    element-write-out-4
-    cast-out-5
-    element-write-out-5
-    returns)
+put-exchange-spec = tie.close (tie.spec cast-out element-write-out put-four-requires returns)
