@@ -1,2 +1,5 @@
 pub mod Fills
 pub mod Decimals
+pub mod WordLaws
+pub mod NumberLaws
+pub mod ByteLaws

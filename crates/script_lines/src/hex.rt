@@ -1,7 +1,9 @@
 // Bytes of a script: two hex digits each, to the end of the line.
-ghost use Prim.Native.Nat.{_≤_};
-ghost use lib.ListN.{length};
+ghost use mathlib.Core.Path.{_≡_};
+ghost use Prim.Native.Nat.{_+_, _≤_, min};
+ghost use lib.ListN.{length, set, drop};
 ghost use Rattle.script_lines.specs.Words.{Filled};
+ghost use Rattle.script_lines.specs.Bytes.{byteIn, restAt, restKept};
 use super::Scan;
 use super::number::hex_digit;
 
@@ -16,7 +18,8 @@ pub struct Bytes {
 
 // The next place of a buffer takes a byte; a full buffer stays as it is.
 fn keep(out: &mut [u8], n: usize, byte: u8) -> usize
-    ensures { λ r. ⌜ r ≤ length (now (out .exit)) ⌝ }
+    ensures { λ r. ⌜ r ≡ min (n + 1) (length (now (out .entry))) ⌝ }
+    ensures { λ r. ⌜ now (out .exit) ≡ set (now (out .entry)) n byte ⌝ }
 {
     if n < out.len() {
         out[n] = byte;
@@ -26,7 +29,9 @@ fn keep(out: &mut [u8], n: usize, byte: u8) -> usize
 }
 
 // The byte that two hex digits say, 256 where they are none.
-fn byte_at(line: &[u8], at: usize) -> usize {
+fn byte_at(line: &[u8], at: usize) -> usize
+    ensures { λ r. ⌜ r ≡ byteIn (drop at (now (line .entry))) ⌝ }
+{
     if line.len() <= at {
         return 256;
     }
@@ -46,6 +51,8 @@ fn byte_at(line: &[u8], at: usize) -> usize {
 
 // The rest of the line, a byte a word. A full buffer takes no more: then len is the buffer's length, however many follow.
 pub fn rest(line: &[u8], s: Scan, out: &mut [u8]) -> Bytes
+    ensures { λ r. ⌜ r ≡ restAt (now (line .entry)) s (length (now (out .entry))) ⌝ }
+    ensures { λ r. ⌜ now (out .exit) ≡ restKept (now (line .entry)) s (now (out .entry)) ⌝ }
     ensures { λ r. ⌜ Filled (r .len) (now (out .exit)) ⌝ }
 {
     if !s.more {

@@ -1,6 +1,7 @@
 // The lines of a script: words separated by single spaces, numbers, bytes and values. No input and no output.
+ghost use mathlib.Core.Path.{_≡_};
 ghost use lib.ListN.{length};
-ghost use Rattle.script_lines.specs.Words.{WordWithin};
+ghost use Rattle.script_lines.specs.Words.{atFirst, failedAt, isDone, isSkipped, noWord, nextWord, WordWithin};
 
 pub mod hex; // hex.rt: bytes of two hex digits each
 pub mod number; // number.rt: decimal and hexadecimal numbers
@@ -25,7 +26,9 @@ pub struct Word {
 }
 
 // At the first word of a line.
-pub fn begin() -> Scan {
+pub fn begin() -> Scan
+    ensures { λ r. ⌜ r ≡ atFirst ⌝ }
+{
     Scan {
         at: 0,
         more: true,
@@ -34,7 +37,9 @@ pub fn begin() -> Scan {
 }
 
 // The same place, and something before it could not be read.
-pub fn failed(s: Scan) -> Scan {
+pub fn failed(s: Scan) -> Scan
+    ensures { λ r. ⌜ r ≡ failedAt s ⌝ }
+{
     Scan {
         at: s.at,
         more: s.more,
@@ -43,12 +48,16 @@ pub fn failed(s: Scan) -> Scan {
 }
 
 // Whether the whole line was read and nothing is left.
-pub fn is_done(s: Scan) -> bool {
+pub fn is_done(s: Scan) -> bool
+    ensures { λ r. ⌜ r ≡ isDone s ⌝ }
+{
     if s.more { false } else { s.ok }
 }
 
 // A line to skip: an empty one, or one that starts with #.
-pub fn is_skipped(line: &[u8]) -> bool {
+pub fn is_skipped(line: &[u8]) -> bool
+    ensures { λ r. ⌜ r ≡ isSkipped (now (line .entry)) ⌝ }
+{
     if line.len() == 0 {
         return true;
     }
@@ -57,6 +66,7 @@ pub fn is_skipped(line: &[u8]) -> bool {
 
 // The next word; an empty one where none is left, which could not be read. Two spaces side by side have an empty word between them.
 pub fn next_word(line: &[u8], s: Scan) -> Word
+    ensures { λ r. ⌜ r ≡ nextWord (now (line .entry)) s ⌝ }
     ensures { λ r. ⌜ WordWithin r (length (now (line .entry))) ⌝ }
 {
     let at = s.at;
@@ -90,7 +100,7 @@ pub fn next_word(line: &[u8], s: Scan) -> Word
 }
 
 fn missing(at: usize) -> Word
-    ensures { λ r. ⌜ WordWithin r 0 ⌝ }
+    ensures { λ r. ⌜ r ≡ noWord at ⌝ }
 {
     Word {
         start: 0,

@@ -1,7 +1,7 @@
 // Numbers of a script: decimal ones, and the bits of a float in hex digits.
 ghost use mathlib.Core.Path.{_≡_};
 ghost use Prim.Native.Nat.{_≤_, _<_};
-ghost use Rattle.script_lines.specs.Numbers.{decimalOf, hexDigit};
+ghost use Rattle.script_lines.specs.Numbers.{decimalOf, hexDigit, hexOf, unreadAt, atMost, numberAt, floatAt, isByte, markedAt, flagAt, negatedOf, signedAt};
 use super::Scan;
 use super::failed;
 use super::next_word;
@@ -31,7 +31,7 @@ const TENTH: u64 = u64::MAX / 10;
 const HALF_RANGE: u64 = 9_223_372_036_854_775_808;
 
 fn unread(s: Scan) -> Number
-    ensures { λ r. ⌜ r .value ≡ 0 ⌝ }
+    ensures { λ r. ⌜ r ≡ unreadAt s ⌝ }
 {
     Number {
         value: 0,
@@ -96,7 +96,9 @@ pub fn hex_digit(c: u8) -> u8
 }
 
 // Eight hex digits, 32 bits.
-pub fn hex8(w: &[u8]) -> Digits {
+pub fn hex8(w: &[u8]) -> Digits
+    ensures { λ r. ⌜ r ≡ hexOf (now (w .entry)) ⌝ }
+{
     if w.len() != 8 {
         return Digits::Unreadable;
     }
@@ -115,6 +117,7 @@ pub fn hex8(w: &[u8]) -> Digits {
 
 // The number that was read, if it is at most the highest.
 fn at_most(d: Digits, highest: u64, next: Scan) -> Number
+    ensures { λ r. ⌜ r ≡ atMost highest next d ⌝ }
     ensures { λ r. ⌜ r .value ≤ highest ⌝ }
 {
     let Digits::Number(n) = d else {
@@ -128,6 +131,7 @@ fn at_most(d: Digits, highest: u64, next: Scan) -> Number
 
 // The next word as a decimal number.
 pub fn read_number(line: &[u8], s: Scan, highest: u64) -> Number
+    ensures { λ r. ⌜ r ≡ numberAt (now (line .entry)) s highest ⌝ }
     ensures { λ r. ⌜ r .value ≤ highest ⌝ }
 {
     let w = next_word(line, s);
@@ -138,6 +142,7 @@ pub fn read_number(line: &[u8], s: Scan, highest: u64) -> Number
 
 // The next word as the bits of a float32.
 pub fn read_float(line: &[u8], s: Scan) -> Number
+    ensures { λ r. ⌜ r ≡ floatAt (now (line .entry)) s ⌝ }
     ensures { λ r. ⌜ r .value < 4294967296 ⌝ }
 {
     let w = next_word(line, s);
@@ -147,7 +152,9 @@ pub fn read_float(line: &[u8], s: Scan) -> Number
 }
 
 // Whether the word is this one byte.
-fn is_byte(w: &[u8], byte: u8) -> bool {
+fn is_byte(w: &[u8], byte: u8) -> bool
+    ensures { λ r. ⌜ r ≡ isByte (now (w .entry)) byte ⌝ }
+{
     if w.len() != 1 {
         return false;
     }
@@ -156,6 +163,7 @@ fn is_byte(w: &[u8], byte: u8) -> bool {
 
 // The next word as a mark or as a decimal number.
 pub fn read_marked(line: &[u8], s: Scan, mark: u8, highest: u64) -> MarkedNumber
+    ensures { λ r. ⌜ r ≡ markedAt (now (line .entry)) s mark highest ⌝ }
     ensures { λ r. ⌜ r .value ≤ highest ⌝ }
 {
     let w = next_word(line, s);
@@ -180,6 +188,7 @@ pub fn read_marked(line: &[u8], s: Scan, mark: u8, highest: u64) -> MarkedNumber
 
 // The next word as 0 or 1.
 pub fn read_flag(line: &[u8], s: Scan) -> Number
+    ensures { λ r. ⌜ r ≡ flagAt (now (line .entry)) s ⌝ }
     ensures { λ r. ⌜ r .value ≤ 1 ⌝ }
 {
     let w = next_word(line, s);
@@ -196,7 +205,10 @@ pub fn read_flag(line: &[u8], s: Scan) -> Number
 }
 
 // A number below zero by its magnitude, in two's complement of 64 bits.
-fn negated(n: Number) -> Number {
+fn negated(n: Number) -> Number
+    ensures { λ r. ⌜ r ≡ negatedOf n ⌝ }
+    ensures { λ r. ⌜ r .value < 18446744073709551616 ⌝ }
+{
     let m = n.value;
     if m == 0 {
         return n;
@@ -209,7 +221,10 @@ fn negated(n: Number) -> Number {
 }
 
 // The next word as a signed number, in two's complement of 64 bits.
-pub fn read_signed(line: &[u8], s: Scan) -> Number {
+pub fn read_signed(line: &[u8], s: Scan) -> Number
+    ensures { λ r. ⌜ r ≡ signedAt (now (line .entry)) s ⌝ }
+    ensures { λ r. ⌜ r .value < 18446744073709551616 ⌝ }
+{
     let w = next_word(line, s);
     let start = w.start;
     let end = w.end;

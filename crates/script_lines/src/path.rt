@@ -1,4 +1,6 @@
 // Paths of a script: an endpoint, a cluster, an attribute.
+ghost use mathlib.Core.Path.{_≡_};
+ghost use Rattle.script_lines.specs.Paths.{placeAt, pathAt};
 use super::Scan;
 use super::number::read_number;
 
@@ -22,7 +24,9 @@ pub struct PathWords {
     pub next: Scan,
 }
 
-pub fn read_place(line: &[u8], s: Scan) -> ClusterWords {
+pub fn read_place(line: &[u8], s: Scan) -> ClusterWords
+    ensures { λ r. ⌜ r ≡ placeAt (now (line .entry)) s ⌝ }
+{
     let endpoint = read_number(line, s, ENDPOINT_MAX);
     let cluster = read_number(line, endpoint.next, ID_MAX);
     let next = cluster.next;
@@ -33,7 +37,9 @@ pub fn read_place(line: &[u8], s: Scan) -> ClusterWords {
     }
 }
 
-pub fn read_path(line: &[u8], s: Scan) -> PathWords {
+pub fn read_path(line: &[u8], s: Scan) -> PathWords
+    ensures { λ r. ⌜ r ≡ pathAt (now (line .entry)) s ⌝ }
+{
     let p = read_place(line, s);
     let attribute = read_number(line, p.next, ID_MAX);
     let next = attribute.next;

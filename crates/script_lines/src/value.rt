@@ -1,6 +1,10 @@
 // A value of a script, to the end of the line: null | bool 0|1 | unsigned N | signed N | float HEX8 | text BYTES..
-ghost use Prim.Native.Nat.{_≤_};
+ghost use mathlib.Core.Path.{_≡_};
+ghost use mathlib.Core.Bool.{false};
 ghost use lib.ListN.{length};
+ghost use Rattle.tlv_reader.specs.declared.Value.the-variants.{Null};
+ghost use Rattle.script_lines.specs.Bytes.{restAt, restKept};
+ghost use Rattle.script_lines.specs.Values.{parsed, textOf, numericAt, valueAt, valueKept};
 use super::Scan;
 use super::hex::rest;
 use super::is_done;
@@ -19,14 +23,19 @@ pub struct Parsed {
     pub ok: bool,
 }
 
-fn unread() -> Parsed {
+fn unread() -> Parsed
+    ensures { λ r. ⌜ r ≡ parsed Null false ⌝ }
+{
     Parsed {
         value: Value::Null,
         ok: false,
     }
 }
 
-fn text(line: &[u8], s: Scan, out: &mut [u8]) -> Parsed {
+fn text(line: &[u8], s: Scan, out: &mut [u8]) -> Parsed
+    ensures { λ r. ⌜ r ≡ textOf (restAt (now (line .entry)) s (length (now (out .entry)))) ⌝ }
+    ensures { λ r. ⌜ now (out .exit) ≡ restKept (now (line .entry)) s (now (out .entry)) ⌝ }
+{
     let b = rest(line, s, out);
     Parsed {
         value: Value::Text {
@@ -38,7 +47,9 @@ fn text(line: &[u8], s: Scan, out: &mut [u8]) -> Parsed {
 }
 
 // A number of one of the kinds, by the kind's word.
-fn numeric(kind: &[u8], line: &[u8], s: Scan) -> Parsed {
+fn numeric(kind: &[u8], line: &[u8], s: Scan) -> Parsed
+    ensures { λ r. ⌜ r ≡ numericAt (now (kind .entry)) (now (line .entry)) s ⌝ }
+{
     if same_bytes(kind, b"bool") {
         let n = read_flag(line, s);
         return Parsed {
@@ -70,7 +81,11 @@ fn numeric(kind: &[u8], line: &[u8], s: Scan) -> Parsed {
     unread()
 }
 
-pub fn read_value(line: &[u8], s: Scan, out: &mut [u8]) -> Parsed {
+// What the next words say; the buffer takes the bytes of a text.
+pub fn read_value(line: &[u8], s: Scan, out: &mut [u8]) -> Parsed
+    ensures { λ r. ⌜ r ≡ valueAt (now (line .entry)) s (length (now (out .entry))) ⌝ }
+    ensures { λ r. ⌜ now (out .exit) ≡ valueKept (now (line .entry)) s (now (out .entry)) ⌝ }
+{
     let w = next_word(line, s);
     let start = w.start;
     let end = w.end;
