@@ -1,4 +1,7 @@
 // What a line of a script says, and the messages that lines hand over. No input and no output.
+ghost use mathlib.Core.Path.{_≡_};
+ghost use Rattle.script_answer.specs.Messages.{silent};
+
 pub mod message; // message.rt: messages spelled on a line or kept of an end
 pub mod text; // text.rt: an answer as a line of text
 
@@ -21,7 +24,9 @@ pub const NOT_REPLIED: u8 = 4;
 pub const OVERLONG: u8 = 5;
 
 // Nothing to say, or a line that could not be read.
-pub fn quietly(ok: bool) -> LineSaid {
+pub fn silently(ok: bool) -> LineSaid
+    ensures { λ r. ⌜ r ≡ silent ok ⌝ }
+{
     if ok {
         LineSaid::Nothing
     } else {

@@ -1,4 +1,6 @@
 // The messages that lines hand over: spelled on the line, or the newest one that an end has made.
+ghost use mathlib.Core.Path.{_≡_};
+ghost use Rattle.script_answer.specs.Messages.{noMessage, newerOf, notHanded, spelledAt, newestOf};
 use super::UNREADABLE;
 use im_envelope::MAX_MESSAGE;
 use script_lines::Scan;
@@ -19,7 +21,9 @@ pub struct Handed {
     pub fault: u8,
 }
 
-pub fn no_message() -> MessageWords {
+pub fn no_message() -> MessageWords
+    ensures { λ r. ⌜ r ≡ noMessage ⌝ }
+{
     MessageWords {
         bytes: [0u8; SPELLED],
         len: 0,
@@ -27,7 +31,9 @@ pub fn no_message() -> MessageWords {
 }
 
 // The newest message of an end that has just answered: what stands in the buffer, or what it was if nothing was sent.
-pub fn newer(old: MessageWords, out: &[u8; MAX_MESSAGE], len: usize) -> MessageWords {
+pub fn newer(old: MessageWords, out: &[u8; MAX_MESSAGE], len: usize) -> MessageWords
+    ensures { λ r. ⌜ r ≡ newerOf old (now (out .entry)) len ⌝ }
+{
     if len == 0 {
         return old;
     }
@@ -39,7 +45,9 @@ pub fn newer(old: MessageWords, out: &[u8; MAX_MESSAGE], len: usize) -> MessageW
     }
 }
 
-fn nothing(fault: u8) -> Handed {
+fn nothing(fault: u8) -> Handed
+    ensures { λ r. ⌜ r ≡ notHanded fault ⌝ }
+{
     Handed {
         message: no_message(),
         fault,
@@ -47,7 +55,9 @@ fn nothing(fault: u8) -> Handed {
 }
 
 // The bytes on the rest of the line.
-pub fn spelled(line: &[u8], s: Scan) -> Handed {
+pub fn spelled(line: &[u8], s: Scan) -> Handed
+    ensures { λ r. ⌜ r ≡ spelledAt (now (line .entry)) s ⌝ }
+{
     let mut bytes = [0u8; SPELLED];
     let b = rest(line, s, &mut bytes);
     if !b.ok {
@@ -63,7 +73,9 @@ pub fn spelled(line: &[u8], s: Scan) -> Handed {
 }
 
 // The newest message of an end, for a line that has no word more; what is wrong if there is none.
-pub fn newest(s: Scan, m: MessageWords, none: u8) -> Handed {
+pub fn newest(s: Scan, m: MessageWords, none: u8) -> Handed
+    ensures { λ r. ⌜ r ≡ newestOf s m none ⌝ }
+{
     if !is_done(s) {
         return nothing(UNREADABLE);
     }
