@@ -1,4 +1,6 @@
 // The access table as the lines give it.
+ghost use mathlib.Core.Path.{_≡_};
+ghost use Rattle.script_setup.specs.Access.{noEntries, withEntry, accessAt};
 use base_bounds::ACCESS_ENTRIES;
 use node_access::AccessEntry;
 use script_lines::Scan;
@@ -30,7 +32,9 @@ const ANYBODY: AccessEntry = AccessEntry {
     cluster: 0,
 };
 
-pub fn no_entries() -> Table {
+pub fn no_entries() -> Table
+    ensures { λ r. ⌜ r ≡ noEntries ⌝ }
+{
     Table {
         entries: [ANYBODY; ACCESS_ENTRIES],
         count: 0,
@@ -38,7 +42,9 @@ pub fn no_entries() -> Table {
 }
 
 // A table with one entry more; the seventeenth is counted and not kept, and the server refuses the table.
-fn with_entry(t: Table, e: AccessEntry) -> Table {
+fn with_entry(t: Table, e: AccessEntry) -> Table
+    ensures { λ r. ⌜ r ≡ withEntry t e ⌝ }
+{
     let n = t.count;
     let mut entries = t.entries;
     if n < ACCESS_ENTRIES {
@@ -54,7 +60,9 @@ fn with_entry(t: Table, e: AccessEntry) -> Table {
     }
 }
 
-pub fn access_line(line: &[u8], s: Scan, table: Table) -> Given {
+pub fn access_line(line: &[u8], s: Scan, table: Table) -> Given
+    ensures { λ r. ⌜ r ≡ accessAt (now (line .entry)) s table ⌝ }
+{
     let privilege = read_number(line, s, 255);
     let subject = read_marked(line, privilege.next, b'*', u64::MAX);
     let endpoint = read_marked(line, subject.next, b'*', ENDPOINT_MAX);

@@ -1,6 +1,11 @@
 // The setup line of an attribute: its row of the schema's words, and its factory text.
-ghost use Prim.Native.Nat.{_≤_, _<_};
+ghost use mathlib.Core.Path.{_≡_};
+ghost use Prim.Native.Nat.{_≤_, _<_, _-_, _^_};
+ghost use lib.ListN.{length};
 ghost use Rattle.base_bounds.specs.Bounds.{attributeLimit};
+ghost use Rattle.script_lines.specs.Numbers.{numberAt, signedAt, floatAt, flagAt};
+ghost use Rattle.script_lines.specs.Bytes.{restAt, restKept};
+ghost use Rattle.script_setup.specs.Attributes.{firstOf, limitsBy, textOf, limitsAt, limitsKept, privilegeOf, rowAt, rowKept, attributesCounted, nextRow, rowSet, textPlaced, textStored, setupAdded, textsAdded, attributeRead, attributeSetup, attributeTexts};
 use super::PAGE;
 use super::PATHS;
 use super::SETUP;
@@ -48,6 +53,7 @@ struct KindWords {
 const BOOLEAN: u64 = 0;
 
 fn boolean(line: &[u8], s: Scan) -> KindWords
+    ensures { λ r. ⌜ r ≡ firstOf (flagAt (now (line .entry)) s) ⌝ }
     ensures { λ r. ⌜ r .code < 256 ⌝ }
 {
     let first = read_flag(line, s);
@@ -61,6 +67,7 @@ fn boolean(line: &[u8], s: Scan) -> KindWords
 }
 
 fn unsigned(line: &[u8], s: Scan) -> KindWords
+    ensures { λ r. ⌜ r ≡ limitsBy 1 (λ t. numberAt (now (line .entry)) t (2 ^ 64 - 1)) s ⌝ }
     ensures { λ r. ⌜ r .code < 256 ⌝ }
 {
     let low = read_number(line, s, u64::MAX);
@@ -76,6 +83,7 @@ fn unsigned(line: &[u8], s: Scan) -> KindWords
 }
 
 fn integer(line: &[u8], s: Scan) -> KindWords
+    ensures { λ r. ⌜ r ≡ limitsBy 2 (signedAt (now (line .entry))) s ⌝ }
     ensures { λ r. ⌜ r .code < 256 ⌝ }
 {
     let low = read_signed(line, s);
@@ -91,6 +99,7 @@ fn integer(line: &[u8], s: Scan) -> KindWords
 }
 
 fn real(line: &[u8], s: Scan) -> KindWords
+    ensures { λ r. ⌜ r ≡ limitsBy 3 (floatAt (now (line .entry))) s ⌝ }
     ensures { λ r. ⌜ r .code < 256 ⌝ }
 {
     let low = read_float(line, s);
@@ -106,6 +115,8 @@ fn real(line: &[u8], s: Scan) -> KindWords
 }
 
 fn text(line: &[u8], s: Scan, bytes: &mut [u8]) -> KindWords
+    ensures { λ r. ⌜ r ≡ textOf (restAt (now (line .entry)) s (length (now (bytes .entry)))) ⌝ }
+    ensures { λ r. ⌜ now (bytes .exit) ≡ restKept (now (line .entry)) s (now (bytes .entry)) ⌝ }
     ensures { λ r. ⌜ r .code < 256 ⌝ }
 {
     let b = rest(line, s, bytes);
@@ -120,6 +131,8 @@ fn text(line: &[u8], s: Scan, bytes: &mut [u8]) -> KindWords
 
 // bool FIRST | unsigned LOW HIGH FIRST | signed LOW HIGH FIRST | float LOW HIGH FIRST | text BYTES..
 fn read_limits(line: &[u8], s: Scan, bytes: &mut [u8]) -> KindWords
+    ensures { λ r. ⌜ r ≡ limitsAt (now (line .entry)) s (length (now (bytes .entry))) ⌝ }
+    ensures { λ r. ⌜ now (bytes .exit) ≡ limitsKept (now (line .entry)) s (now (bytes .entry)) ⌝ }
     ensures { λ r. ⌜ r .code < 256 ⌝ }
 {
     let w = next_word(line, s);
@@ -153,6 +166,7 @@ fn read_limits(line: &[u8], s: Scan, bytes: &mut [u8]) -> KindWords
 // The privilege as the schema has it, 0 for none. A line's 0 is no privilege: it becomes 5, which is none either and is refused.
 fn privilege(m: MarkedNumber) -> u64
     requires { ⌜ m .value < 256 ⌝ }
+    ensures { λ r. ⌜ r ≡ privilegeOf m ⌝ }
     ensures { λ r. ⌜ r < 256 ⌝ }
 {
     if !m.given {
@@ -172,7 +186,10 @@ struct AttributeLine {
     limits: KindWords,
 }
 
-fn read_row(line: &[u8], s: Scan, bytes: &mut [u8]) -> AttributeLine {
+fn read_row(line: &[u8], s: Scan, bytes: &mut [u8]) -> AttributeLine
+    ensures { λ r. ⌜ r ≡ rowAt (now (line .entry)) s (length (now (bytes .entry))) ⌝ }
+    ensures { λ r. ⌜ now (bytes .exit) ≡ rowKept (now (line .entry)) s (now (bytes .entry)) ⌝ }
+{
     let p = read_path(line, s);
     let read = read_marked(line, p.next, b'-', 255);
     let write = read_marked(line, read.next, b'-', 255);
@@ -191,6 +208,8 @@ fn read_row(line: &[u8], s: Scan, bytes: &mut [u8]) -> AttributeLine {
 
 // The row that the next attribute takes; ATTRIBUTES where there is none left.
 fn next_row(setup: &mut [u64; SETUP]) -> usize
+    ensures { λ r. ⌜ r ≡ nextRow (now (setup .entry)) ⌝ }
+    ensures { λ r. ⌜ now (setup .exit) ≡ attributesCounted (now (setup .entry)) ⌝ }
     ensures { λ r. ⌜ r ≤ attributeLimit ⌝ }
 {
     let n = setup[ATTRIBUTE_COUNT_WORD];
@@ -204,6 +223,7 @@ fn next_row(setup: &mut [u64; SETUP]) -> usize
 // The words of a row.
 fn set_row(setup: &mut [u64; SETUP], i: usize, row: AttributeLine)
     requires { ⌜ i < attributeLimit ⌝ }
+    ensures { λ _. ⌜ now (setup .exit) ≡ rowSet (now (setup .entry)) i row ⌝ }
 {
     let limits = row.limits;
     setup[PATHS + i] = row.path;
@@ -217,6 +237,8 @@ fn set_row(setup: &mut [u64; SETUP], i: usize, row: AttributeLine)
 // A factory text goes to the place of its row. An overlong one is not kept: its length alone has the schema refused.
 fn set_text(setup: &mut [u64; SETUP], texts: &mut [u8], i: usize, bytes: &[u8])
     requires { ⌜ i < attributeLimit ⌝ }
+    ensures { λ _. ⌜ now (setup .exit) ≡ textPlaced (now (setup .entry)) i ⌝ }
+    ensures { λ _. ⌜ now (texts .exit) ≡ textStored (now (texts .entry)) i (now (bytes .entry)) ⌝ }
 {
     let at = TEXT_SIZE * i;
     setup[LOW + i] = at as u64;
@@ -229,7 +251,10 @@ fn set_text(setup: &mut [u64; SETUP], texts: &mut [u8], i: usize, bytes: &[u8])
     }
 }
 
-fn add_row(setup: &mut [u64; SETUP], texts: &mut [u8; PAGE], row: AttributeLine, bytes: &[u8]) {
+fn add_row(setup: &mut [u64; SETUP], texts: &mut [u8; PAGE], row: AttributeLine, bytes: &[u8])
+    ensures { λ _. ⌜ now (setup .exit) ≡ setupAdded (now (setup .entry)) row ⌝ }
+    ensures { λ _. ⌜ now (texts .exit) ≡ textsAdded (now (setup .entry)) (now (texts .entry)) row (now (bytes .entry)) ⌝ }
+{
     let i = next_row(setup);
     if ATTRIBUTES <= i {
         return;
@@ -247,7 +272,11 @@ pub fn attribute_line(
     s: Scan,
     setup: &mut [u64; SETUP],
     texts: &mut [u8; PAGE],
-) -> bool {
+) -> bool
+    ensures { λ r. ⌜ r ≡ attributeRead (now (line .entry)) s ⌝ }
+    ensures { λ r. ⌜ now (setup .exit) ≡ attributeSetup (now (line .entry)) s (now (setup .entry)) ⌝ }
+    ensures { λ r. ⌜ now (texts .exit) ≡ attributeTexts (now (line .entry)) s (now (setup .entry)) (now (texts .entry)) ⌝ }
+{
     let mut bytes = [0u8; SPELLED];
     let row = read_row(line, s, &mut bytes);
     let limits = row.limits;

@@ -1,5 +1,9 @@
 // Setup lines: the schema's words as the lines give them, row by row. A row past a limit is counted and not kept: the schema is then refused,
 // as it is for every other rule that the lines break. No input and no output.
+ghost use mathlib.Core.Path.{_≡_};
+ghost use Rattle.script_lines.specs.Words.{isDone};
+ghost use Rattle.script_setup.specs.Setup.{isSetup, countUp, subjectAt, subjectSet, clusterAdded, clusterRead, clusterLine};
+ghost use Rattle.script_setup.specs.Lines.{setupRead, setupLine, textsLine};
 use base_bounds::ATTRIBUTES;
 use base_bounds::CLUSTERS;
 use node_kinds::stored::same_bytes;
@@ -30,11 +34,16 @@ const PATHS: usize = WORDS;
 pub const PAGE: usize = ATTRIBUTES * TEXT_SIZE;
 
 // A count up by one, as far as the limit.
-fn count_up(n: u64, limit: u64) -> u64 {
+fn count_up(n: u64, limit: u64) -> u64
+    ensures { λ r. ⌜ r ≡ countUp n limit ⌝ }
+{
     if n < limit { n + 1 } else { n }
 }
 
-fn subject_line(line: &[u8], s: Scan, setup: &mut [u64; SETUP]) -> bool {
+fn subject_line(line: &[u8], s: Scan, setup: &mut [u64; SETUP]) -> bool
+    ensures { λ r. ⌜ r ≡ isDone (subjectAt (now (line .entry)) s .next) ⌝ }
+    ensures { λ r. ⌜ now (setup .exit) ≡ subjectSet (now (setup .entry)) (subjectAt (now (line .entry)) s) ⌝ }
+{
     let n = read_number(line, s, u64::MAX);
     if !is_done(n.next) {
         return false;
@@ -43,7 +52,9 @@ fn subject_line(line: &[u8], s: Scan, setup: &mut [u64; SETUP]) -> bool {
     true
 }
 
-fn add_cluster(setup: &mut [u64; SETUP], path: u64, version: u64) {
+fn add_cluster(setup: &mut [u64; SETUP], path: u64, version: u64)
+    ensures { λ _. ⌜ now (setup .exit) ≡ clusterAdded (now (setup .entry)) path version ⌝ }
+{
     let n = setup[CLUSTER_COUNT_WORD];
     setup[CLUSTER_COUNT_WORD] = count_up(n, CLUSTERS as u64 + 1);
     if n < CLUSTERS as u64 {
@@ -53,7 +64,10 @@ fn add_cluster(setup: &mut [u64; SETUP], path: u64, version: u64) {
     }
 }
 
-fn cluster_line(line: &[u8], s: Scan, setup: &mut [u64; SETUP]) -> bool {
+fn cluster_line(line: &[u8], s: Scan, setup: &mut [u64; SETUP]) -> bool
+    ensures { λ r. ⌜ r ≡ clusterRead (now (line .entry)) s ⌝ }
+    ensures { λ r. ⌜ now (setup .exit) ≡ clusterLine (now (line .entry)) s (now (setup .entry)) ⌝ }
+{
     let p = read_place(line, s);
     let version = read_number(line, p.next, ID_MAX);
     if !is_done(version.next) {
@@ -68,7 +82,9 @@ fn cluster_line(line: &[u8], s: Scan, setup: &mut [u64; SETUP]) -> bool {
 }
 
 // Whether a line gives the schema.
-pub fn is_setup(name: &[u8]) -> bool {
+pub fn is_setup(name: &[u8]) -> bool
+    ensures { λ r. ⌜ r ≡ isSetup (now (name .entry)) ⌝ }
+{
     if same_bytes(name, b"subject") {
         return true;
     }
@@ -85,7 +101,11 @@ pub fn setup_line(
     s: Scan,
     setup: &mut [u64; SETUP],
     texts: &mut [u8; PAGE],
-) -> bool {
+) -> bool
+    ensures { λ r. ⌜ r ≡ setupRead (now (name .entry)) (now (line .entry)) s ⌝ }
+    ensures { λ r. ⌜ now (setup .exit) ≡ setupLine (now (name .entry)) (now (line .entry)) s (now (setup .entry)) ⌝ }
+    ensures { λ r. ⌜ now (texts .exit) ≡ textsLine (now (name .entry)) (now (line .entry)) s (now (setup .entry)) (now (texts .entry)) ⌝ }
+{
     if same_bytes(name, b"subject") {
         return subject_line(line, s, setup);
     }

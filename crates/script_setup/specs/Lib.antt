@@ -1,0 +1,4 @@
+pub mod Setup
+pub mod Access
+pub mod Attributes
+pub mod Lines
