@@ -1,4 +1,9 @@
 // Lines for the server: a message handed to it, the cache's newest message forwarded, a local change. No input and no output.
+ghost use mathlib.Core.Path.{_≡_};
+ghost use mathlib.Core.List.{List};
+ghost use Prim.Native.Nat.{ℕ};
+ghost use Rattle.server.specs.Start.{started};
+ghost use Rattle.script_server.specs.Lines.{isServer, noServer, StartsIn};
 use base_bounds::ATTRIBUTES;
 use base_bounds::CLUSTERS;
 use im_envelope::MAX_MESSAGE;
@@ -50,7 +55,9 @@ pub struct Replied {
 }
 
 // Before any server is started.
-pub fn no_server() -> ServerMemory {
+pub fn no_server() -> ServerMemory
+    ensures { λ r. ⌜ r ≡ noServer ⌝ }
+{
     ServerMemory {
         words: [0u64; ATTRIBUTES],
         nulls: [false; ATTRIBUTES],
@@ -66,7 +73,10 @@ pub fn start<'a>(
     w: &'a [u64; WORDS],
     defaults: &'a [u8; PAGE],
     server: ServerMemory,
-) -> ServerAnswered {
+) -> ServerAnswered
+    ensures { λ r. ⌜ ((edits : List ℕ) → StartsIn (started (now (w .entry)) (now (defaults .entry)) edits) server r) ⌝ }
+    ensures { λ r. ⌜ r .outcome .len ≡ 0 ⌝ }
+{
     let mut words = server.words;
     let mut nulls = server.nulls;
     let mut texts = server.texts;
@@ -274,7 +284,9 @@ fn change_line<'a>(
 }
 
 // Whether a line is for the server.
-pub fn is_server(name: &[u8]) -> bool {
+pub fn is_server(name: &[u8]) -> bool
+    ensures { λ r. ⌜ r ≡ isServer (now (name .entry)) ⌝ }
+{
     if same_bytes(name, b"sign") {
         return true;
     }
