@@ -1,5 +1,7 @@
 // Lines for the cache: requests that it begins or sends again, messages handed to it, and what it holds. No input and no output.
+ghost use mathlib.Core.Path.{_≡_};
 ghost use Prim.Native.Nat.{_<_};
+ghost use Rattle.script_cache.specs.Lines.{beginsRequest, isCache, FreshMemory, usedUp};
 use cache_entries::CLUSTERS;
 use cache_entries::ENTRIES;
 use cache_entries::ORDER_SIZE;
@@ -62,7 +64,9 @@ pub struct Acted {
 }
 
 // A fresh cache.
-pub fn fresh() -> CacheMemory {
+pub fn fresh() -> CacheMemory
+    ensures { λ r. ⌜ FreshMemory r ⌝ }
+{
     let mut clusters = [0u64; CLUSTERS];
     let mut keys = [0u64; ENTRIES];
     let mut versions = [0u64; ENTRIES];
@@ -111,7 +115,9 @@ fn played(answered: CacheAnswered) -> Acted {
 }
 
 // The cache's exchange numbers up to n count as used; that never lowers them.
-pub fn used_up(cache: CacheMemory, n: u64) -> CacheMemory {
+pub fn used_up(cache: CacheMemory, n: u64) -> CacheMemory
+    ensures { λ r. ⌜ r ≡ usedUp cache n ⌝ }
+{
     let mut asked = cache.asked;
     let mut t = read_standing(&asked);
     if n <= t.used {
@@ -312,7 +318,9 @@ fn write_line(
 }
 
 // Whether a line begins a request.
-fn begins(name: &[u8]) -> bool {
+fn begins(name: &[u8]) -> bool
+    ensures { λ r. ⌜ r ≡ beginsRequest (now (name .entry)) ⌝ }
+{
     if same_bytes(name, b"read") {
         return true;
     }
@@ -323,7 +331,9 @@ fn begins(name: &[u8]) -> bool {
 }
 
 // Whether the cache acts by a line.
-pub fn is_cache(name: &[u8]) -> bool {
+pub fn is_cache(name: &[u8]) -> bool
+    ensures { λ r. ⌜ r ≡ isCache (now (name .entry)) ⌝ }
+{
     if begins(name) {
         return true;
     }
