@@ -1,4 +1,8 @@
 // What a script has made so far, and what a line of it says.
+ghost use mathlib.Core.List.{List};
+ghost use Prim.Native.Nat.{ℕ};
+ghost use Rattle.server.specs.Start as starts;
+ghost use Rattle.script_player.specs.Ends.{FreshPlayer, StartsPlayer};
 use im_envelope::MAX_MESSAGE;
 use node_schema::WORDS;
 use script_answer::LineSaid;
@@ -32,7 +36,9 @@ pub struct Played {
 }
 
 // Before any line: no server and no cache.
-pub fn fresh() -> Player {
+pub fn fresh() -> Player
+    ensures { λ r. ⌜ FreshPlayer r ⌝ }
+{
     Player {
         given: no_entries(),
         live: false,
@@ -46,7 +52,9 @@ pub fn fresh() -> Player {
 }
 
 // Both ends anew, of everything that was set up so far; or 11, and there are none.
-pub fn started<'a>(p: Player, words: &'a [u64; WORDS], defaults: &'a [u8; PAGE]) -> Played {
+pub fn started<'a>(p: Player, words: &'a [u64; WORDS], defaults: &'a [u8; PAGE]) -> Played
+    ensures { λ r. ⌜ ((edits : List ℕ) → StartsPlayer (starts.started (now (words .entry)) (now (defaults .entry)) edits) p r) ⌝ }
+{
     let made = script_server::start(words, defaults, p.server);
     let outcome = made.outcome;
     let number = outcome.number;

@@ -22,10 +22,10 @@ use script_setup::is_setup;
 use script_setup::plan::set_schema;
 use script_setup::setup_line;
 use turns::acted;
-use turns::begins_none;
 use turns::buffer_line;
 use turns::given;
 use turns::replied;
+use turns::silent;
 use turns::used_line;
 use turns::wrong;
 
@@ -72,10 +72,10 @@ fn setting_up(
     defaults: &mut [u8; PAGE],
 ) -> Played {
     if script_lines::is_skipped(line) {
-        return begins_none(p, true);
+        return silent(p, true);
     }
     if is_setup(name) {
-        return begins_none(p, setup_line(name, line, s, setup, defaults));
+        return silent(p, setup_line(name, line, s, setup, defaults));
     }
     if same_bytes(name, b"access") {
         return given(p, access_line(line, s, p.given));

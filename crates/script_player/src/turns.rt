@@ -1,11 +1,13 @@
 // What a line leaves behind: the ends after it, and the newest messages.
+ghost use mathlib.Core.Path.{_≡_};
+ghost use Rattle.script_player.specs.Turns.{wrongBy, silentBy, repliedBy, actedBy, givenBy, bufferAt, usedAt};
 use super::ends::Played;
 use super::ends::Player;
 use cache_state::begin::LAST_EXCHANGE;
 use im_envelope::MAX_MESSAGE;
 use script_answer::LineSaid;
 use script_answer::message::newer;
-use script_answer::quietly;
+use script_answer::silently;
 use script_cache::Acted;
 use script_cache::used_up;
 use script_lines::Scan;
@@ -14,7 +16,9 @@ use script_lines::number::read_number;
 use script_server::Replied;
 use script_setup::access::Given;
 
-pub fn wrong(player: Player, fault: u8) -> Played {
+pub fn wrong(player: Player, fault: u8) -> Played
+    ensures { λ r. ⌜ r ≡ wrongBy player fault ⌝ }
+{
     Played {
         player,
         said: LineSaid::Wrong(fault),
@@ -22,15 +26,19 @@ pub fn wrong(player: Player, fault: u8) -> Played {
 }
 
 // A line that says nothing, if it could be read.
-pub fn begins_none(player: Player, ok: bool) -> Played {
+pub fn silent(player: Player, ok: bool) -> Played
+    ensures { λ r. ⌜ r ≡ silentBy player ok ⌝ }
+{
     Played {
         player,
-        said: quietly(ok),
+        said: silently(ok),
     }
 }
 
 // The server after a line; its reply, if it made one, is its newest.
-pub fn replied(p: Player, r: Replied, out: &[u8; MAX_MESSAGE]) -> Played {
+pub fn replied(p: Player, r: Replied, out: &[u8; MAX_MESSAGE]) -> Played
+    ensures { λ q. ⌜ q ≡ repliedBy p r (now (out .entry)) ⌝ }
+{
     if r.fault != 0 {
         return wrong(p, r.fault);
     }
@@ -50,7 +58,9 @@ pub fn replied(p: Player, r: Replied, out: &[u8; MAX_MESSAGE]) -> Played {
 }
 
 // The cache after a line; its message, if it made one, is its newest.
-pub fn acted(p: Player, a: Acted, out: &[u8; MAX_MESSAGE]) -> Played {
+pub fn acted(p: Player, a: Acted, out: &[u8; MAX_MESSAGE]) -> Played
+    ensures { λ r. ⌜ r ≡ actedBy p a (now (out .entry)) ⌝ }
+{
     if a.fault != 0 {
         return wrong(p, a.fault);
     }
@@ -70,26 +80,32 @@ pub fn acted(p: Player, a: Acted, out: &[u8; MAX_MESSAGE]) -> Played {
 }
 
 // After an access line.
-pub fn given(p: Player, g: Given) -> Played {
+pub fn given(p: Player, g: Given) -> Played
+    ensures { λ r. ⌜ r ≡ givenBy p g ⌝ }
+{
     let table = g.table;
     let mut player = p;
     player.given = table;
-    begins_none(player, g.ok)
+    silent(player, g.ok)
 }
 
 // `buffer`: the length of the buffer lent from here on.
-pub fn buffer_line(line: &[u8], s: Scan, p: Player) -> Played {
+pub fn buffer_line(line: &[u8], s: Scan, p: Player) -> Played
+    ensures { λ r. ⌜ r ≡ bufferAt (now (line .entry)) s p ⌝ }
+{
     let n = read_number(line, s, u64::MAX);
     let mut player = p;
     player.room = n.value as usize;
-    begins_none(player, is_done(n.next))
+    silent(player, is_done(n.next))
 }
 
 // `used`
-pub fn used_line(line: &[u8], s: Scan, p: Player) -> Played {
+pub fn used_line(line: &[u8], s: Scan, p: Player) -> Played
+    ensures { λ r. ⌜ r ≡ usedAt (now (line .entry)) s p ⌝ }
+{
     let n = read_number(line, s, LAST_EXCHANGE);
     let cache = used_up(p.cache, n.value);
     let mut player = p;
     player.cache = cache;
-    begins_none(player, is_done(n.next))
+    silent(player, is_done(n.next))
 }

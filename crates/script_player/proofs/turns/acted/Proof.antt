@@ -1,0 +1,22 @@
+use borrow.Author.Tests.{eq-eqb, ne-eqb}
+use Rattle.script_player.specs.Turns.{actedBy}
+use borrow.Author.Needs.{needs}
+use Rattle.script_player.proofs.turns.acted.Statement.{statement}
+use Rattle.script_player.proofs.turns.acted.Tie as tie
+
+wrong-requires : tie.Need-wrong-requires
+wrong-requires c κs = search needs
+
+returns : tie.Need-returns
+unfolding actedBy
+returns c = rw (ne-eqb (c .before .before .before .args .a .fault) 0 (c .before .if1 .taken)) (c .wrong .ensures)
+
+newer-requires : tie.Need-newer-requires
+newer-requires c κs = search needs
+
+returns-2 : tie.Need-returns-2
+unfolding actedBy
+returns-2 c = rw (eq-eqb (c .before .before .before .before .before .before .args .a .fault) 0 (c .before .before .before .before .if1 .left), c .newer .ensures)
+
+pub acted-spec : {M : Type 1} → statement M
+acted-spec = tie.close (tie.spec wrong-requires returns newer-requires returns-2)
