@@ -1,4 +1,7 @@
 // The limits of the rules (docs/RULES.md), each named once in the code. The definitions have the same (specs/Bounds.antt), each with its rule.
+
+#![tactic(auto)]
+
 ghost use Rattle.std.specs.Prelude.{◌≡◌};
 ghost use Rattle.base_bounds.specs.Bounds.{limits};
 
@@ -27,7 +30,7 @@ pub const MAX_FILTERS: usize = 32;
 
 pub const MAX_WRITES: usize = 16;
 
-#[derive(Drop)]
+#[derive(Clone, Copy)]
 pub struct Limits {
     pub endpoints: usize,
     pub clusters: usize,

@@ -1,5 +1,8 @@
 // Little-endian numbers in bytes, and bytes stored in a lent buffer. Every writer stores from `at` on and answers the
 // place after what it stored; the rest of the buffer stays as it was.
+
+#![tactic(auto)]
+
 ghost use Rattle.std.specs.Prelude.{◌≡◌, List, [], ◌∷◌, ℕ, ◌+◌, ◌≤◌, ◌<◌, length};
 ghost use Rattle.base_octets.specs.Number.{number_at, bytes_of};
 ghost use Rattle.base_octets.specs.Store.{store, Stored};

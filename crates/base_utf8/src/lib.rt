@@ -1,4 +1,7 @@
 // Whether bytes are well-formed UTF-8.
+
+#![tactic(auto)]
+
 ghost use Rattle.std.specs.Prelude.{◌≡◌, true, cond, ◌&&◌, ◌-◌, ◌≤◌, ◌<◌, leb, length, get_or};
 ghost use Rattle.base_utf8.specs.WellFormed.{well_formed};
 ghost use Rattle.base_utf8.specs.Bytewise.{Greatest, all_below, back, due, allowed, allowed3, allowed2};

@@ -1,4 +1,7 @@
 // What a program in C or Rust links to measure a cache: its calls over memory that the program owns, and the test of refusal 2 alone.
+
+#![tactic(auto)]
+
 ghost use Rattle.std.specs.Prelude.{◌≡◌, ◌&&◌, List, ℕ, length, replicate};
 ghost use Rattle.cache_state.specs.State.{cache_right};
 ghost use Rattle.cache_state.specs.Words.{asked_size, words_right, state_in};

@@ -21,7 +21,7 @@ use tlv_reader::Value;
 
 // The number of RULES 6.1, and the reply's length in the buffer.
 #[repr(C)]
-#[derive(Drop)]
+#[derive(Clone, Copy)]
 pub struct Last {
     pub number: u8,
     pub len: usize,

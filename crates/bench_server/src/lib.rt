@@ -1,4 +1,7 @@
 // What a program in C or Rust links to measure a server: its calls over memory that the program owns, the test of refusal 2 alone, and one part of a read.
+
+#![tactic(auto)]
+
 ghost use Rattle.std.specs.Prelude.{◌≡◌, true, ◌≤◌, length};
 ghost use Rattle.base_bounds.specs.Bounds.{payload_limit, path_limit};
 ghost use Rattle.node_schema.specs.Check.{well_formed};
@@ -21,7 +24,7 @@ pub mod calls; // calls.rt: the calls of a server
 
 // Where a part ends in the buffer, where the read goes on, and whether more is promised.
 #[repr(C)]
-#[derive(Drop)]
+#[derive(Clone, Copy)]
 pub struct MadePart {
     pub end: usize,
     pub path: usize,

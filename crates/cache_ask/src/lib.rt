@@ -1,4 +1,7 @@
 // What the cache holds, and how its newest request stands. Memory that is no cache's, or one's that breaks the rules, answers 2 here too.
+
+#![tactic(auto)]
+
 ghost use Rattle.std.specs.Prelude.{◌≡◌, true, List, ℕ, ◌<◌, get_or};
 ghost use Rattle.tlv_reader.specs.declared.Value.TheVariants as value;
 ghost use Rattle.cache_entries.specs.Limits.{text_places, text_kind};
@@ -18,7 +21,7 @@ use node_schema::Found;
 use tlv_reader::Value;
 
 // Whether a cluster is coherent (RULES 7.11: whole), and at which version.
-#[derive(Drop)]
+#[derive(Clone, Copy)]
 pub enum Whole {
     Broken,
     No,
@@ -26,7 +29,7 @@ pub enum Whole {
 }
 
 // An entry: its version and value. A text is a part of the page.
-#[derive(Drop)]
+#[derive(Clone, Copy)]
 pub enum EntryHeld {
     Broken,
     Nothing,
@@ -34,7 +37,7 @@ pub enum EntryHeld {
 }
 
 // How the newest request stands.
-#[derive(Drop)]
+#[derive(Clone, Copy)]
 pub enum Ended {
     Broken,
     NoneYet,
@@ -44,7 +47,7 @@ pub enum Ended {
 }
 
 // The newest abandoned write.
-#[derive(Drop)]
+#[derive(Clone, Copy)]
 pub enum Abandoned {
     Broken,
     Nothing,

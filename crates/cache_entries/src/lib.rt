@@ -1,6 +1,8 @@
 // What the cache holds of a server: a finite map from path to version and value (RULES 7.8). It is memory that the caller lends: an array for
 // each column, and a page for the texts. Any content is safe; what breaks the rules gets 2 (valid.rt).
 
+#![tactic(auto)]
+
 pub mod find; // find.rt: where a cluster and an entry stand
 pub mod set; // set.rt: an entry set
 pub mod shared; // shared.rt: whether the entries of a cluster share one version
@@ -42,7 +44,7 @@ pub const FLOAT: u8 = 4;
 pub const TEXT: u8 = 5;
 
 // The columns as one record, in which the contracts speak; no function takes one.
-#[derive(Drop)]
+#[derive(Clone, Copy)]
 pub struct Cached {
     // The clusters that have entries: endpoint and cluster, in two halves of 32 bits.
     pub clusters: [u64; CLUSTERS],

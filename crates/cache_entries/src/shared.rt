@@ -6,7 +6,7 @@ ghost use Rattle.cache_entries.specs.Coherent.{unseen, joined, joined_all, versi
 
 use super::{CLUSTERS, ENTRIES, HALF, NO_VERSION};
 
-#[derive(Drop)]
+#[derive(Clone, Copy)]
 pub enum Coherent {
     At(u32),
     No,

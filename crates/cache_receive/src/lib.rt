@@ -1,4 +1,7 @@
 // A message taken: the refusals in their order, then what the awaited reply says.
+
+#![tactic(auto)]
+
 ghost use Rattle.std.specs.Prelude.{◌≡◌, Bool, true, false, List, ℕ, ◌≤◌, ◌<◌, length};
 ghost use Rattle.base_bounds.specs.Bounds.{payload_limit};
 ghost use Rattle.im_writer.specs.Envelope.{exchange_limit};
@@ -77,7 +80,7 @@ fn is_awaited(t: CacheStanding, e: Fields) -> bool
 }
 
 // Why a message is not taken, or 0 and its opcode.
-#[derive(Drop)]
+#[derive(Clone, Copy)]
 pub struct Opened {
     pub number: u8,
     pub opcode: u64,
@@ -281,7 +284,7 @@ fn after_part(
 }
 
 // The number of a part, and how many clusters and entries there are after it.
-#[derive(Drop)]
+#[derive(Clone, Copy)]
 pub struct PartTaken {
     pub number: u8,
     pub counts: Counts,

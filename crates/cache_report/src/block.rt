@@ -9,7 +9,7 @@ use im_responses::kept::{BLOCK_WORDS, UNSHOWN};
 use tlv_reader::{Value, value_in};
 
 // An entry to set: path, version, value. A text is a part of the message. The contracts speak of it; no function takes one.
-#[derive(Drop)]
+#[derive(Clone, Copy)]
 pub struct NewEntry {
     pub endpoint: u16,
     pub cluster: u32,
@@ -18,7 +18,7 @@ pub struct NewEntry {
     pub value: Value,
 }
 
-#[derive(Drop)]
+#[derive(Clone, Copy)]
 pub enum Judgement {
     Taken(NewEntry),
     // A text over the limit: 7.

@@ -1,6 +1,8 @@
 // A part of a report as the cache takes it (RULES 7.7, 7.8; refusals 6 and 7): judged whole, then each block sets an entry. Its blocks are
 // words that are lent (`im_responses::kept`), so that each is read once.
 
+#![tactic(auto)]
+
 pub mod block; // block.rt: what a block gets by itself
 pub mod position; // spot.rt: where each block goes
 pub mod set; // set.rt: an entry set

@@ -17,7 +17,7 @@ use node_kinds::stored::word_of;
 use tlv_reader::Value;
 
 // How many clusters and entries there are.
-#[derive(Drop)]
+#[derive(Clone, Copy)]
 pub struct Counts {
     pub clusters: usize,
     pub entries: usize,

@@ -1,4 +1,7 @@
 // The cache: the client's copy of a server. Every call takes any bytes, any buffer, any memory, and answers a number of RULES 6.1.
+
+#![tactic(auto)]
+
 ghost use Rattle.std.specs.Prelude.{◌≡◌, ◌&&◌, List, ℕ};
 ghost use Rattle.cache_state.specs.State.{is_open, open_right, asked_right, cache_right};
 ghost use Rattle.cache_state.specs.Words.{words_right, request_of, state_with};
@@ -27,7 +30,7 @@ pub const STATUS: u64 = 4;
 pub const ASKED_WORDS: usize = 16;
 
 // The newest request, and what is awaited. The contracts speak of it; no function takes one.
-#[derive(Drop)]
+#[derive(Clone, Copy)]
 pub struct Request {
     // The highest exchange number that was used, and that of the newest request.
     pub used: u64,
@@ -49,14 +52,14 @@ pub struct Request {
 }
 
 // What a cache holds, and its newest request. Its texts lie in a lent page. The contracts speak of it; no function takes one.
-#[derive(Drop)]
+#[derive(Clone, Copy)]
 pub struct CacheState {
     pub held: Cached,
     pub asked: Request,
 }
 
 // What is read from the words at the start of a call and put back at its end, in their order.
-#[derive(Drop)]
+#[derive(Clone, Copy)]
 pub struct CacheStanding {
     pub cluster_count: usize,
     pub count: usize,
@@ -74,7 +77,7 @@ pub struct CacheStanding {
 }
 
 // The number of RULES 6.1, and the message's length in the buffer.
-#[derive(Drop)]
+#[derive(Clone, Copy)]
 pub struct Outcome {
     pub number: u8,
     pub len: usize,

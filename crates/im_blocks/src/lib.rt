@@ -1,4 +1,7 @@
 // Information blocks of the Interaction Model, read (chapter 10, section 10.5).
+
+#![tactic(auto)]
+
 ghost use Rattle.std.specs.Prelude.{◌≡◌};
 ghost use Rattle.im_blocks.specs.Path.{sound_path, path_on, path_read, banned, loose, askable_p, exact_p};
 ghost use Rattle.im_blocks.specs.Filter.{sound_cluster, cluster_on, cluster_read, filter_on, filter_read};
@@ -9,7 +12,7 @@ use im_members::{ABSENT, WRONG};
 use tlv_reader::{Cursor, Element, Head, STRUCTURE};
 
 // An attribute path: each part its number, ABSENT, or (of a list index) NULL.
-#[derive(Drop)]
+#[derive(Clone, Copy)]
 pub struct Path {
     pub compress: u64,
     pub node: u64,
@@ -19,7 +22,7 @@ pub struct Path {
     pub index: u64,
 }
 
-#[derive(Drop)]
+#[derive(Clone, Copy)]
 pub enum PathRead {
     Path(Path, Cursor),
     BadPath,
@@ -144,14 +147,14 @@ pub fn exact(p: Path) -> bool
 }
 
 // A cluster path, as a filter has it.
-#[derive(Drop)]
+#[derive(Clone, Copy)]
 pub struct ClusterPath {
     pub node: u64,
     pub endpoint: u64,
     pub cluster: u64,
 }
 
-#[derive(Drop)]
+#[derive(Clone, Copy)]
 pub enum ClusterRead {
     ClusterPath(ClusterPath, Cursor),
     BadCluster,
@@ -208,13 +211,13 @@ pub fn cluster_of(s: &[u8], e: Element, left: usize) -> ClusterRead
 }
 
 // A data version filter.
-#[derive(Drop)]
+#[derive(Clone, Copy)]
 pub struct Filter {
     pub path: ClusterPath,
     pub version: u64,
 }
 
-#[derive(Drop)]
+#[derive(Clone, Copy)]
 pub enum FilterRead {
     Filter(Filter, Cursor),
     BadFilter,
@@ -260,13 +263,13 @@ pub fn filter_of(s: &[u8], e: Element, left: usize) -> FilterRead
 }
 
 // A status: its code, and a cluster's own or ABSENT.
-#[derive(Drop)]
+#[derive(Clone, Copy)]
 pub struct Status {
     pub code: u64,
     pub cluster: u64,
 }
 
-#[derive(Drop)]
+#[derive(Clone, Copy)]
 pub enum StatusRead {
     Status(Status, Cursor),
     BadStatus,
@@ -316,13 +319,13 @@ fn status_at(s: &[u8], c: Cursor, left: usize) -> StatusRead
 }
 
 // An attribute's status.
-#[derive(Drop)]
+#[derive(Clone, Copy)]
 pub struct Answer {
     pub path: Path,
     pub status: Status,
 }
 
-#[derive(Drop)]
+#[derive(Clone, Copy)]
 pub enum AnswerRead {
     Answer(Answer, Cursor),
     BadAnswer,
@@ -367,14 +370,14 @@ pub fn answer_of(s: &[u8], e: Element, left: usize) -> AnswerRead
 }
 
 // An attribute's data: its version or ABSENT, its path, and where its data stands.
-#[derive(Drop)]
+#[derive(Clone, Copy)]
 pub struct Data {
     pub version: u64,
     pub path: Path,
     pub place: usize,
 }
 
-#[derive(Drop)]
+#[derive(Clone, Copy)]
 pub enum DataRead {
     Data(Data, Cursor),
     BadData,
@@ -428,13 +431,13 @@ pub fn data_of(s: &[u8], e: Element, left: usize) -> DataRead
 }
 
 // A block of a report: an attribute's data, or its status.
-#[derive(Drop)]
+#[derive(Clone, Copy)]
 pub enum Report {
     Shown(Data),
     Refused(Answer),
 }
 
-#[derive(Drop)]
+#[derive(Clone, Copy)]
 pub enum ReportRead {
     Report(Report, Cursor),
     BadReport,

@@ -1,4 +1,7 @@
 // The envelope of a message, read (RULES 3.1, 3.2).
+
+#![tactic(auto)]
+
 ghost use Rattle.std.specs.Prelude.{◌≡◌, ◌≤◌, length, take};
 ghost use Rattle.im_writer.specs.Envelope.{big_number};
 ghost use Rattle.im_envelope.specs.Envelope.{envelope_length, fields_of, envelope_in};
@@ -11,7 +14,7 @@ pub const LENGTH: usize = 8;
 pub const MAX_MESSAGE: usize = 1032;
 
 // Edition 4 bits, opcode 4, exchange 40, turn 16.
-#[derive(Drop)]
+#[derive(Clone, Copy)]
 pub struct Fields {
     pub edition: u64,
     pub opcode: u64,
@@ -19,7 +22,7 @@ pub struct Fields {
     pub turn: u64,
 }
 
-#[derive(Drop)]
+#[derive(Clone, Copy)]
 pub enum Envelope {
     Whole(Fields),
     Short,

@@ -1,4 +1,7 @@
 // The exchange rules (RULES 3.8 to 3.16), over numbers alone.
+
+#![tactic(auto)]
+
 ghost use Rattle.std.specs.Prelude.{◌≡◌};
 ghost use Rattle.im_exchange.specs.Rules.{action_of, beginning, server_takes, on_request, on_promised, on_earlier, on_status};
 
@@ -25,7 +28,7 @@ pub const NOTHING: u64 = 0;
 pub const PART: u64 = 1;
 
 // How far the exchange has come: the newest that was served, its newest reply, what a success for that brings, and 1 where it was closed.
-#[derive(Drop)]
+#[derive(Clone, Copy)]
 pub struct Progress {
     pub last: u64,
     pub turn: u64,
@@ -34,7 +37,7 @@ pub struct Progress {
 }
 
 // What a message asks of a server.
-#[derive(Drop)]
+#[derive(Clone, Copy)]
 pub enum Action {
     // A status for a reply.
     Status,
@@ -45,7 +48,7 @@ pub enum Action {
 }
 
 // What a message gets.
-#[derive(Drop)]
+#[derive(Clone, Copy)]
 pub enum Step {
     Silence,
     // It begins an exchange.

@@ -1,4 +1,7 @@
 // The listed members of a container: one loop for all schemas, which says where each stands and stops where another reader is to read.
+
+#![tactic(auto)]
+
 ghost use Rattle.std.specs.Prelude.{◌≡◌, false, replicate};
 ghost use Rattle.im_members.specs.Fields.{slot_of};
 ghost use Rattle.im_members.specs.Pass.{no_pass, pass_with, pass_from, pass_of, code_of, number_by, flag_by, wide_by};
@@ -38,7 +41,7 @@ fn slot(listed: &[bool; 10], form: u8, tag: u64) -> usize
 // Where a pass over the members of a container stopped: whether it is well formed so far; the slot of the member where it stopped, or 10
 // at the container's end; and the head that it read last. What it has seen is lent: where each listed member stands, plus one, or 0, and
 // each one's scalar as a code. Context tags 0 to 8 have slots of their own, and 255 has the last.
-#[derive(Drop)]
+#[derive(Clone, Copy)]
 pub struct Stop {
     pub good: bool,
     pub slot: usize,
@@ -254,7 +257,7 @@ pub fn wide_by(c: u64) -> u64
 }
 
 // What stands at a cursor in a container.
-#[derive(Drop)]
+#[derive(Clone, Copy)]
 pub enum MemberAt {
     Member(Element),
     Ended(Cursor),

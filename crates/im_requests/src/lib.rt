@@ -1,4 +1,7 @@
 // Payloads of the Interaction Model, read to their meaning (chapter 10, section 10.6; RULES 4).
+
+#![tactic(auto)]
+
 ghost use Rattle.std.specs.Prelude.{◌≡◌, List, [], ◌∷◌, ℕ, ◌≤◌, ◌*◌, length};
 ghost use Rattle.base_bounds.specs.Bounds.{path_limit, filter_limit};
 ghost use Rattle.im_members.specs.Pass.{pass_with};
@@ -54,7 +57,7 @@ pub fn is_whole(m: Stop, len: usize) -> bool
     next.at == len
 }
 
-#[derive(Drop)]
+#[derive(Clone, Copy)]
 pub enum StatusResponse {
     Code(u64),
     BadResponse,
@@ -88,7 +91,7 @@ pub fn status_response(s: &[u8]) -> StatusResponse
 }
 
 // What a read path asks for: each part its number, or ABSENT for any.
-#[derive(Drop)]
+#[derive(Clone, Copy)]
 pub struct Target {
     pub endpoint: u64,
     pub cluster: u64,
@@ -116,7 +119,7 @@ pub const PATH_WORDS: usize = MAX_PATHS * PATH_SIZE;
 pub const FILTER_WORDS: usize = MAX_FILTERS * FILTER_SIZE;
 
 // A list that was read from an array: whether it is well-formed, how many members it has, and where it ends. The first of them are in words that are lent.
-#[derive(Drop)]
+#[derive(Clone, Copy)]
 pub struct Listed {
     pub good: bool,
     pub count: usize,
@@ -144,7 +147,7 @@ pub fn keep_three(kept: &mut [u64], limit: usize, count: usize, a: u64, b: u64, 
 }
 
 // What a path of a read asks for.
-#[derive(Drop)]
+#[derive(Clone, Copy)]
 pub enum AskedRead {
     Asked(Target, Cursor),
     NotAsked,
@@ -212,7 +215,7 @@ fn paths_of(s: &[u8], e: Element, left: usize, kept: &mut [u64; PATH_WORDS]) -> 
 }
 
 // A cluster with the version that the reader of it has.
-#[derive(Drop)]
+#[derive(Clone, Copy)]
 pub struct VersionFilter {
     pub endpoint: u64,
     pub cluster: u64,
@@ -239,7 +242,7 @@ fn is_local(f: Filter) -> bool
 }
 
 // What a filter vouches for.
-#[derive(Drop)]
+#[derive(Clone, Copy)]
 pub enum VersionFilterRead {
     VersionFilter(VersionFilter, Cursor),
     NotVersionFilter,
@@ -312,7 +315,7 @@ fn version_filters_of(s: &[u8], e: Element, left: usize, kept: &mut [u64; FILTER
 }
 
 // A read request: whether it is well-formed, and how many paths and filters it has.
-#[derive(Drop)]
+#[derive(Clone, Copy)]
 pub struct ReadCounts {
     pub good: bool,
     pub paths: usize,
@@ -336,7 +339,7 @@ const FILTERS: [bool; 10] = [
 ];
 
 // Where a pass over a request's members stopped, and how many members a list of it has that was read by then.
-#[derive(Drop)]
+#[derive(Clone, Copy)]
 pub struct Passed {
     pub stop: Stop,
     pub count: usize,

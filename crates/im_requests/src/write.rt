@@ -12,7 +12,7 @@ use im_members::{ABSENT, MemberAt, Stop};
 use tlv_reader::{Cursor, Element};
 
 // An entry of a write: the version it was given for or ABSENT, the attribute it names, and where its data stands.
-#[derive(Drop)]
+#[derive(Clone, Copy)]
 pub struct WriteEntry {
     pub version: u64,
     pub endpoint: u64,
@@ -71,7 +71,7 @@ fn entry_of(d: Data) -> WriteEntry
 }
 
 // An entry of a write that names one attribute.
-#[derive(Drop)]
+#[derive(Clone, Copy)]
 pub enum EntryRead {
     WriteEntry(WriteEntry, Cursor),
     NoEntry,
@@ -150,7 +150,7 @@ fn is_unchunked(more: u64) -> bool
 }
 
 // A write request: whether it is well-formed, whether its answer is suppressed, whether a timed one is meant, and how many entries it has.
-#[derive(Drop)]
+#[derive(Clone, Copy)]
 pub struct WriteCounts {
     pub good: bool,
     pub suppress: u64,

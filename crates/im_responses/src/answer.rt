@@ -9,14 +9,14 @@ use im_members::ABSENT;
 use tlv_reader::{Cursor, Element, Head};
 
 // The one status of a response; none and two are refused alike.
-#[derive(Drop)]
+#[derive(Clone, Copy)]
 pub enum Answered {
     One(Answer),
     NotOne,
 }
 
 // The one member of an array, and where the array ends.
-#[derive(Drop)]
+#[derive(Clone, Copy)]
 pub enum OneRead {
     Only(Answer, Cursor),
     NotOnly,

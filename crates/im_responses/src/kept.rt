@@ -23,7 +23,7 @@ pub const BLOCK_WORDS: usize = BLOCKS * BLOCK_SIZE;
 pub const UNSHOWN: u64 = 281474976710656;
 
 // A block in words: endpoint and cluster, attribute and version, where its data stands.
-#[derive(Drop)]
+#[derive(Clone, Copy)]
 pub struct BlockWords {
     pub first: u64,
     pub second: u64,

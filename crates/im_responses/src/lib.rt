@@ -1,4 +1,7 @@
 // Report Data, read to its meaning (chapter 10, section 10.6.3; RULES 4 and 7).
+
+#![tactic(auto)]
+
 ghost use Rattle.std.specs.Prelude.{◌≡◌, List, ℕ};
 ghost use Rattle.im_members.specs.Pass.{pass_with};
 ghost use Rattle.im_responses.specs.Report.{part_by};
@@ -9,7 +12,7 @@ pub mod kept; // kept.rt: the blocks kept in words that are lent
 pub mod answer; // answer.rt: the Write Response
 
 // A part of a report: whether it is well-formed, whether more is promised (1), and how many blocks it has.
-#[derive(Drop)]
+#[derive(Clone, Copy)]
 pub struct PartRead {
     pub good: bool,
     pub more: u64,

@@ -1,5 +1,8 @@
 // Messages of the Interaction Model written into a lent buffer: fields in rising tag order, integers and lengths in the least
 // width. Every writer stores from `at` on and answers the place after what it stored; the rest of the buffer stays as it was.
+
+#![tactic(auto)]
+
 ghost use Rattle.std.specs.Prelude.{◌+◌, ◌≤◌, length};
 ghost use Rattle.base_octets.specs.Store.{Stored};
 ghost use Rattle.im_writer.specs.Spelling.{spellings};

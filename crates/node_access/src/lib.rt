@@ -1,4 +1,7 @@
 // Access (RULES 2.11 to 2.15): what one entry covers, and the grants that the server works with.
+
+#![tactic(auto)]
+
 ghost use Rattle.std.specs.Prelude.{◌≡◌, ◌||◌, max};
 ghost use Rattle.node_access.specs.Access.{covers_place, given_by, privilege_ok, is_granted};
 
@@ -12,7 +15,7 @@ pub const VIEW: u8 = 1;
 pub const ADMINISTER: u8 = 4;
 
 // An access entry gives a privilege to a subject, on an endpoint and a cluster, each one or any.
-#[derive(Drop)]
+#[derive(Clone, Copy)]
 pub struct AccessEntry {
     pub privilege: u8,
     pub any_subject: bool,
@@ -24,7 +27,7 @@ pub struct AccessEntry {
 }
 
 // For each of the schema's clusters, by the index of its row, the highest privilege granted to the subject; 0 for none.
-#[derive(Drop)]
+#[derive(Clone, Copy)]
 pub struct Grants {
     pub level: [u8; CLUSTERS],
 }

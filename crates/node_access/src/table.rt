@@ -7,7 +7,7 @@ use base_bounds::{ACCESS_ENTRIES, CLUSTERS};
 use node_schema::WORDS;
 
 // What a table says for a subject: whether it keeps the rules, refusal 2 where it does not, and what it grants.
-#[derive(Drop)]
+#[derive(Clone, Copy)]
 pub struct Access {
     pub right: bool,
     pub grants: Grants,

@@ -1,10 +1,13 @@
 // Attribute kinds with their limits, and values: whether a new value is allowed, and how a value is stored.
+
+#![tactic(auto)]
+
 pub mod float;
 pub mod limits;
 pub mod stored;
 
 // A float's lowest, highest and first value, which travel together.
-#[derive(Drop)]
+#[derive(Clone, Copy)]
 pub struct Range {
     pub low: f32,
     pub high: f32,
@@ -12,7 +15,7 @@ pub struct Range {
 }
 
 // What an attribute may hold: one of five kinds, each with its own limits, ends included.
-#[derive(Drop)]
+#[derive(Clone, Copy)]
 pub enum Kind {
     Boolean,
     Unsigned { low: u64, high: u64 },
@@ -22,7 +25,7 @@ pub enum Kind {
 }
 
 // What a new value gets.
-#[derive(Drop)]
+#[derive(Clone, Copy)]
 pub enum Verdict {
     Success,
     ConstraintError,

@@ -1,4 +1,7 @@
 // The node: the schema's attributes with their kinds, the whole check of a schema, and the two pages of texts.
+
+#![tactic(auto)]
+
 ghost use Rattle.std.specs.Prelude.{◌≡◌};
 ghost use Rattle.node_plan.specs.Check.{checked};
 
@@ -11,7 +14,7 @@ pub mod held;
 pub mod pages;
 
 // An attribute of the schema, decoded from its words.
-#[derive(Drop)]
+#[derive(Clone, Copy)]
 pub struct Attribute {
     // The place of its cluster among the cluster rows.
     pub cluster: usize,

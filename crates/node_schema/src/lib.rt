@@ -1,5 +1,8 @@
 // The schema (RULES 2: the plan): which endpoints, clusters and attributes a server has. It is lent as an array of words, so that it can lie in
 // read-only memory: a header, then columns, since a check walks a column several times faster than rows.
+
+#![tactic(auto)]
+
 ghost use Rattle.std.specs.Prelude.{◌≡◌, ◌<◌, ◌==◌, slice_index};
 ghost use Rattle.base_bounds.specs.Bounds.{cluster_limit, attribute_limit};
 ghost use Rattle.node_schema.specs.Layout.{subject_word, text_limit};
@@ -67,7 +70,7 @@ pub const TEXT: u64 = 4;
 pub const ADMINISTER: u64 = 4;
 
 // The place of a row, or none.
-#[derive(Drop)]
+#[derive(Clone, Copy)]
 pub enum Found {
     At(usize),
     Nothing,

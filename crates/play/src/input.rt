@@ -8,7 +8,7 @@ use script_lines::sizes::{clip, least};
 pub const INPUT: usize = 65_536;
 
 // How far the script has been read.
-#[derive(Drop)]
+#[derive(Clone, Copy)]
 pub struct Reader {
     // The bytes from `at` to n of the buffer are to be played; whether no more will come.
     pub at: usize,
@@ -45,7 +45,7 @@ fn end_of(input: &[u8], at: usize, n: usize) -> usize {
     if k <= at {
         return n;
     }
-    let end = bytes::scan::find(input, at, k, b'\n');
+    let end = script_lines::find::find(input, at, k, b'\n');
     if end < k { end } else { n }
 }
 

@@ -1,6 +1,9 @@
 // The script player: reads a script on standard input, line by line, and prints one line an answer: its number in decimal, then for each byte a space and
 // two capital hex digits. A line that can't be read, or has nothing to work on, is named on standard error and stops the run; what was answered so far
 // stands. The lines of a script are listed in docs/SCRIPTS.md.
+
+#![tactic(auto)]
+
 use cache_entries::PAGE_SIZE;
 use im_envelope::MAX_MESSAGE;
 use input::INPUT;

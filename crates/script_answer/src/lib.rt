@@ -1,4 +1,7 @@
 // What a line of a script says, and the messages that lines hand over. No input and no output.
+
+#![tactic(auto)]
+
 ghost use Rattle.std.specs.Prelude.{◌≡◌};
 ghost use Rattle.script_answer.specs.Messages.{silent};
 
@@ -6,7 +9,7 @@ pub mod message; // message.rt: messages spelled on a line or kept of an end
 pub mod text; // text.rt: an answer as a line of text
 
 // What a line says: nothing; a line of answer, its bytes at the start of the buffer; or what is wrong, which stops the run.
-#[derive(Drop)]
+#[derive(Clone, Copy)]
 pub enum LineSaid {
     Nothing,
     Line { number: u8, len: usize },

@@ -9,14 +9,14 @@ use script_lines::sizes::least;
 use script_lines::{Scan, is_done};
 
 // The first len of the bytes; an end that has made no message yet has one of length 0.
-#[derive(Drop)]
+#[derive(Clone, Copy)]
 pub struct MessageWords {
     pub bytes: [u8; SPELLED],
     pub len: usize,
 }
 
 // The message that a line hands over, or what is wrong with the line.
-#[derive(Drop)]
+#[derive(Clone, Copy)]
 pub struct Handed {
     pub message: MessageWords,
     pub fault: u8,

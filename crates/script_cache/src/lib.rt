@@ -1,4 +1,7 @@
 // Lines for the cache: requests that it begins or sends again, messages handed to it, and what it holds. No input and no output.
+
+#![tactic(auto)]
+
 ghost use Rattle.std.specs.Prelude.{◌≡◌, ◌<◌, length, take};
 ghost use Rattle.tlv_reader.specs.Octet.{pick};
 ghost use Rattle.script_answer.specs.Messages.{content_of};
@@ -26,7 +29,7 @@ use tlv_reader::Value;
 pub mod ask; // ask.rt: what the cache holds
 
 // What a cache is lent but for its page of texts, kept by value between the lines of a script.
-#[derive(Drop)]
+#[derive(Clone, Copy)]
 pub struct CacheMemory {
     pub clusters: [u64; CLUSTERS],
     pub keys: [u64; ENTRIES],
@@ -40,14 +43,14 @@ pub struct CacheMemory {
 }
 
 // The cache after a line, and what it answered.
-#[derive(Drop)]
+#[derive(Clone, Copy)]
 pub struct CacheAnswered {
     pub cache: CacheMemory,
     pub outcome: Outcome,
 }
 
 // That, or what is wrong with the line.
-#[derive(Drop)]
+#[derive(Clone, Copy)]
 pub struct Acted {
     pub answered: CacheAnswered,
     pub fault: u8,

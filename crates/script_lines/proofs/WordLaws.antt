@@ -8,7 +8,7 @@ use borrow.Author.Tests.{le-leb, lt-leb}
 use lib.Dec.{eqb}
 use lib.ListN.{length, get_or}
 use lib.Seq.{take-length}
-use Rattle.bytes.specs.Bytes.{index_of, slice}
+use Rattle.script_lines.specs.Find.{index_of, slice}
 use Rattle.script_lines.specs.declared.Scan.{Scan}
 use Rattle.script_lines.specs.declared.Word.{Word}
 use Rattle.script_lines.specs.Words.{is_skipped, space, word_end, no_word, word_to, next_word, WordWithin}

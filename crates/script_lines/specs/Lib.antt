@@ -1,3 +1,4 @@
+pub mod Find
 pub mod Words
 pub mod Numbers
 pub mod Paths

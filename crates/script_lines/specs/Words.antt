@@ -1,6 +1,6 @@
 -- Where a word stands in a line, and how many bytes of a buffer were filled.
 use Rattle.std.specs.Prelude.{◌≡◌, List, [], ◌∷◌, Bool, true, false, ◌&&◌, ◌||◌, ℕ, ◌+◌, ◌-◌, ◌≤◌, ltb, leb, eqb, length, take, drop}
-use Rattle.bytes.specs.Bytes.{index_of}
+use Rattle.script_lines.specs.Find.{index_of}
 use Rattle.node_kinds.specs.Stored.{equal}
 use Rattle.tlv_reader.specs.Octet.{pick}
 use Rattle.script_lines.specs.declared.Scan.{Scan}

@@ -10,7 +10,7 @@ use super::number::hex_digit;
 pub const SPELLED: usize = 2_049;
 
 // How many bytes were read, and whether the line could be read to its end.
-#[derive(Drop)]
+#[derive(Clone, Copy)]
 pub struct Bytes {
     pub len: usize,
     pub ok: bool,

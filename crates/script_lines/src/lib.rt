@@ -1,7 +1,11 @@
 // The lines of a script: words separated by single spaces, numbers, bytes and values. No input and no output.
+
+#![tactic(auto)]
+
 ghost use Rattle.std.specs.Prelude.{◌≡◌, length};
 ghost use Rattle.script_lines.specs.Words.{at_first, failed_at, is_done, is_skipped, no_word, next_word, WordWithin};
 
+pub mod find; // find.rt: where a byte stands first
 pub mod hex; // hex.rt: bytes of two hex digits each
 pub mod number; // number.rt: decimal and hexadecimal numbers
 pub mod path; // path.rt: endpoint, cluster and attribute
@@ -9,7 +13,7 @@ pub mod sizes; // sizes.rt: numbers held to what there is
 pub mod value; // value.rt: a value of one of the kinds, or null
 
 // How far a line has been read. What can't be read makes every later step fail, so that one test at the end of a line is enough.
-#[derive(Drop)]
+#[derive(Clone, Copy)]
 pub struct Scan {
     // Where the next word starts, if there is one.
     pub at: usize,
@@ -19,7 +23,7 @@ pub struct Scan {
 }
 
 // Where a word stands, and what comes after it.
-#[derive(Drop)]
+#[derive(Clone, Copy)]
 pub struct Word {
     pub start: usize,
     pub end: usize,
@@ -77,7 +81,7 @@ pub fn next_word(line: &[u8], s: Scan) -> Word
     if line.len() < at {
         return missing(at);
     }
-    let end = bytes::scan::find(line, at, line.len(), b' ');
+    let end = find::find(line, at, line.len(), b' ');
     if end < line.len() {
         return Word {
             start: at,

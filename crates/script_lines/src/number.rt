@@ -5,14 +5,14 @@ ghost use Rattle.script_lines.specs.Numbers.{decimal_of, hex_digit, hex_of, unre
 use super::{Scan, failed, next_word};
 
 // A number that was read, 0 where none could be, and what comes after it.
-#[derive(Drop)]
+#[derive(Clone, Copy)]
 pub struct Number {
     pub value: u64,
     pub next: Scan,
 }
 
 // A number, or the mark that stands for none or any.
-#[derive(Drop)]
+#[derive(Clone, Copy)]
 pub struct MarkedNumber {
     pub given: bool,
     pub value: u64,
@@ -20,7 +20,7 @@ pub struct MarkedNumber {
 }
 
 // What the digits of a word say.
-#[derive(Drop)]
+#[derive(Clone, Copy)]
 pub enum Digits {
     Number(u64),
     Unreadable,

@@ -11,7 +11,7 @@ pub const ENDPOINT_MAX: u64 = 65_535;
 pub const ID_MAX: u64 = 4_294_967_295;
 
 // A cluster's place, and what comes after it.
-#[derive(Drop)]
+#[derive(Clone, Copy)]
 pub struct ClusterWords {
     pub endpoint: u16,
     pub cluster: u32,
@@ -19,7 +19,7 @@ pub struct ClusterWords {
 }
 
 // An attribute's path, and what comes after it.
-#[derive(Drop)]
+#[derive(Clone, Copy)]
 pub struct PathWords {
     pub endpoint: u16,
     pub cluster: u32,

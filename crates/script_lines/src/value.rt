@@ -11,7 +11,7 @@ use node_kinds::stored::{same_bytes, signed_of};
 use tlv_reader::Value;
 
 // A value, and whether it and all before it could be read. A text is the first bytes of the buffer.
-#[derive(Drop)]
+#[derive(Clone, Copy)]
 pub struct Parsed {
     pub value: Value,
     pub ok: bool,

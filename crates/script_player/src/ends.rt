@@ -12,7 +12,7 @@ use script_server::{ServerMemory, no_server};
 use script_setup::PAGE;
 use script_setup::access::{Table, no_entries};
 
-#[derive(Drop)]
+#[derive(Clone, Copy)]
 pub struct Player {
     // The access table that the lines so far give.
     pub given: Table,
@@ -28,7 +28,7 @@ pub struct Player {
     pub replied: MessageWords,
 }
 
-#[derive(Drop)]
+#[derive(Clone, Copy)]
 pub struct Played {
     pub player: Player,
     pub said: LineSaid,

@@ -1,4 +1,7 @@
 // One line of a script played, by its first word. No input and no output.
+
+#![tactic(auto)]
+
 use cache_entries::PAGE_SIZE;
 use ends::{Played, Player, started};
 use im_envelope::MAX_MESSAGE;

@@ -1,4 +1,7 @@
 // Lines for the server: a message handed to it, the cache's newest message forwarded, a local change. No input and no output.
+
+#![tactic(auto)]
+
 ghost use Rattle.std.specs.Prelude.{◌≡◌, List, ℕ, length, take};
 ghost use Rattle.server.specs.Start.{started};
 ghost use Rattle.server.specs.Start.{altered_by};
@@ -29,7 +32,7 @@ use server_selection::request::ROW_WORDS;
 use tlv_reader::Value;
 
 // What a server is lent, kept by value between the lines of a script.
-#[derive(Drop)]
+#[derive(Clone, Copy)]
 pub struct ServerMemory {
     pub words: [u64; ATTRIBUTES],
     pub nulls: [bool; ATTRIBUTES],
@@ -40,14 +43,14 @@ pub struct ServerMemory {
 }
 
 // The server after a line, and what it answered.
-#[derive(Drop)]
+#[derive(Clone, Copy)]
 pub struct ServerAnswered {
     pub server: ServerMemory,
     pub outcome: Outcome,
 }
 
 // That, or what is wrong with the line.
-#[derive(Drop)]
+#[derive(Clone, Copy)]
 pub struct Replied {
     pub answered: ServerAnswered,
     pub fault: u8,
@@ -124,7 +127,7 @@ fn played(answered: ServerAnswered) -> Replied
 }
 
 // A message, and the subject that it comes from.
-#[derive(Drop)]
+#[derive(Clone, Copy)]
 struct From {
     subject: u64,
     handed: Handed,

@@ -9,14 +9,14 @@ use script_lines::path::{ENDPOINT_MAX, ID_MAX};
 use script_lines::{Scan, is_done};
 
 // The first `count` of the entries are in use.
-#[derive(Drop)]
+#[derive(Clone, Copy)]
 pub struct Table {
     pub entries: [AccessEntry; ACCESS_ENTRIES],
     pub count: usize,
 }
 
 // The table after an access line, and whether it could be read.
-#[derive(Drop)]
+#[derive(Clone, Copy)]
 pub struct Given {
     pub table: Table,
     pub ok: bool,

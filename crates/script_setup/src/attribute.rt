@@ -22,7 +22,7 @@ use script_lines::sizes::clip;
 use script_lines::{Scan, is_done, next_word};
 
 // A kind with its limits and first value, as words of the schema; of a text its length as the highest, until its rank is known.
-#[derive(Drop)]
+#[derive(Clone, Copy)]
 struct KindWords {
     code: u64,
     low: u64,
@@ -160,7 +160,7 @@ fn privilege(m: MarkedNumber) -> u64
 }
 
 // What a line says of an attribute. Of a text the bytes stand in a buffer.
-#[derive(Drop)]
+#[derive(Clone, Copy)]
 struct AttributeLine {
     path: u64,
     id: u64,

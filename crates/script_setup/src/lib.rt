@@ -1,5 +1,8 @@
 // Setup lines: the schema's words as the lines give them, row by row. A row past a limit is counted and not kept: the schema is then refused,
 // as it is for every other rule that the lines break. No input and no output.
+
+#![tactic(auto)]
+
 ghost use Rattle.std.specs.Prelude.{◌≡◌};
 ghost use Rattle.script_lines.specs.Words.{is_done};
 ghost use Rattle.script_setup.specs.Setup.{is_setup, count_up, subject_at, subject_set, cluster_added, cluster_read, cluster_line};

@@ -1,4 +1,7 @@
 // The server: a server of the Interaction Model. Every call takes any bytes, any buffer, any state, and answers a number of RULES 6.1.
+
+#![tactic(auto)]
+
 ghost use Rattle.std.specs.Prelude.{◌≡◌, List, ℕ};
 ghost use Rattle.server_writes.specs.Offer.{held_of};
 ghost use Rattle.server_replies.specs.Server.{server_with};
@@ -16,7 +19,7 @@ pub mod receive; // receive.rt: a message answered
 pub mod start; // start.rt: a fresh server, and a change made at the server itself
 
 // The number of RULES 6.1, and the reply's length in the buffer.
-#[derive(Drop)]
+#[derive(Clone, Copy)]
 pub struct Outcome {
     pub number: u8,
     pub len: usize,

@@ -1,4 +1,7 @@
 // The exchange that a server serves, and the replies that it gives: each is written to the buffer and kept, to be sent again.
+
+#![tactic(auto)]
+
 use im_exchange::Progress;
 use server_report::ReadPlace;
 use server_report::part::OpenRead;
@@ -16,7 +19,7 @@ pub const ENVELOPE: usize = im_envelope::LENGTH;
 
 // How far the exchange has come, the request being answered and the place reached in it, and the kept reply: its length is 0 for silence. It is lent as words,
 // and the kept reply as bytes.
-#[derive(Drop)]
+#[derive(Clone, Copy)]
 pub struct ExchangeRow {
     pub progress: Progress,
     pub request: OpenRead,
@@ -26,7 +29,7 @@ pub struct ExchangeRow {
 }
 
 // What goes by value of a row: how the exchange stands, how many paths it asks for, and the length of the kept reply.
-#[derive(Drop)]
+#[derive(Clone, Copy)]
 pub struct RowStanding {
     pub progress: Progress,
     pub asked: usize,

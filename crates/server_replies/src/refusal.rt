@@ -13,7 +13,7 @@ const PATHS_EXHAUSTED: u8 = 0xC8;
 const RESOURCE_EXHAUSTED: u8 = 0x89;
 
 // What a request asks for, as far as that decides it: whether it is well-formed, whether a timed one is meant, and how many paths, filters and writes it has.
-#[derive(Drop)]
+#[derive(Clone, Copy)]
 pub struct Asks {
     pub good: bool,
     pub timed: u64,

@@ -20,7 +20,7 @@ use server_selection::items::{Item, item_at, span_of};
 use server_selection::request::{FILTERS_AT, ROW_WORDS, asked_at};
 
 // What an exchange keeps of a read while it is answered: its paths, and what its filters say of each cluster. It is lent as words of the exchange's row.
-#[derive(Drop)]
+#[derive(Clone, Copy)]
 pub struct OpenRead {
     pub paths: [u64; FILTERS_AT],
     pub asked: usize,

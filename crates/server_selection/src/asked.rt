@@ -8,7 +8,7 @@ ghost use Rattle.server_selection.specs.Asked.{named, asked_for, part_is, asks_f
 use im_requests::Target;
 use node_schema::WORDS;
 
-#[derive(Drop)]
+#[derive(Clone, Copy)]
 pub struct Asked {
     pub any_endpoint: bool,
     pub endpoint: u16,

@@ -12,7 +12,7 @@ use super::reach::{Use, allow, reach};
 use base_bounds::CLUSTERS;
 use node_schema::WORDS;
 
-#[derive(Drop)]
+#[derive(Clone, Copy)]
 pub enum Item {
     // The value of the attribute with this index.
     Value(usize),

@@ -6,7 +6,7 @@ use super::{UNSUPPORTED_ATTRIBUTE, UNSUPPORTED_CLUSTER, UNSUPPORTED_ENDPOINT};
 use node_schema::find::{find_attribute, find_cluster, has_endpoint};
 use node_schema::{Found, WORDS};
 
-#[derive(Drop)]
+#[derive(Clone, Copy)]
 pub enum Located {
     Here(usize),
     Refused(u8),

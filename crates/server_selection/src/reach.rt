@@ -10,7 +10,7 @@ use base_bounds::CLUSTERS;
 use node_access::is_granted;
 use node_schema::WORDS;
 
-#[derive(Drop)]
+#[derive(Clone, Copy)]
 pub enum Use {
     Read,
     Write,

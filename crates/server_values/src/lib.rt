@@ -1,4 +1,7 @@
 // What a server holds: the value of each attribute and the data version of each cluster (RULES 2).
+
+#![tactic(auto)]
+
 ghost use Rattle.std.specs.Prelude.{◌≡◌, ◌<◌};
 ghost use Rattle.base_bounds.specs.Bounds.{attribute_limit};
 ghost use Rattle.server_values.specs.Values.{rank_text, mark_of, mark_at, text_at, value_at};
@@ -16,7 +19,7 @@ pub mod pages; // pages.rt: whether the texts shown from a page are valid
 pub mod quick; // quick.rt: a quick test of values and pages
 pub mod valid; // valid.rt: whether values and pages keep the rules
 
-#[derive(Drop)]
+#[derive(Clone, Copy)]
 pub struct Values {
     // Each attribute's value as 64 bits; of a text 0.
     pub words: [u64; ATTRIBUTES],

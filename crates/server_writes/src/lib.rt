@@ -1,4 +1,7 @@
 // Writes and local changes: each entry judged, and stored where the rules allow it.
+
+#![tactic(auto)]
+
 ghost use Rattle.std.specs.Prelude.{◌≡◌, true, ◌<◌, ◌*◌, length};
 ghost use Rattle.node_schema.specs.Layout.{text_size};
 ghost use Rattle.node_schema.specs.Rows.{count_of_attributes};

@@ -1,4 +1,7 @@
 // Matter TLV, read (Matter Core Specification, Appendix A).
+
+#![tactic(auto)]
+
 ghost use Rattle.std.specs.Prelude.{◌≡◌, ◌+◌, ◌≤◌, ◌<◌, length};
 ghost use Rattle.base_octets.specs.Number.{number_at};
 ghost use Rattle.tlv_reader.specs.Octet.{tag_width, number_width, is_string};
@@ -16,14 +19,14 @@ pub const LIST: u8 = 23;
 pub const END: u8 = 24;
 
 // A place in a message.
-#[derive(Drop)]
+#[derive(Clone, Copy)]
 pub struct Cursor {
     pub at: usize,
 }
 
 // The head of an element: its tag form and tag, its element type, the number after the tag (a value, or the length of a
 // string), where the bytes after that number start, and the place after the head and a string's bytes.
-#[derive(Drop)]
+#[derive(Clone, Copy)]
 pub struct Element {
     pub form: u8,
     pub kind: u8,
@@ -33,21 +36,21 @@ pub struct Element {
     pub next: Cursor,
 }
 
-#[derive(Drop)]
+#[derive(Clone, Copy)]
 pub enum Head {
     Found(Element),
     Malformed,
 }
 
 // The end of an element that was walked.
-#[derive(Drop)]
+#[derive(Clone, Copy)]
 pub enum Walk {
     Past(Cursor),
     Broken,
 }
 
 // A value: a float by its bits, a text by where its bytes lie.
-#[derive(Drop)]
+#[derive(Clone, Copy)]
 pub enum Value {
     Null,
     Boolean(bool),

@@ -2,6 +2,9 @@
 // they are; lines that start with # and empty ones are skipped. Each example gives one line: what the reader makes of the
 // octets, ` | `, and the octets that the writer writes for that, or - where we write none. Of the input the first 4,096 bytes
 // are looked at; a line of more than 256 bytes gives `too long`, and octets that are no element `malformed`.
+
+#![tactic(auto)]
+
 ghost use Rattle.std.specs.Prelude.{◌≡◌, ◌≤◌, length};
 ghost use Rattle.base_bounds.specs.Bounds.{depth_limit};
 ghost use Rattle.tlv_reader.specs.Walk.{element_at, ends_at};

@@ -9,7 +9,7 @@ use tlv_reader::{Cursor, Element, Head, Value};
 use tlv_writer::{Tag, lengths};
 
 // The place after what was written; nothing where we write no such element, or it does not fit.
-#[derive(Drop)]
+#[derive(Clone, Copy)]
 pub enum Put {
     Next(usize),
     Nothing,

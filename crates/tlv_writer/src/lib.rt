@@ -1,5 +1,8 @@
 // TLV elements written into a lent buffer, untagged or with a context tag, integers and lengths in the least width. Every
 // writer stores from `at` on and answers the place after what it stored; the rest of the buffer stays as it was.
+
+#![tactic(auto)]
+
 ghost use Rattle.std.specs.Prelude.{◌≡◌, ◌+◌, ◌≤◌, ◌<◌, length};
 ghost use Rattle.base_octets.specs.Store.{Stored};
 ghost use Rattle.tlv_reader.specs.Octet.{number_width, structure, end_of_container};
@@ -11,7 +14,7 @@ use tlv_reader::Value;
 pub mod lengths; // lengths.rt: how long an element will be
 pub mod width; // width.rt: the least width of a number
 
-#[derive(Drop)]
+#[derive(Clone, Copy)]
 pub enum Tag {
     Anonymous,
     Context(u8),

@@ -1,0 +1,17 @@
+use mathlib.Core.Logic.{⊎_elim}
+use Prim.Native.Nat.{◌-◌}
+use native.Mathlib.Omega.{arith}
+use Rattle.base_utf8.proofs.Below.{none_yet_lem, rises, stays, decides}
+use Rattle.base_utf8.proofs.greatest.Goals as goal
+
+pub loop-i-init : goal.loop-i-init
+loop-i-init c = (omega arith, none_yet_lem _)
+
+pub loop-i-preserved : goal.loop-i-preserved
+loop-i-preserved c =
+    let s = c.args.s.now in
+    let l = c.loop-i in
+    (omega arith, ⊎_elim (λ w. rw w.1 (rises s l.m l.i l.invariant.1 (omega arith) w.0.taken)) (λ w. rw w.1 (stays s l.m l.i l.invariant.1 (omega arith) w.0.left)) c.if-m-b.branch)
+
+pub returns : goal.returns
+returns c = let l = c.loop-i in decides c.args.s.now l.m l.i l.invariant.1 c.loop-i-test.false

@@ -1,0 +1,28 @@
+use Rattle.cache_ask.proofs.AskLaws.{cluster-found}
+use Rattle.cache_entries.specs.declared.Cached.{Cached}
+use Rattle.cache_entries.specs.Entries.{in_cluster, path_at}
+use Rattle.cache_state.specs.Words.{held_in}
+use native.Mathlib.Omega.{arith}
+use mathlib.Core.List.{List}
+use Prim.Native.Nat.{ℕ}
+use mathlib.Core.Path.{sym, ap, ◌∙◌}
+use Rattle.cache_ask.proofs.path_at.Goals as goal
+use Rattle.cache_ask.proofs.path_at.Goals.{Start}
+
+-- what is held, of these columns
+abbrev lent : Start → List ℕ → List ℕ → List ℕ → List ℕ → Cached
+lent s versions kinds words lengths = held_in s.args.clusters.now s.args.keys.now versions kinds words s.args.order.now lengths s.args.t
+
+pub returns-in_default : goal.returns-in_default
+unfolding path_at
+returns-in_default c = λ versions kinds words lengths. sym (ap (in_cluster (lent c.before.before.before versions kinds words lengths) c.args.attribute) (sym c.find_cluster.ensures ∙ c.in_default.is))
+
+pub overflow_mul-k : goal.overflow_mul-k
+overflow_mul-k c = omega (arith, cluster-found c.args.clusters.now c.args.t.cluster_count _ _ c.requires.few-clusters (sym c.find_cluster.ensures ∙ c.in-At.is))
+
+pub overflow_add-k : goal.overflow_add-k
+overflow_add-k c = omega (arith, cluster-found c.args.clusters.now c.args.t.cluster_count _ _ c.requires.few-clusters (sym c.find_cluster.ensures ∙ c.in-At.is))
+
+pub returns : goal.returns
+unfolding path_at
+returns c = λ versions kinds words lengths. c.find_entry.ensures ∙ sym (ap (in_cluster (lent c.before.before.before.before.before versions kinds words lengths) c.args.attribute) (sym c.find_cluster.ensures ∙ c.in-At.is))

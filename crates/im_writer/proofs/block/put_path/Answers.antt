@@ -1,0 +1,36 @@
+use native.Mathlib.Omega.{arith}
+use lib.ListN.{length-append}
+use Rattle.base_octets.proofs.StoreLaws.{then}
+use Rattle.tlv_writer.specs.Element.{datum_octets}
+use Rattle.im_writer.specs.Spelling.{spelling, writer_tag}
+use Rattle.im_writer.specs.Block.{path_tree}
+use Rattle.im_writer.proofs.block.put_path.Goals as goal
+
+pub returns : goal.returns
+unfolding spelling datum_octets writer_tag path_tree
+returns c =
+    let s = t.before.before.before.before in
+    let r = s.before.before.before.before in
+    let q = r.before.before.before.before in
+    let p = q.before.before.before.before in
+    then p.put-open.ensures (then q.put-unsigned.ensures (then r.put-unsigned2.ensures (then s.put-unsigned3.ensures c.put_end.ensures)))
+
+pub put_open-p-requires : goal.put_open-p-requires
+unfolding spelling datum_octets writer_tag path_tree
+put_open-p-requires c = omega (arith, simp length-append at c.requires)
+
+pub put_unsigned-q-requires : goal.put_unsigned-q-requires
+unfolding spelling datum_octets writer_tag path_tree
+put_unsigned-q-requires c = omega (arith, simp length-append at c.requires)
+
+pub put_unsigned-r-requires : goal.put_unsigned-r-requires
+unfolding spelling datum_octets writer_tag path_tree
+put_unsigned-r-requires c = omega (arith, simp length-append at c.requires)
+
+pub put_unsigned-s-requires : goal.put_unsigned-s-requires
+unfolding spelling datum_octets writer_tag path_tree
+put_unsigned-s-requires c = omega (arith, simp length-append at c.requires)
+
+pub put_end-requires : goal.put_end-requires
+unfolding spelling datum_octets writer_tag path_tree
+put_end-requires c = omega (arith, simp length-append at c.requires)

@@ -1,0 +1,12 @@
+use borrow.Author.Rules.{rules}
+use borrow.Author.Tests.{lt-ltb, le-ltb}
+use Rattle.script_answer.specs.Text.{digit_of}
+use Rattle.script_answer.proofs.text.digit.Goals as goal
+
+pub returns-then-n-lt10 : goal.returns-then-n-lt10
+unfolding digit_of
+returns-then-n-lt10 c = simp (lt-ltb _ _ c.if-n-lt10.true) (search rules)
+
+pub returns-else-n-lt10 : goal.returns-else-n-lt10
+unfolding digit_of
+returns-else-n-lt10 c = simp (le-ltb _ _ c.if-n-lt10.false) (search rules)

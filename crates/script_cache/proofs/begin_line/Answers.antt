@@ -1,0 +1,22 @@
+use mathlib.Core.Path.{refl, sym, ◌∙◌}
+use borrow.Author.Tests.{not-true, not-false}
+use Rattle.script_cache.specs.Acts.{begin_turn}
+use Rattle.script_cache.proofs.begin_line.Goals as goal
+
+pub returns-then-same_bytes : goal.returns-then-same_bytes
+unfolding begin_turn
+returns-then-same_bytes c = rw (sym c.same_bytes.ensures ∙ c.if-same_bytes.true) c.write_line.ensures
+
+pub returns-then-not-is_done : goal.returns-then-not-is_done
+unfolding begin_turn
+returns-then-not-is_done c =
+    let d = c.is_done in
+    let t = sym c.same_bytes.ensures ∙ c.if-same_bytes.false in
+    rw (t, sym d.ensures ∙ not-true d.result c.if-not-is_done.true) (record { says = c.unplayed.ensures; texts = refl; buffer = refl })
+
+pub returns : goal.returns
+unfolding begin_turn
+returns c =
+    let d = c.is_done in
+    let t = sym c.same_bytes.ensures ∙ c.if-same_bytes.false in
+    rw (t, sym d.ensures ∙ not-false d.result c.if-not-is_done.false, ← c.same_bytes-2.ensures, c.played.ensures) (record { clear = refl; reacts = c.ask_again.ensures })

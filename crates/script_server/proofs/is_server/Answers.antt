@@ -1,0 +1,15 @@
+use mathlib.Core.Path.{sym, ◌∙◌}
+use mathlib.Core.Bool.{or-false}
+use Rattle.script_server.proofs.is_server.Goals as goal
+
+pub returns-then-same_bytes : goal.returns-then-same_bytes
+returns-then-same_bytes c = rw (sym c.same_bytes.ensures ∙ c.if-same_bytes.true)
+
+pub returns-then-same_bytes-2 : goal.returns-then-same_bytes-2
+returns-then-same_bytes-2 c =
+    rw (sym c.same_bytes.ensures ∙ c.if-same_bytes.false, sym c.same_bytes-2.ensures ∙ c.if-same_bytes-2.true)
+
+pub returns : goal.returns
+returns c =
+    let no = nor.before.before.before in
+    rw (sym no.before.same_bytes.ensures ∙ no.if1.false, sym c.same_bytes-2.ensures ∙ c.if-same_bytes-2.false, or-false) c.same_bytes-3.ensures

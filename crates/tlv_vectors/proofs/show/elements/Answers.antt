@@ -1,0 +1,11 @@
+use native.Mathlib.Omega.{arith}
+use Rattle.tlv_vectors.proofs.Heads.{onward, in-page}
+use mathlib.Core.Path.{sym, ◌∙◌}
+use Prim.Native.Nat.{◌-◌}
+use Rattle.tlv_vectors.proofs.show.elements.Goals as goal
+
+pub element-comma-requires : goal.element-comma-requires
+element-comma-requires c = in-page c.args.s.now c.loop-at.at (sym c.head.ensures ∙ c.in-Found.is)
+
+pub loop-at-smaller : goal.loop-at-smaller
+loop-at-smaller c = omega (arith, onward c.args.s.now c.loop-at.at (sym c.head.ensures ∙ c.in-Found.is))
