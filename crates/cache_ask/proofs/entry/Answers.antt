@@ -3,7 +3,6 @@ use Rattle.cache_state.specs.declared.CacheState.{CacheState}
 use Rattle.cache_state.specs.Words.{words_right, standing_in, state_with}
 use Rattle.cache_state.specs.State.{cache_right}
 use Rattle.node_schema.proofs.BoolLaws.{right}
-use borrow.Author.Tests.{not-true, not-false}
 use mathlib.Core.List.{List, []}
 use mathlib.Core.Bool.{true, ◌&&◌}
 use Prim.Native.Nat.{ℕ}
@@ -29,14 +28,14 @@ use Rattle.cache_ask.proofs.entry.Goals.{After-cache_ok, Else-not-cache_ok, In-A
 abbrev lent : Start → CacheStanding → List ℕ → CacheState
 lent s t kept = state_with s.args.clusters.now s.args.keys.now s.args.versions.now s.args.kinds.now s.args.words.now s.args.order.now s.args.lengths.now t kept
 
-as_read : (c : After-cache_ok) (kept : List ℕ) {r : EntryHeld} → AnswersEntry c.args.asked.now c.args.page.now (lent c c.read_standing-t.result kept) c.args.endpoint c.args.cluster c.args.attribute r → AnswersEntry c.args.asked.now c.args.page.now (lent c (standing_in c.args.asked.now) kept) c.args.endpoint c.args.cluster c.args.attribute r
+as_read : (c : After-cache_ok) (kept : List ℕ) {r : EntryHeld} → AnswersEntry c.args.asked.now c.args.page.now (lent (goal.at.After-cache_ok c).Start c.read_standing-t.result kept) c.args.endpoint c.args.cluster c.args.attribute r → AnswersEntry c.args.asked.now c.args.page.now (lent (goal.at.After-cache_ok c).Start (standing_in c.args.asked.now) kept) c.args.endpoint c.args.cluster c.args.attribute r
 as_read c kept {r} k = subst (λ (t : CacheStanding). AnswersEntry c.args.asked.now c.args.page.now (lent c t kept) c.args.endpoint c.args.cluster c.args.attribute r) c.read_standing-t.ensures.value k
 
 -- it keeps the rules
-kept-rules : (c : Else-not-cache_ok) (kept : List ℕ) → (words_right c.args.asked.now && cache_right c.args.page.now (lent c c.read_standing-t.result kept)) ≡ true
-kept-rules c kept = sym (c.cache_ok.ensures kept) ∙ not-false _ c.if-not-cache_ok.false
+kept-rules : (c : Else-not-cache_ok) (kept : List ℕ) → (words_right c.args.asked.now && cache_right c.args.page.now (lent (goal.at.Else-not-cache_ok c).Start c.read_standing-t.result kept)) ≡ true
+kept-rules c kept = sym (c.cache_ok.ensures kept) ∙ c.if-not-cache_ok.false
 
-ruled : (c : Else-not-cache_ok) (kept : List ℕ) → cache_right c.args.page.now (lent c c.read_standing-t.result kept) ≡ true
+ruled : (c : Else-not-cache_ok) (kept : List ℕ) → cache_right c.args.page.now (lent (goal.at.Else-not-cache_ok c).Start c.read_standing-t.result kept) ≡ true
 ruled c kept = right (words_right c.args.asked.now) _ (kept-rules c kept)
 
 -- the entry that was found
@@ -44,13 +43,13 @@ there : (c : In-At) → let s = e.before.before.before.before in path_at (lent s
 there c = sym (c.path_at.ensures c.args.versions.now c.args.kinds.now c.args.words.now c.args.lengths.now) ∙ c.in-At.is
 
 below : (c : In-At) → c.in-At.i < max_entries
-below c = let s = e.before.before.before.before in entry_found s.args.page.now (lent s c.read_standing-t.result []) (ruled c []) s.args.endpoint s.args.cluster s.args.attribute c.in-At.i ((sym (c.path_at.ensures c.args.versions.now c.args.kinds.now c.args.words.now c.args.lengths.now) ∙ c.in-At.is))
+below c = let s = e.before.before.before.before in entry_found s.args.page.now (lent s c.read_standing-t.result []) (ruled c []) s.args.endpoint s.args.cluster s.args.attribute c.in-At.i (there c)
 
 pub returns-then-not-cache_ok : goal.returns-then-not-cache_ok
-returns-then-not-cache_ok c = let a = c.args in λ kept. as_read (goal.at.returns-then-not-cache_ok c).After-cache_ok kept (entry-broken a.asked.now a.page.now (lent c c.read_standing-t.result kept) a.endpoint a.cluster a.attribute (sym (c.cache_ok.ensures kept) ∙ not-true _ c.if-not-cache_ok.true))
+returns-then-not-cache_ok c = let a = c.args in λ kept. as_read (goal.at.returns-then-not-cache_ok c).After-cache_ok kept (entry-broken a.asked.now a.page.now (lent c c.read_standing-t.result kept) a.endpoint a.cluster a.attribute (sym (c.cache_ok.ensures kept) ∙ c.if-not-cache_ok.true))
 
 pub path_at-requires : goal.path_at-requires
-path_at-requires c = right-ordered c.args.page.now (lent c.before.before.before.before c.read_standing-t.result []) (ruled (c) [])
+path_at-requires c = right-ordered c.args.page.now (lent (goal.at.path_at-requires c).Start c.read_standing-t.result []) (ruled (c) [])
 
 pub returns-in_default : goal.returns-in_default
 returns-in_default c = let a = c.args in λ kept. as_read (goal.at.returns-in_default c).After-cache_ok kept (entry-right a.asked.now a.page.now (lent c c.read_standing-t.result kept) a.endpoint a.cluster a.attribute (kept-rules (goal.at.returns-in_default c).Else-not-cache_ok kept) (sym (ap (entry_read (lent c c.read_standing-t.result kept).held) (sym (c.path_at.ensures a.versions.now a.kinds.now a.words.now a.lengths.now) ∙ c.in_default.is))))

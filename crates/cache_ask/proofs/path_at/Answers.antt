@@ -15,7 +15,7 @@ lent s versions kinds words lengths = held_in s.args.clusters.now s.args.keys.no
 
 pub returns-in_default : goal.returns-in_default
 unfolding path_at
-returns-in_default c = λ versions kinds words lengths. sym (ap (in_cluster (lent c.before.before.before versions kinds words lengths) c.args.attribute) (sym c.find_cluster.ensures ∙ c.in_default.is))
+returns-in_default c = λ versions kinds words lengths. sym (ap (in_cluster (lent (goal.at.returns-in_default c).Start versions kinds words lengths) c.args.attribute) (sym c.find_cluster.ensures ∙ c.in_default.is))
 
 pub overflow_mul-k : goal.overflow_mul-k
 overflow_mul-k c = omega (arith, cluster-found c.args.clusters.now c.args.t.cluster_count _ _ c.requires.few-clusters (sym c.find_cluster.ensures ∙ c.in-At.is))
@@ -25,4 +25,4 @@ overflow_add-k c = omega (arith, cluster-found c.args.clusters.now c.args.t.clus
 
 pub returns : goal.returns
 unfolding path_at
-returns c = λ versions kinds words lengths. c.find_entry.ensures ∙ sym (ap (in_cluster (lent c.before.before.before.before.before versions kinds words lengths) c.args.attribute) (sym c.find_cluster.ensures ∙ c.in-At.is))
+returns c = λ versions kinds words lengths. c.find_entry.ensures ∙ sym (ap (in_cluster (lent (goal.at.returns c).Start versions kinds words lengths) c.args.attribute) (sym c.find_cluster.ensures ∙ c.in-At.is))

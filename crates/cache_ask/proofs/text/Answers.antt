@@ -15,7 +15,7 @@ use Rattle.cache_ask.proofs.text.Goals.{After-entry, In-Text, Start}
 abbrev lent : Start → List ℕ → CacheState
 lent s kept = state_in s.args.clusters.now s.args.keys.now s.args.versions.now s.args.kinds.now s.args.words.now s.args.order.now s.args.lengths.now s.args.asked.now kept
 
-shown : (c : After-entry) (kept : List ℕ) → text_of_entry c.args.page.now c.entry.result ≡ text_shown c.args.asked.now c.args.page.now (lent c kept) c.args.endpoint c.args.cluster c.args.attribute
+shown : (c : After-entry) (kept : List ℕ) → text_of_entry c.args.page.now c.entry.result ≡ text_shown c.args.asked.now c.args.page.now (lent (goal.at.After-entry c).Start kept) c.args.endpoint c.args.cluster c.args.attribute
 shown c kept = text-of c.args.asked.now c.args.page.now (lent c kept) c.args.endpoint c.args.cluster c.args.attribute (c.entry.ensures kept).answer
 
 -- a text that is shown lies in the page

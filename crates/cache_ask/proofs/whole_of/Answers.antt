@@ -16,7 +16,7 @@ lent s kinds words lengths = held_in s.args.clusters.now s.args.keys.now s.args.
 
 pub returns-in_default : goal.returns-in_default
 unfolding coherent_of
-returns-in_default c = λ kinds words lengths. sym (ap (λ (f : Found). whole_read (coherent_there (lent c.before.before.before kinds words lengths) f)) (sym c.find_cluster.ensures ∙ c.in_default.is))
+returns-in_default c = λ kinds words lengths. sym (ap (λ (f : Found). whole_read (coherent_there (lent (goal.at.returns-in_default c).Start kinds words lengths) f)) (sym c.find_cluster.ensures ∙ c.in_default.is))
 
 pub returns-in-At-coherent_at : goal.returns-in-At-coherent_at
 unfolding coherent_of

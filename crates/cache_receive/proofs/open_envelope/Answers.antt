@@ -3,7 +3,7 @@ use Rattle.im_envelope.specs.Envelope.{max_message}
 use Rattle.im_envelope.specs.declared.Envelope.TheVariants.{Whole}
 use Rattle.im_envelope.specs.Envelope.{envelope_in}
 use lib.ListN.{length}
-use borrow.Author.Tests.{not-true, not-false, le-leb, lt-leb}
+use borrow.Author.Tests.{le-leb, lt-leb}
 use mathlib.Core.Path.{◌≡◌, refl, sym, ◌∙◌}
 use Rattle.cache_receive.proofs.open_envelope.Goals as goal
 use Rattle.cache_receive.proofs.open_envelope.Goals.{In-Whole}
@@ -22,12 +22,12 @@ returns-then-message-gt-MAX_MESSAGE c = λ kept. rw (whole (goal.at.returns-then
 
 pub returns-then-not-is_for_cache : goal.returns-then-not-is_for_cache
 unfolding opened_in
-returns-then-not-is_for_cache c = λ kept. rw (whole (goal.at.returns-then-not-is_for_cache c).In-Whole, le-leb (length c.args.message.now) max_message c.if-message-gt-MAX_MESSAGE.false, sym c.is_for_cache.ensures ∙ not-true _ c.if-not-is_for_cache.true) c.shut-then-not-is_for_cache.ensures
+returns-then-not-is_for_cache c = λ kept. rw (whole (goal.at.returns-then-not-is_for_cache c).In-Whole, le-leb (length c.args.message.now) max_message c.if-message-gt-MAX_MESSAGE.false, sym c.is_for_cache.ensures ∙ c.if-not-is_for_cache.true) c.shut-then-not-is_for_cache.ensures
 
 pub returns-then-not-is_awaited : goal.returns-then-not-is_awaited
 unfolding opened_in
-returns-then-not-is_awaited c = λ kept. rw (whole (goal.at.returns-then-not-is_awaited c).In-Whole, le-leb (length c.args.message.now) max_message c.if-message-gt-MAX_MESSAGE.false, sym c.is_for_cache.ensures ∙ not-false _ c.if-not-is_for_cache.false, sym (c.is_awaited.ensures kept) ∙ not-true _ c.if-not-is_awaited.true) c.shut-then-not-is_awaited.ensures
+returns-then-not-is_awaited c = λ kept. rw (whole (goal.at.returns-then-not-is_awaited c).In-Whole, le-leb (length c.args.message.now) max_message c.if-message-gt-MAX_MESSAGE.false, sym c.is_for_cache.ensures ∙ c.if-not-is_for_cache.false, sym (c.is_awaited.ensures kept) ∙ c.if-not-is_awaited.true) c.shut-then-not-is_awaited.ensures
 
 pub returns : goal.returns
 unfolding opened_in
-returns c = λ kept. rw (whole (goal.at.returns c).In-Whole, le-leb (length c.args.message.now) max_message c.if-message-gt-MAX_MESSAGE.false, sym c.is_for_cache.ensures ∙ not-false _ c.if-not-is_for_cache.false, sym (c.is_awaited.ensures kept) ∙ not-false _ c.if-not-is_awaited.false) refl
+returns c = λ kept. rw (whole (goal.at.returns c).In-Whole, le-leb (length c.args.message.now) max_message c.if-message-gt-MAX_MESSAGE.false, sym c.is_for_cache.ensures ∙ c.if-not-is_for_cache.false, sym (c.is_awaited.ensures kept) ∙ c.if-not-is_awaited.false) refl

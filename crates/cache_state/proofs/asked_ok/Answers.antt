@@ -1,6 +1,6 @@
 use Rattle.im_writer.specs.Envelope.{exchange_limit}
 use Rattle.cache_state.specs.State.{asked_right}
-use borrow.Author.Tests.{lt-ltb, le-ltb, lt-leb, le-leb, not-true, not-false}
+use borrow.Author.Tests.{lt-ltb, le-ltb, lt-leb, le-leb}
 use mathlib.Core.Path.{refl, sym, ◌∙◌}
 use Rattle.cache_state.proofs.asked_ok.Goals as goal
 
@@ -26,8 +26,8 @@ returns-then-t-gt-MAX_MESSAGE c = let t = c.args.t in λ kept. rw (lt-ltb t.used
 
 pub returns-then-not-is_open : goal.returns-then-not-is_open
 unfolding asked_right
-returns-then-not-is_open c = let t = c.args.t in λ kept. rw (lt-ltb t.used exchange_limit c.if-t-ge-EXCHANGE_LIMIT.false, le-leb t.exchange t.used c.if-t.false, le-leb t.unknown t.used c.if-t-2.false, le-leb t.stage 4 c.if-t-gt-STATUS.false, le-leb t.len 1032 c.if-t-gt-MAX_MESSAGE.false, sym c.is_open.ensures ∙ not-true _ c.if-not-is_open.true) refl
+returns-then-not-is_open c = let t = c.args.t in λ kept. rw (lt-ltb t.used exchange_limit c.if-t-ge-EXCHANGE_LIMIT.false, le-leb t.exchange t.used c.if-t.false, le-leb t.unknown t.used c.if-t-2.false, le-leb t.stage 4 c.if-t-gt-STATUS.false, le-leb t.len 1032 c.if-t-gt-MAX_MESSAGE.false, sym c.is_open.ensures ∙ c.if-not-is_open.true) refl
 
 pub returns : goal.returns
 unfolding asked_right
-returns c = let t = c.args.t in λ kept. rw (lt-ltb t.used exchange_limit c.if-t-ge-EXCHANGE_LIMIT.false, le-leb t.exchange t.used c.if-t.false, le-leb t.unknown t.used c.if-t-2.false, le-leb t.stage 4 c.if-t-gt-STATUS.false, le-leb t.len 1032 c.if-t-gt-MAX_MESSAGE.false, sym c.is_open.ensures ∙ not-false _ c.if-not-is_open.false) (c.open_ok.ensures kept)
+returns c = let t = c.args.t in λ kept. rw (lt-ltb t.used exchange_limit c.if-t-ge-EXCHANGE_LIMIT.false, le-leb t.exchange t.used c.if-t.false, le-leb t.unknown t.used c.if-t-2.false, le-leb t.stage 4 c.if-t-gt-STATUS.false, le-leb t.len 1032 c.if-t-gt-MAX_MESSAGE.false, sym c.is_open.ensures ∙ c.if-not-is_open.false) (c.open_ok.ensures kept)

@@ -4,7 +4,6 @@ use mathlib.Core.List.{◌∷◌}
 use Prim.Native.Nat.{◌-◌}
 use native.Mathlib.Omega.{arith}
 use lib.ListN.{get_or, replicate}
-use borrow.Author.Tests.{not-true, not-false}
 use Rattle.tlv_reader.specs.Octet.{structure}
 use Rattle.im_members.specs.Pass.{pass_with, inside_on}
 use Rattle.im_members.proofs.ArrayLaws.{required-none}
@@ -18,7 +17,7 @@ use Rattle.im_blocks.proofs.data_of.Goals as goal
 use Rattle.im_blocks.proofs.data_of.Goals.{After-begin-m, After-finish-z, Else-m-ge10}
 
 -- the pass to the path
-first : (c : After-begin-m) → let a = c.args in let s = a.s.now in Over structure a.left s triple_tags (false ∷ true ∷ replicate 8 false) a.e (pass_with c.begin-m.result c.begin-m.new.codes.1.1.1.1.1.0 c.begin-m.new.codes.1.1.1.1.1.1.0)
+first : (c : After-begin-m) → let a = c.args in let s = a.s.now in Over structure a.left s triple_tags (false ∷ true ∷ replicate 8 false) a.e (pass_with c.begin-m.result c.begin-m.new.at c.begin-m.new.codes)
 first c = let a = c.args in
     begun a.left a.e c.begin-m.ensures
 
@@ -26,7 +25,7 @@ at_path : (c : Else-m-ge10) → c.begin-m.result.slot ≡ 1
 at_path c = only-second _ (((let a = c.args in begun a.left a.e c.begin-m.ensures)).stopped c.if-m-ge10.false).wanted
 
 -- the path, and the pass after it
-after : (c : After-finish-z) → let a = c.args in let s = a.s.now in let d = a.left - 1 in Finished s (data_from d s) (inside_on structure a.left s triple_tags a.e) (path_at d s) 1 c.in-Path.path (pass_with c.finish-z.result c.finish-z.new.codes.1.1.1.1.0 c.finish-z.new.codes.1.1.1.1.1.0)
+after : (c : After-finish-z) → let a = c.args in let s = a.s.now in let d = a.left - 1 in Finished s (data_from d s) (inside_on structure a.left s triple_tags a.e) (path_at d s) 1 c.in-Path.path (pass_with c.finish-z.result c.finish-z.new.at c.finish-z.new.codes)
 after c = let a = c.args in let s = a.s.now in let d = a.left - 1 in
     nest_last ((let a = c.args in begun a.left a.e c.begin-m.ensures)) ((only-second _ (((let a = c.args in begun a.left a.e c.begin-m.ensures)).stopped c.if-m-ge10.false).wanted)) c.if-m-ge10.false (path-reads d s) (data_from d s) (path-has _ (sym c.path_of.ensures ∙ c.in-Path.is)) c.finish-z.ensures
 
@@ -38,11 +37,11 @@ returns-then-left-eq0 c = let a = c.args in let s = a.s.now in let d = a.left - 
 pub returns-then-not-m : goal.returns-then-not-m
 unfolding data_on
 returns-then-not-m c = let a = c.args in let s = a.s.now in let d = a.left - 1 in
-    sym (ap data_read (frame-none (data_from d s) (first (goal.at.returns-then-not-m c).After-begin-m) (not-true _ c.if-not-m.true)))
+    sym (ap data_read (frame-none (data_from d s) (first (goal.at.returns-then-not-m c).After-begin-m) (c.if-not-m.true)))
 
 pub returns-then-m-ge10 : goal.returns-then-m-ge10
 unfolding data_on
-returns-then-m-ge10 c = let a = c.args in let s = a.s.now in let d = a.left - 1 in let L = first (goal.at.returns-then-m-ge10 c).After-begin-m in let g = not-false _ c.if-not-m.false in let xs = c.begin-m.new.codes.1.1.1.1.1.0 in
+returns-then-m-ge10 c = let a = c.args in let s = a.s.now in let d = a.left - 1 in let L = first (goal.at.returns-then-m-ge10 c).After-begin-m in let g = c.if-not-m.false in let xs = c.begin-m.new.at in
     sym (ap data_read (frame-end (data_from d s) L g c.if-m-ge10.true (data-lacks-path d s xs (required-none (path_at d s) (get_or xs 1 0) (L.passed g 1 refl (λ z. (let o = c.if-m-ge10.true in omega arith)))))))
 
 pub returns-in_default : goal.returns-in_default
@@ -52,21 +51,21 @@ returns-in_default c = let a = c.args in let s = a.s.now in let d = a.left - 1 i
 
 pub returns-then-not-z : goal.returns-then-not-z
 unfolding data_on
-returns-then-not-z c = sym (ap data_read ((after (goal.at.returns-then-not-z c).After-finish-z).none (not-true _ c.if-not-z.true)))
+returns-then-not-z c = sym (ap data_read ((after (goal.at.returns-then-not-z c).After-finish-z).none (c.if-not-z.true)))
 
 pub returns-then-q-eq0 : goal.returns-then-q-eq0
 unfolding data_on
-returns-then-q-eq0 c = let a = c.args in let s = a.s.now in let d = a.left - 1 in let z = after (goal.at.returns-then-q-eq0 c).After-finish-z in let g = not-false _ c.if-not-z.false in let xs = c.finish-z.new.codes.1.1.1.1.0 in
+returns-then-q-eq0 c = let a = c.args in let s = a.s.now in let d = a.left - 1 in let z = after (goal.at.returns-then-q-eq0 c).After-finish-z in let g = c.if-not-z.false in let xs = c.finish-z.new.at in
     sym (ap data_read (z.ends g (data-lacks-data d s xs c.if-q-eq0.true)))
 
 pub returns-then-version-eq-WRONG : goal.returns-then-version-eq-WRONG
 unfolding data_on
-returns-then-version-eq-WRONG c = let a = c.args in let s = a.s.now in let d = a.left - 1 in let z = after (goal.at.returns-then-version-eq-WRONG c).After-finish-z in let g = not-false _ c.if-not-z.false in let xs = c.finish-z.new.codes.1.1.1.1.0 in
+returns-then-version-eq-WRONG c = let a = c.args in let s = a.s.now in let d = a.left - 1 in let z = after (goal.at.returns-then-version-eq-WRONG c).After-finish-z in let g = c.if-not-z.false in let xs = c.finish-z.new.at in
     sym (ap data_read (z.ends g (data-wrong d s xs (number-coded s _ xs z.coded 0 _ _ (omega arith) c.number_by-version.ensures) c.if-version-eq-WRONG.true)))
 
 pub returns : goal.returns
 unfolding data_on
-returns c = let a = c.args in let s = a.s.now in let d = a.left - 1 in let z = after (goal.at.returns c).After-finish-z in let g = not-false _ c.if-not-z.false in let xs = c.finish-z.new.codes.1.1.1.1.0 in
+returns c = let a = c.args in let s = a.s.now in let d = a.left - 1 in let z = after (goal.at.returns c).After-finish-z in let g = c.if-not-z.false in let xs = c.finish-z.new.at in
     sym (ap data_read (z.ends g (data-has d s xs (z.found g) c.if-q-eq0.false (number-coded s _ xs z.coded 0 _ _ (omega arith) c.number_by-version.ensures) c.if-version-eq-WRONG.false)))
 
 pub data-of-spec : {M : Type 1} → statement M

@@ -1,5 +1,5 @@
 use mathlib.Core.Path.{sym, ap, ◌∙◌}
-use borrow.Author.Tests.{eq-eqb, ne_eqb, not-true, not-false}
+use borrow.Author.Tests.{eq-eqb, ne_eqb}
 use Rattle.im_members.specs.Item.{item_of, item_at}
 use Rattle.im_members.proofs.item_at.Goals as goal
 
@@ -13,8 +13,8 @@ returns-then-e-eq-END c = sym (ap (item_of c.args.kind) (sym c.head.ensures ∙ 
 
 pub returns-then-not-allowed : goal.returns-then-not-allowed
 unfolding item_at
-returns-then-not-allowed c = sym (ap (item_of c.args.kind) (sym c.head.ensures ∙ c.in-Found.is) ∙ simp (ne_eqb _ _ c.if-e-eq-END.false, sym c.allowed.ensures ∙ not-true _ c.if-not-allowed.true))
+returns-then-not-allowed c = sym (ap (item_of c.args.kind) (sym c.head.ensures ∙ c.in-Found.is) ∙ simp (ne_eqb _ _ c.if-e-eq-END.false, sym c.allowed.ensures ∙ c.if-not-allowed.true))
 
 pub returns : goal.returns
 unfolding item_at
-returns c = sym (ap (item_of c.args.kind) (sym c.head.ensures ∙ c.in-Found.is) ∙ simp (ne_eqb _ _ c.if-e-eq-END.false, sym c.allowed.ensures ∙ not-false _ c.if-not-allowed.false))
+returns c = sym (ap (item_of c.args.kind) (sym c.head.ensures ∙ c.in-Found.is) ∙ simp (ne_eqb _ _ c.if-e-eq-END.false, sym c.allowed.ensures ∙ c.if-not-allowed.false))

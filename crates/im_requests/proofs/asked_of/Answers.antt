@@ -1,5 +1,4 @@
 use mathlib.Core.Path.{sym, ap, ◌∙◌}
-use borrow.Author.Tests.{not-true, not-false}
 use Rattle.im_blocks.specs.Path.{path_on}
 use Rattle.im_blocks.proofs.BlockLaws.{path-has, path-lacks}
 use Rattle.im_requests.specs.Read.{asked_read}
@@ -10,7 +9,7 @@ pub returns-in_default : goal.returns-in_default
 returns-in_default c = let a = c.args in let d = a.left in let s = a.s.now in sym (ap asked_read (asked-bad d s a.e (path-lacks (path_on d s a.e) (sym c.path_of.ensures ∙ c.in_default.is))))
 
 pub returns-then-not-askable : goal.returns-then-not-askable
-returns-then-not-askable c = let a = c.args in let d = a.left in let s = a.s.now in sym (ap asked_read (asked-banned d s a.e (path-has (path_on d s a.e) (sym c.path_of.ensures ∙ c.in-Path.is)) (sym c.askable.ensures ∙ not-true _ c.if-not-askable.true)))
+returns-then-not-askable c = let a = c.args in let d = a.left in let s = a.s.now in sym (ap asked_read (asked-banned d s a.e (path-has (path_on d s a.e) (sym c.path_of.ensures ∙ c.in-Path.is)) (sym c.askable.ensures ∙ c.if-not-askable.true)))
 
 pub returns : goal.returns
-returns c = let a = c.args in let d = a.left in let s = a.s.now in rw c.target_of.ensures (sym (ap asked_read (asked-got d s a.e (path-has (path_on d s a.e) (sym c.path_of.ensures ∙ c.in-Path.is)) (sym c.askable.ensures ∙ not-false _ c.if-not-askable.false))))
+returns c = let a = c.args in let d = a.left in let s = a.s.now in rw c.target_of.ensures (sym (ap asked_read (asked-got d s a.e (path-has (path_on d s a.e) (sym c.path_of.ensures ∙ c.in-Path.is)) (sym c.askable.ensures ∙ c.if-not-askable.false))))

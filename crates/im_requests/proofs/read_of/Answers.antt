@@ -1,12 +1,11 @@
 use mathlib.Core.Path.{sym, ◌∙◌}
-use borrow.Author.Tests.{not-true, not-false}
 use Rattle.im_requests.specs.Read.{read_by}
 use Rattle.im_requests.proofs.read_of.Goals as goal
 
 pub returns-then-not-is_read : goal.returns-then-not-is_read
 unfolding read_by
-returns-then-not-is_read c = λ at. sym (simp (sym (c.is_read.ensures at) ∙ not-true _ c.if-not-is_read.true))
+returns-then-not-is_read c = λ at. sym (simp (sym (c.is_read.ensures at) ∙ c.if-not-is_read.true))
 
 pub returns : goal.returns
 unfolding read_by
-returns c = λ at. sym (simp (sym (c.is_read.ensures at) ∙ not-false _ c.if-not-is_read.false))
+returns c = λ at. sym (simp (sym (c.is_read.ensures at) ∙ c.if-not-is_read.false))

@@ -3,4 +3,4 @@ use Rattle.im_requests.proofs.ReadPass.{read-passed}
 use Rattle.im_requests.proofs.read_request.Goals as goal
 
 pub returns : goal.returns
-returns c = let a = c.args in c.read_of.ensures c.pass_paths-third.new.kept.1.1.0 ∙ read-passed a.paths.now a.filters.now a.s.now c.begin_message-m.ensures c.pass_paths-first.ensures c.pass_version_filters-second.ensures c.pass_paths-third.ensures
+returns c = let a = c.args in c.read_of.ensures c.pass_paths-third.new.at ∙ read-passed a.paths.now a.filters.now a.s.now c.begin_message-m.ensures c.pass_paths-first.ensures c.pass_version_filters-second.ensures c.pass_paths-third.ensures

@@ -1,7 +1,6 @@
 use mathlib.Core.Path.{sym, ap, ◌∙◌}
 use mathlib.Core.Bool.{false}
 use native.Mathlib.Omega.{arith}
-use borrow.Author.Tests.{not-true, not-false}
 use Rattle.im_members.proofs.PassLaws.{number-coded, nowhere}
 use Rattle.im_requests.specs.Status.{response_from, response_in, response_read}
 use Rattle.im_requests.proofs.PassLaws.{opened, whole-short, whole-ends}
@@ -11,19 +10,19 @@ use Rattle.im_requests.proofs.status_response.Goals as goal
 pub returns-then-not-is_whole : goal.returns-then-not-is_whole
 unfolding response_in
 returns-then-not-is_whole c = let s = c.args.s.now in let m = c.begin_message-m in let xs = m.new.1.1.1.0 in let ks = m.new.1.1.1.1.0 in let L = opened m.ensures in
-    sym (ap response_read (whole-short (response_from s) L (nowhere L) (sym (c.is_whole.ensures xs ks) ∙ not-true _ c.if-not-is_whole.true)))
+    sym (ap response_read (whole-short (response_from s) L (nowhere L) (sym (c.is_whole.ensures xs ks) ∙ c.if-not-is_whole.true)))
 
 pub returns-then-code-ge-ABSENT : goal.returns-then-code-ge-ABSENT
 unfolding response_in
 returns-then-code-ge-ABSENT c = let s = c.args.s.now in let m = c.begin_message-m in let xs = m.new.1.1.1.0 in let ks = m.new.1.1.1.1.0 in let L = opened m.ensures in
-    sym (ap response_read (whole-ends (response_from s) L (nowhere L) (sym (c.is_whole.ensures xs ks) ∙ not-false _ c.if-not-is_whole.false) (response-no-code s xs (number-coded s ks xs L.coded 0 255 false (omega arith) c.number_by-code.ensures) c.if-code-ge-ABSENT.true)))
+    sym (ap response_read (whole-ends (response_from s) L (nowhere L) (sym (c.is_whole.ensures xs ks) ∙ c.if-not-is_whole.false) (response-no-code s xs (number-coded s ks xs L.coded 0 255 false (omega arith) c.number_by-code.ensures) c.if-code-ge-ABSENT.true)))
 
 pub returns-then-revision-ge-ABSENT : goal.returns-then-revision-ge-ABSENT
 unfolding response_in
 returns-then-revision-ge-ABSENT c = let s = c.args.s.now in let m = c.begin_message-m in let xs = m.new.1.1.1.0 in let ks = m.new.1.1.1.1.0 in let L = opened m.ensures in
-    sym (ap response_read (whole-ends (response_from s) L (nowhere L) (sym (c.is_whole.ensures xs ks) ∙ not-false _ c.if-not-is_whole.false) (response-no-revision s xs (number-coded s ks xs L.coded 9 255 false (omega arith) c.number_by-revision.ensures) c.if-revision-ge-ABSENT.true)))
+    sym (ap response_read (whole-ends (response_from s) L (nowhere L) (sym (c.is_whole.ensures xs ks) ∙ c.if-not-is_whole.false) (response-no-revision s xs (number-coded s ks xs L.coded 9 255 false (omega arith) c.number_by-revision.ensures) c.if-revision-ge-ABSENT.true)))
 
 pub returns : goal.returns
 unfolding response_in
 returns c = let s = c.args.s.now in let m = c.begin_message-m in let xs = m.new.1.1.1.0 in let ks = m.new.1.1.1.1.0 in let L = opened m.ensures in
-    sym (ap response_read (whole-ends (response_from s) L (nowhere L) (sym (c.is_whole.ensures xs ks) ∙ not-false _ c.if-not-is_whole.false) (response-has s xs (number-coded s ks xs L.coded 0 255 false (omega arith) c.number_by-code.ensures) c.if-code-ge-ABSENT.false (number-coded s ks xs L.coded 9 255 false (omega arith) c.number_by-revision.ensures) c.if-revision-ge-ABSENT.false)))
+    sym (ap response_read (whole-ends (response_from s) L (nowhere L) (sym (c.is_whole.ensures xs ks) ∙ c.if-not-is_whole.false) (response-has s xs (number-coded s ks xs L.coded 0 255 false (omega arith) c.number_by-code.ensures) c.if-code-ge-ABSENT.false (number-coded s ks xs L.coded 9 255 false (omega arith) c.number_by-revision.ensures) c.if-revision-ge-ABSENT.false)))

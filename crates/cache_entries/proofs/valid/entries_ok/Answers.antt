@@ -1,6 +1,5 @@
 use mathlib.Core.Path.{refl, sym, ◌∙◌}
 use Prim.Native.Nat.{◌-◌}
-use borrow.Author.Tests.{not-true, not-false}
 use Rattle.node_schema.specs.Check.{every}
 use Rattle.node_schema.proofs.CheckLaws.{every_more, every-fails, every-done}
 use Rattle.cache_entries.specs.Entries.{held_of}
@@ -14,10 +13,10 @@ loop-i-init c = (search rules, λ clusters order lengths primed. refl)
 
 pub returns-then-not-entry_ok : goal.returns-then-not-entry_ok
 unfolding entries_right
-returns-then-not-entry_ok c = let a = c.args in λ clusters order lengths primed. every-fails (entry_right_at (held_of clusters a.keys.now a.versions.now a.kinds.now a.words.now order lengths a.k a.n primed)) a.n c.loop-i.i c.loop-i-test.true (sym c.entry_ok.ensures ∙ not-true _ c.if-not-entry_ok.true)
+returns-then-not-entry_ok c = let a = c.args in λ clusters order lengths primed. every-fails (entry_right_at (held_of clusters a.keys.now a.versions.now a.kinds.now a.words.now order lengths a.k a.n primed)) a.n c.loop-i.i c.loop-i-test.true (sym c.entry_ok.ensures ∙ c.if-not-entry_ok.true)
 
 pub loop-i-preserved : goal.loop-i-preserved
-loop-i-preserved c = let a = c.args in let l = c.loop-i in (search rules, λ clusters order lengths primed. every_more (entry_right_at (held_of clusters a.keys.now a.versions.now a.kinds.now a.words.now order lengths a.k a.n primed)) _ (l.invariant.1 clusters order lengths primed) (sym c.entry_ok.ensures ∙ not-false _ c.if-not-entry_ok.false))
+loop-i-preserved c = let a = c.args in let l = c.loop-i in (search rules, λ clusters order lengths primed. every_more (entry_right_at (held_of clusters a.keys.now a.versions.now a.kinds.now a.words.now order lengths a.k a.n primed)) _ (l.invariant.1 clusters order lengths primed) (sym c.entry_ok.ensures ∙ c.if-not-entry_ok.false))
 
 pub returns : goal.returns
 unfolding entries_right

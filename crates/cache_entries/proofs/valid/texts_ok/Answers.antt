@@ -3,7 +3,7 @@ use lib.Seq.{length-take-le}
 use Prim.Native.Nat.{ℕ, ◌-◌, ◌*◌}
 use mathlib.Core.Path.{refl, sym, ap, ◌∙◌}
 use native.Mathlib.Omega.{arith}
-use borrow.Author.Tests.{eq-eqb, ne_eqb, le-ltb, lt-ltb, not-true, not-false}
+use borrow.Author.Tests.{eq-eqb, ne_eqb, le-ltb, lt-ltb}
 use Rattle.node_schema.specs.Check.{every}
 use Rattle.node_schema.proofs.CheckLaws.{every_more, every-fails, every-done}
 use Rattle.cache_entries.specs.Valid.{text_right_at}
@@ -37,14 +37,14 @@ text_ok-requires c = (c.if-words-i.false, (c.requires.1, (sym (ap (λ (k : ℕ).
 
 pub returns-then-not-text_ok : goal.returns-then-not-text_ok
 unfolding text_right_at
-returns-then-not-text_ok c = let a = c.args in let l = c.loop-i in every-fails (text_right_at a.page.now a.kinds.now a.words.now a.lengths.now) a.n l.i c.loop-i-test.true (rw (eq-eqb _ _ c.if-kinds-i-eq-TEXT.true, lt-ltb _ _ c.if-words-i.false, sym (l.invariant.1.each _ c.if-words-i.false) ∙ eq-eqb _ _ c.if-marks-p-ne0.false, sym c.text_ok.ensures ∙ not-true _ c.if-not-text_ok.true) refl)
+returns-then-not-text_ok c = let a = c.args in let l = c.loop-i in every-fails (text_right_at a.page.now a.kinds.now a.words.now a.lengths.now) a.n l.i c.loop-i-test.true (rw (eq-eqb _ _ c.if-kinds-i-eq-TEXT.true, lt-ltb _ _ c.if-words-i.false, sym (l.invariant.1.each _ c.if-words-i.false) ∙ eq-eqb _ _ c.if-marks-p-ne0.false, sym c.text_ok.ensures ∙ c.if-not-text_ok.true) refl)
 
 pub bounds-marks-p-then-kinds-i-eq-TEXT : goal.bounds-marks-p-then-kinds-i-eq-TEXT
 bounds-marks-p-then-kinds-i-eq-TEXT c = c.if-words-i.false
 
 pub loop-i-preserved-then-kinds-i-eq-TEXT : goal.loop-i-preserved-then-kinds-i-eq-TEXT
 unfolding text_right_at
-loop-i-preserved-then-kinds-i-eq-TEXT c = let a = c.args in let l = c.loop-i in (search rules, marked-text _ _ l.i l.marks l.invariant.1 c.if-kinds-i-eq-TEXT.true _ refl c.if-words-i.false, every_more (text_right_at a.page.now a.kinds.now a.words.now a.lengths.now) l.i l.invariant.2 (rw (eq-eqb _ _ c.if-kinds-i-eq-TEXT.true, lt-ltb _ _ c.if-words-i.false, sym (l.invariant.1.each _ c.if-words-i.false) ∙ eq-eqb _ _ c.if-marks-p-ne0.false) (sym c.text_ok.ensures ∙ not-false _ c.if-not-text_ok.false)))
+loop-i-preserved-then-kinds-i-eq-TEXT c = let a = c.args in let l = c.loop-i in (search rules, marked-text _ _ l.i l.marks l.invariant.1 c.if-kinds-i-eq-TEXT.true _ refl c.if-words-i.false, every_more (text_right_at a.page.now a.kinds.now a.words.now a.lengths.now) l.i l.invariant.2 (rw (eq-eqb _ _ c.if-kinds-i-eq-TEXT.true, lt-ltb _ _ c.if-words-i.false, sym (l.invariant.1.each _ c.if-words-i.false) ∙ eq-eqb _ _ c.if-marks-p-ne0.false) (sym c.text_ok.ensures ∙ c.if-not-text_ok.false)))
 
 pub loop-i-preserved : goal.loop-i-preserved
 unfolding text_right_at

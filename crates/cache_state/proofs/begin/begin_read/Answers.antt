@@ -24,7 +24,7 @@ ready : (c : Else-number-ne-DONE) → let a = c.args in Ready a.asked.now a.page
 ready c = let a = c.args in is-ready a.asked.now a.page.now (state_in a.clusters.now a.keys.now a.versions.now a.kinds.now a.words.now a.order.now a.lengths.now a.asked.now a.kept.now) (length a.out.now) (sym ((let a = c.args in c.cannot_begin-number.ensures a.kept.now ∙ ap (λ (t : CacheStanding). unready a.asked.now a.page.now (state_with a.clusters.now a.keys.now a.versions.now a.kinds.now a.words.now a.order.now a.lengths.now t a.kept.now) (length a.out.now)) c.read_standing-t.ensures.value)) ∙ c.if-number-ne-DONE.false)
 
 used-here : (c : Else-number-ne-DONE) → c.read_standing-t.result.used < exchange_limit - 1
-used-here c = subst (λ (t : CacheStanding). t.used < exchange_limit - 1) (sym c.read_standing-t.ensures.value) ((let a = c.args in is-ready a.asked.now a.page.now (state_in a.clusters.now a.keys.now a.versions.now a.kinds.now a.words.now a.order.now a.lengths.now a.asked.now a.kept.now) (length a.out.now) (sym ((let a = c.args in c.cannot_begin-number.ensures a.kept.now ∙ ap (λ (t : CacheStanding). unready a.asked.now a.page.now (state_with a.clusters.now a.keys.now a.versions.now a.kinds.now a.words.now a.order.now a.lengths.now t a.kept.now) (length a.out.now)) c.read_standing-t.ensures.value)) ∙ c.if-number-ne-DONE.false))).used
+used-here c = subst (λ (t : CacheStanding). t.used < exchange_limit - 1) (sym c.read_standing-t.ensures.value) (ready c).used
 
 -- the message that is meant, and that it has room
 message-is : (c : After-read_standing-t) → let a = c.args in let t = c.read_standing-t.result in read_message cache_edition (t.used + 1) (filters_of (held_in a.clusters.now a.keys.now a.versions.now a.kinds.now a.words.now a.order.now a.lengths.now t)) ≡ read_message cache_edition ((state_in a.clusters.now a.keys.now a.versions.now a.kinds.now a.words.now a.order.now a.lengths.now a.asked.now a.kept.now).asked.used + 1) (filters_of (state_in a.clusters.now a.keys.now a.versions.now a.kinds.now a.words.now a.order.now a.lengths.now a.asked.now a.kept.now).held)

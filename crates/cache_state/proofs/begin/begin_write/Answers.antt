@@ -3,7 +3,6 @@ use mathlib.Core.Bool.{true}
 use Prim.Native.Nat.{◌+◌, ◌-◌, ◌≤◌, ◌<◌}
 use native.Mathlib.Omega.{arith}
 use lib.ListN.{length}
-use borrow.Author.Tests.{not-true, not-false}
 use Rattle.im_writer.specs.Envelope.{exchange_limit}
 use Rattle.cache_state.specs.declared.CacheStanding.{CacheStanding}
 use Rattle.cache_state.specs.Words.{state_with, state_in}
@@ -25,11 +24,11 @@ ready : (c : Else-number-ne-DONE) → let a = c.args in Ready a.asked.now a.page
 ready c = let a = c.args in is-ready a.asked.now a.page.now (state_in a.clusters.now a.keys.now a.versions.now a.kinds.now a.words.now a.order.now a.lengths.now a.asked.now a.kept.now) (length a.out.now) (sym ((let a = c.args in c.cannot_begin-number.ensures a.kept.now ∙ ap (λ (t : CacheStanding). unready a.asked.now a.page.now (state_with a.clusters.now a.keys.now a.versions.now a.kinds.now a.words.now a.order.now a.lengths.now t a.kept.now) (length a.out.now)) c.read_standing-t.ensures.value)) ∙ c.if-number-ne-DONE.false)
 
 used-here : (c : Else-number-ne-DONE) → c.read_standing-t.result.used < exchange_limit - 1
-used-here c = subst (λ (t : CacheStanding). t.used < exchange_limit - 1) (sym c.read_standing-t.ensures.value) ((let a = c.args in is-ready a.asked.now a.page.now (state_in a.clusters.now a.keys.now a.versions.now a.kinds.now a.words.now a.order.now a.lengths.now a.asked.now a.kept.now) (length a.out.now) (sym ((let a = c.args in c.cannot_begin-number.ensures a.kept.now ∙ ap (λ (t : CacheStanding). unready a.asked.now a.page.now (state_with a.clusters.now a.keys.now a.versions.now a.kinds.now a.words.now a.order.now a.lengths.now t a.kept.now) (length a.out.now)) c.read_standing-t.ensures.value)) ∙ c.if-number-ne-DONE.false))).used
+used-here c = subst (λ (t : CacheStanding). t.used < exchange_limit - 1) (sym c.read_standing-t.ensures.value) (ready c).used
 
 -- the value can be written
 value-here : (c : Else-not-can_write) → let a = c.args in sendable a.src.now a.new ≡ true
-value-here c = sym c.can_write.ensures ∙ not-false _ c.if-not-can_write.false
+value-here c = sym c.can_write.ensures ∙ c.if-not-can_write.false
 
 -- the message that is meant, and that it has room
 message-is : (c : After-read_standing-t) → let a = c.args in write_message cache_edition (c.read_standing-t.result.used + 1) a.given a.version a.endpoint a.cluster a.attribute (datum_in a.src.now a.new) ≡ write_message cache_edition ((state_in a.clusters.now a.keys.now a.versions.now a.kinds.now a.words.now a.order.now a.lengths.now a.asked.now a.kept.now).asked.used + 1) a.given a.version a.endpoint a.cluster a.attribute (datum_in a.src.now a.new)
@@ -44,7 +43,7 @@ returns-then-number-ne-DONE c = let a = c.args in same-reaction (not-ready a.ask
 
 pub returns-then-not-can_write : goal.returns-then-not-can_write
 unfolding begins_write
-returns-then-not-can_write c = let a = c.args in rw (sym c.can_write.ensures ∙ not-true _ c.if-not-can_write.true) (same-reaction (ready-as a.asked.now a.page.now (state_in a.clusters.now a.keys.now a.versions.now a.kinds.now a.words.now a.order.now a.lengths.now a.asked.now a.kept.now) (length a.out.now) (ready (goal.at.returns-then-not-can_write c).Else-number-ne-DONE) _) (refused_as a.clusters.now a.keys.now a.versions.now a.kinds.now a.words.now a.order.now a.lengths.now a.asked.now a.kept.now a.page.now c.refuse-then-not-can_write.ensures))
+returns-then-not-can_write c = let a = c.args in rw (sym c.can_write.ensures ∙ c.if-not-can_write.true) (same-reaction (ready-as a.asked.now a.page.now (state_in a.clusters.now a.keys.now a.versions.now a.kinds.now a.words.now a.order.now a.lengths.now a.asked.now a.kept.now) (length a.out.now) (ready (goal.at.returns-then-not-can_write c).Else-number-ne-DONE) _) (refused_as a.clusters.now a.keys.now a.versions.now a.kinds.now a.words.now a.order.now a.lengths.now a.asked.now a.kept.now a.page.now c.refuse-then-not-can_write.ensures))
 
 pub overflow_add-t : goal.overflow_add-t
 overflow_add-t c = omega (arith, used-here (goal.at.overflow_add-t c).Else-number-ne-DONE)

@@ -1,13 +1,12 @@
 use Rattle.cache_state.specs.Begin.{sendable}
-use borrow.Author.Tests.{not-true, not-false}
 use mathlib.Core.Bool.{not}
 use mathlib.Core.Path.{sym, ap, ◌∙◌}
 use Rattle.cache_state.proofs.begin.can_write.Goals as goal
 
 pub returns-then-not-usable : goal.returns-then-not-usable
 unfolding sendable
-returns-then-not-usable c = rw (sym c.usable.ensures ∙ not-true _ c.if-not-usable.true)
+returns-then-not-usable c = rw (sym c.usable.ensures ∙ c.if-not-usable.true)
 
 pub returns : goal.returns
 unfolding sendable
-returns c = rw (sym c.usable.ensures ∙ not-false _ c.if-not-usable.false) (ap not c.is_long.ensures)
+returns c = rw (sym c.usable.ensures ∙ c.if-not-usable.false) (ap not c.is_long.ensures)

@@ -1,5 +1,4 @@
 use mathlib.Core.Path.{sym, ap, ◌∙◌}
-use borrow.Author.Tests.{not-true, not-false}
 use Rattle.im_blocks.specs.Data.{data_on}
 use Rattle.im_blocks.proofs.DataLaws.{data-has, data-lacks, data_found}
 use Rattle.im_requests.specs.Write.{entry_read}
@@ -11,8 +10,8 @@ returns-in_default c = let a = c.args in let d = a.left in let s = a.s.now in sy
 
 pub returns-then-not-exact : goal.returns-then-not-exact
 unfolding data_found
-returns-then-not-exact c = let a = c.args in let d = a.left in let s = a.s.now in sym (ap entry_read (entry-inexact d s a.e (data-has (data_on d s a.e) (sym c.data_of.ensures ∙ c.in-Data.is)) (sym c.exact.ensures ∙ not-true _ c.if-not-exact.true)))
+returns-then-not-exact c = let a = c.args in let d = a.left in let s = a.s.now in sym (ap entry_read (entry-inexact d s a.e (data-has (data_on d s a.e) (sym c.data_of.ensures ∙ c.in-Data.is)) (sym c.exact.ensures ∙ c.if-not-exact.true)))
 
 pub returns : goal.returns
 unfolding data_found
-returns c = let a = c.args in let d = a.left in let s = a.s.now in rw c.entry_of.ensures (sym (ap entry_read (entry-got d s a.e (data-has (data_on d s a.e) (sym c.data_of.ensures ∙ c.in-Data.is)) (sym c.exact.ensures ∙ not-false _ c.if-not-exact.false))))
+returns c = let a = c.args in let d = a.left in let s = a.s.now in rw c.entry_of.ensures (sym (ap entry_read (entry-got d s a.e (data-has (data_on d s a.e) (sym c.data_of.ensures ∙ c.in-Data.is)) (sym c.exact.ensures ∙ c.if-not-exact.false))))

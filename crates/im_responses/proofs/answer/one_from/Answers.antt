@@ -1,5 +1,4 @@
 use mathlib.Core.Path.{sym, ap, ◌∙◌}
-use borrow.Author.Tests.{not-true, not-false}
 use Rattle.im_blocks.specs.Status.{answer_on}
 use Rattle.im_blocks.proofs.OnLaws.{answer-reads}
 use Rattle.im_responses.specs.Answered.{only_read}
@@ -28,7 +27,7 @@ returns-then-not-allowed c =
     let p = a.c.at in
     let h = sym c.head.ensures ∙ c.in-Found.is in
     let q = c.if-e-eq-END.false in
-    sym (ap only_read (one-barred a.left s p h q (sym c.allowed.ensures ∙ not-true _ c.if-not-allowed.true)))
+    sym (ap only_read (one-barred a.left s p h q (sym c.allowed.ensures ∙ c.if-not-allowed.true)))
 
 pub returns-in_default-answer_of : goal.returns-in_default-answer_of
 returns-in_default-answer_of c =
@@ -37,7 +36,7 @@ returns-in_default-answer_of c =
     let p = a.c.at in
     let h = sym c.head.ensures ∙ c.in-Found.is in
     let q = c.if-e-eq-END.false in
-    let b = sym c.allowed.ensures ∙ not-false _ c.if-not-allowed.false in
+    let b = sym c.allowed.ensures ∙ c.if-not-allowed.false in
     sym (ap only_read (one-breaks a.left s p h q b ((answer-reads a.left s).here p _ h ∙ answer-lacks (answer_on a.left s _) (sym c.answer_of.ensures ∙ c.in_default-answer_of.is))))
 
 pub returns-in_default-head : goal.returns-in_default-head
@@ -47,7 +46,7 @@ returns-in_default-head c =
     let p = a.c.at in
     let h = sym c.head.ensures ∙ c.in-Found.is in
     let q = c.if-e-eq-END.false in
-    let b = sym c.allowed.ensures ∙ not-false _ c.if-not-allowed.false in
+    let b = sym c.allowed.ensures ∙ c.if-not-allowed.false in
     let w = (answer-reads a.left s).here p _ h ∙ answer-has (answer_on a.left s _) (sym c.answer_of.ensures ∙ c.in-Answer.is) in
     sym (ap only_read (one-cut a.left s p h q b w (sym c.head-2.ensures ∙ c.in_default-head.is)))
 
@@ -58,7 +57,7 @@ returns-then-f-eq-END c =
     let p = a.c.at in
     let h = sym c.head.ensures ∙ c.in-Found.is in
     let q = c.if-e-eq-END.false in
-    let b = sym c.allowed.ensures ∙ not-false _ c.if-not-allowed.false in
+    let b = sym c.allowed.ensures ∙ c.if-not-allowed.false in
     let w = (answer-reads a.left s).here p _ h ∙ answer-has (answer_on a.left s _) (sym c.answer_of.ensures ∙ c.in-Answer.is) in
     sym (ap only_read (one-there a.left s p h q b w (sym c.head-2.ensures ∙ c.in-Found-head.is) c.if-f-eq-END.true))
 
@@ -69,6 +68,6 @@ returns c =
     let p = a.c.at in
     let h = sym c.head.ensures ∙ c.in-Found.is in
     let q = c.if-e-eq-END.false in
-    let b = sym c.allowed.ensures ∙ not-false _ c.if-not-allowed.false in
+    let b = sym c.allowed.ensures ∙ c.if-not-allowed.false in
     let w = (answer-reads a.left s).here p _ h ∙ answer-has (answer_on a.left s _) (sym c.answer_of.ensures ∙ c.in-Answer.is) in
     sym (ap only_read (one_more a.left s p h q b w (sym c.head-2.ensures ∙ c.in-Found-head.is) c.if-f-eq-END.false))

@@ -3,7 +3,6 @@ use mathlib.Core.Bool.{false}
 use mathlib.Core.List.{[]}
 use native.Mathlib.Omega.{arith}
 use lib.ListN.{length}
-use borrow.Author.Tests.{not-true, not-false}
 use Rattle.base_octets.specs.Store.{store}
 use Rattle.im_members.specs.Pass.{Pass, pass_with}
 use Rattle.im_members.proofs.ArrayLaws.{optional-none}
@@ -21,13 +20,13 @@ use Rattle.im_responses.proofs.kept.report_kept.Goals as goal
 pub returns-then-m-ge10 : goal.returns-then-m-ge10
 unfolding kept_by store words_of
 returns-then-m-ge10 c = let a = c.args in let s = a.s.now in let old = a.kept.now in let L = opened c.begin_message-m.ensures in let o = c.if-m-ge10.true in
-    c.part_by.ensures ∙ ap (λ (p : PartRead). kept_by p old) (c.part_of-p.ensures c.begin_message-m.new.codes.1.1.0)
+    c.part_by.ensures ∙ ap (λ (p : PartRead). kept_by p old) (c.part_of-p.ensures c.begin_message-m.new.at)
     ∙ part_out L o [] (λ g. optional-none [] (list_at report_at 9 s) _ (L.passed g 1 refl (λ z. omega arith))) (λ p. kept_by p old) (part_kept old) refl (λ more. refl)
 
 pub returns-then-not-f : goal.returns-then-not-f
 unfolding part_in
 returns-then-not-f c = let a = c.args in let s = a.s.now in let old = a.kept.now in let m = c.begin_message-m in let L = opened m.ensures in let l = c.if-m-ge10.false in let is = only-second _ (L.stopped l).wanted in let f = c.kept_of-f in
-    let b = kept-bad max_blocks block_size block_words old (list_on report_at 9 s m.result.head) f.ensures (not-true _ c.if-not-f.true) in
+    let b = kept-bad max_blocks block_size block_words old (list_on report_at 9 s m.result.head) f.ensures (c.if-not-f.true) in
     let e = f.ensures ∙ ap (list_read max_blocks block_size block_words old) b in
     (λ j. part_with (record { good = false; more = 0; blocks = 0 }) (e j).kept.words) ∙ sym (ap (part_kept old) (whole-refused part_tags (part_from s) s (nest-no-option L is l (blocks-reads s) (part_from s) b [] (part-lacks s))))
 
@@ -35,7 +34,7 @@ pub returns : goal.returns
 unfolding kept_by
 returns c = let a = c.args in let s = a.s.now in let old = a.kept.now in let m = c.begin_message-m in let L = opened m.ensures in let l = c.if-m-ge10.false in let is = only-second _ (L.stopped l).wanted in let f = c.kept_of-f in let z = c.finish-z in let h = m.result.head in
     let xs = z.new.1.1.1.1.1.0 in let Z : Pass = pass_with z.result xs z.new.1.1.1.1.1.1.0 in
-    let k = kept-good max_blocks block_size block_words old (list_on report_at 9 s h) f.ensures (not-false _ c.if-not-f.false) in
+    let k = kept-good max_blocks block_size block_words old (list_on report_at 9 s h) f.ensures (c.if-not-f.false) in
     let N = nest-on L is l (blocks-reads s) k.1 _ z.ensures in
     c.part_by-2.ensures
     ∙ ap (λ (p : PartRead). kept_by p f.new.1.1.1.0) (c.part_of-p-2.ensures xs)

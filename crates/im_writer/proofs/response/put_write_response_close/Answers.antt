@@ -2,8 +2,6 @@ use native.Mathlib.Omega.{arith}
 use lib.ListN.{length-append}
 use Rattle.base_octets.proofs.StoreLaws.{then}
 use Rattle.im_writer.specs.Message.{response_closing}
-use Rattle.im_writer.proofs.response.put_write_response_close.Statement.{
-  statement,
 use Rattle.im_writer.proofs.response.put_write_response_close.Goals as goal
 
 pub returns : goal.returns

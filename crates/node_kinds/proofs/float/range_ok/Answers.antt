@@ -13,6 +13,7 @@ unfolding range_ok
 returns-then-not-finite_bits-2 c = simp (
   sym c.finite_bits.ensures ∙ not-false c.finite_bits.result c.if-not-finite_bits.false,
   sym c.finite_bits-2.ensures ∙ not-true c.finite_bits-2.result c.if-not-finite_bits-2.true,
+)
 
 pub returns-then-not-finite_bits-3 : goal.returns-then-not-finite_bits-3
 unfolding range_ok
@@ -20,6 +21,7 @@ returns-then-not-finite_bits-3 c = simp (
   sym c.finite_bits.ensures ∙ not-false c.finite_bits.result c.if-not-finite_bits.false,
   sym c.finite_bits-2.ensures ∙ not-false c.finite_bits-2.result c.if-not-finite_bits-2.false,
   sym c.finite_bits-3.ensures ∙ not-true c.finite_bits-3.result c.if-not-finite_bits-3.true,
+)
 
 pub returns : goal.returns
 unfolding range_ok

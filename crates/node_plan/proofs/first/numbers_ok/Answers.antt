@@ -1,7 +1,6 @@
 use borrow.Author.Rules.{rules}
 use mathlib.Core.Path.{refl, sym, ◌∙◌}
 use Prim.Native.Nat.{◌-◌}
-use borrow.Author.Tests.{not-true, not-false}
 use Rattle.node_schema.specs.Rows.{attribute_row}
 use Rattle.node_schema.specs.Check.{every}
 use Rattle.node_schema.proofs.CheckLaws.{every_more, every-fails, every-done}
@@ -14,10 +13,10 @@ loop-i-init c = (search rules, c.attribute_count-n.ensures, refl)
 
 pub returns-then-not-first_ok : goal.returns-then-not-first_ok
 unfolding numbers_right
-returns-then-not-first_ok c = every-fails (λ k. number_right (attribute_row c.args.w.now k)) _ c.loop-i.i (search rules) (sym c.first_ok.ensures ∙ not-true _ c.if-not-first_ok.true)
+returns-then-not-first_ok c = every-fails (λ k. number_right (attribute_row c.args.w.now k)) _ c.loop-i.i (search rules) (sym c.first_ok.ensures ∙ c.if-not-first_ok.true)
 
 pub loop-i-preserved : goal.loop-i-preserved
-loop-i-preserved c = (search rules, c.loop-i.invariant.1, every_more _ _ c.loop-i.invariant.2 (sym c.first_ok.ensures ∙ not-false _ c.if-not-first_ok.false))
+loop-i-preserved c = (search rules, c.loop-i.invariant.1, every_more _ _ c.loop-i.invariant.2 (sym c.first_ok.ensures ∙ c.if-not-first_ok.false))
 
 pub returns : goal.returns
 unfolding numbers_right

@@ -1,7 +1,6 @@
 use borrow.Author.Rules.{rules}
 use mathlib.Core.Path.{refl, sym, ap₂, ◌∙◌}
 use Prim.Native.Nat.{◌-◌}
-use borrow.Author.Tests.{not-true, not-false}
 use Rattle.node_schema.specs.Rows.{factory_start, factory_length}
 use Rattle.node_schema.specs.Check.{every}
 use Rattle.node_schema.proofs.CheckLaws.{every_more, every-fails, every-done}
@@ -17,7 +16,7 @@ unfolding texts_right
 returns-then-not-factory_ok c =
     let a = c.args in
     every-fails (λ r. factory_right a.defaults.now (factory_start a.w.now r) (factory_length a.w.now r)) _ c.loop-rank.rank (search rules)
-    (sym (c.factory_ok.ensures ∙ ap₂ (factory_right a.defaults.now) c.factory_start-start.ensures c.factory_length-len.ensures) ∙ not-true _ c.if-not-factory_ok.true)
+    (sym (c.factory_ok.ensures ∙ ap₂ (factory_right a.defaults.now) c.factory_start-start.ensures c.factory_length-len.ensures) ∙ c.if-not-factory_ok.true)
 
 pub loop-rank-preserved : goal.loop-rank-preserved
 loop-rank-preserved c =
@@ -26,7 +25,7 @@ loop-rank-preserved c =
       search rules,
       l.invariant.1,
       every_more _ _ l.invariant.2
-          (sym (c.factory_ok.ensures ∙ ap₂ (factory_right a.defaults.now) c.factory_start-start.ensures c.factory_length-len.ensures) ∙ not-false _ c.if-not-factory_ok.false),
+          (sym (c.factory_ok.ensures ∙ ap₂ (factory_right a.defaults.now) c.factory_start-start.ensures c.factory_length-len.ensures) ∙ c.if-not-factory_ok.false),
     )
 
 pub returns : goal.returns

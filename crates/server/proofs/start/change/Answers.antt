@@ -1,7 +1,6 @@
 use mathlib.Core.Path.{◌≡◌, sym, ap, ◌∙◌}
 use mathlib.Core.List.{List, []}
 use Prim.Native.Nat.{ℕ}
-use borrow.Author.Tests.{not-true, not-false}
 use Rattle.server_values.specs.Values.{values_of}
 use Rattle.server_writes.specs.Offer.{held_of}
 use Rattle.server_values.proofs.ValidLaws.{edits-size}
@@ -22,10 +21,10 @@ tested c kept =
     ∙ ap (λ (u : RowStanding). server_right (server_with a.w.now a.defaults.now (held_of a.words.now a.nulls.now a.texts.now a.versions.now a.edits.now) (row_in a.row.now u kept))) c.read_standing-t.ensures
 
 pub returns-then-not-server_ok : goal.returns-then-not-server_ok
-returns-then-not-server_ok c = let a = c.args in λ kept. broken-alters (server_in a.w.now a.defaults.now (held_of a.words.now a.nulls.now a.texts.now a.versions.now a.edits.now) a.row.now kept) a.endpoint a.cluster a.attribute a.src.now a.new (sym (tested (goal.at.returns-then-not-server_ok c).After-server_ok kept) ∙ not-true _ c.if-not-server_ok.true)
+returns-then-not-server_ok c = let a = c.args in λ kept. broken-alters (server_in a.w.now a.defaults.now (held_of a.words.now a.nulls.now a.texts.now a.versions.now a.edits.now) a.row.now kept) a.endpoint a.cluster a.attribute a.src.now a.new (sym (tested (goal.at.returns-then-not-server_ok c).After-server_ok kept) ∙ c.if-not-server_ok.true)
 
 pub change-requires : goal.change-requires
-change-requires c = let a = c.args in let r = server-right (server_in a.w.now a.defaults.now (held_of a.words.now a.nulls.now a.texts.now a.versions.now a.edits.now) a.row.now []) (sym (tested (goal.at.change-requires c).After-server_ok []) ∙ not-false _ c.if-not-server_ok.false) in (schema-of (server_in a.w.now a.defaults.now (held_of a.words.now a.nulls.now a.texts.now a.versions.now a.edits.now) a.row.now []) r, edits-size a.w.now a.defaults.now a.edits.now (values_of a.words.now a.nulls.now a.texts.now a.versions.now) r.values)
+change-requires c = let a = c.args in let r = server-right (server_in a.w.now a.defaults.now (held_of a.words.now a.nulls.now a.texts.now a.versions.now a.edits.now) a.row.now []) (sym (tested (goal.at.change-requires c).After-server_ok []) ∙ c.if-not-server_ok.false) in (schema-of (server_in a.w.now a.defaults.now (held_of a.words.now a.nulls.now a.texts.now a.versions.now a.edits.now) a.row.now []) r, edits-size a.w.now a.defaults.now a.edits.now (values_of a.words.now a.nulls.now a.texts.now a.versions.now) r.values)
 
 pub returns : goal.returns
-returns c = let a = c.args in λ kept. right-alters (server_in a.w.now a.defaults.now (held_of a.words.now a.nulls.now a.texts.now a.versions.now a.edits.now) a.row.now kept) a.endpoint a.cluster a.attribute a.src.now a.new (sym (tested (goal.at.returns c).After-server_ok kept) ∙ not-false _ c.if-not-server_ok.false) c.change.ensures
+returns c = let a = c.args in λ kept. right-alters (server_in a.w.now a.defaults.now (held_of a.words.now a.nulls.now a.texts.now a.versions.now a.edits.now) a.row.now kept) a.endpoint a.cluster a.attribute a.src.now a.new (sym (tested (goal.at.returns c).After-server_ok kept) ∙ c.if-not-server_ok.false) c.change.ensures

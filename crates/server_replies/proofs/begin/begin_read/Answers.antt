@@ -28,32 +28,32 @@ use Rattle.server_replies.proofs.begin.begin_read.Goals.{After-put_filters, Afte
 
 -- the request that is meant, and what decides it
 abbrev meant : After-read_request-r → ReadRequest
-meant c = read_read (read_in c.before.before.before.before.before.before.before.args.payload.now)
+meant c = read_read (read_in c.args.payload.now)
 
 abbrev asks : After-read_request-r → Asks
-asks c = record { good = c.read-request.result.good; timed = 0; paths = c.read-request.result.paths; filters = c.read-request.result.filters; writes = 0 }
+asks c = record { good = c.read_request-r.result.good; timed = 0; paths = c.read_request-r.result.paths; filters = c.read_request-r.result.filters; writes = 0 }
 
-refusal : (c : After-refusal_code-refusal) → c.refusal_code-refusal.result ≡ read_refusal (meant c.before)
+refusal : (c : After-refusal_code-refusal) → c.refusal_code-refusal.result ≡ read_refusal ((read_read (read_in c.args.payload.now)))
 refusal c = c.refusal_code-refusal.ensures ∙ ap refusal_code (read-asks c.args.payload.now c.read_request-r.ensures)
 
-few : (c : Else-refusal-ne0) → Few (asks c.before.before)
-few c = refusal-none (asks c.before.before) (sym c.refusal_code-refusal.ensures ∙ c.if-refusal-ne0.false)
+few : (c : Else-refusal-ne0) → Few ((record { good = c.read_request-r.result.good; timed = 0; paths = c.read_request-r.result.paths; filters = c.read_request-r.result.filters; writes = 0 }))
+few c = refusal-none ((record { good = c.read_request-r.result.good; timed = 0; paths = c.read_request-r.result.paths; filters = c.read_request-r.result.filters; writes = 0 })) (sym c.refusal_code-refusal.ensures ∙ c.if-refusal-ne0.false)
 
 -- the request in the row's words
-stored-request : (c : After-put_filters) → c.put_filters.new.row.1.1.1.0 ≡ put_request c.args.row.now (request_of c.args.w.now (meant c.before.before.before.before.before.before.before.before))
+stored-request : (c : After-put_filters) → c.put_filters.new.row ≡ put_request c.args.row.now (request_of c.args.w.now ((read_read (read_in c.args.payload.now))))
 unfolding put_request request_of
 stored-request c =
     let s = c.args.payload.now in let e = c.read_request-r.ensures in
     c.put_filters.ensures
-    ∙ (λ j. store ((c.put_paths.ensures ∙ ap (store c.args.row.now 0) (read-paths s e)) j) filters_at (filter_words c.args.w.now (read-filters s e ((refusal-none (asks c.before.before) (sym c.refusal_code-refusal.ensures ∙ c.if-refusal-ne0.false))).filters j)))
+    ∙ (λ j. store ((c.put_paths.ensures ∙ ap (store c.args.row.now 0) (read-paths s e)) j) filters_at (filter_words c.args.w.now (read-filters s e ((refusal-none ((record { good = c.read_request-r.result.good; timed = 0; paths = c.read_request-r.result.paths; filters = c.read_request-r.result.filters; writes = 0 })) (sym c.refusal_code-refusal.ensures ∙ c.if-refusal-ne0.false))).filters j)))
 
 -- and read back from them
-kept-request : (c : After-put_filters) → request_in c.put_filters.new.row.1.1.1.0 c.read_request-r.result.paths ≡ request_of c.args.w.now (meant c.before.before.before.before.before.before.before.before)
+kept-request : (c : After-put_filters) → request_in c.put_filters.new.row c.read_request-r.result.paths ≡ request_of c.args.w.now ((read_read (read_in c.args.payload.now)))
 unfolding request_of
 kept-request c =
-    let a = c.args in let r = meant c.before.before.before.before.before.before.before.before in
+    let a = c.args in let r = (read_read (read_in c.args.payload.now)) in
     let room : standing_at ≤ length a.row.now = search rules in
-    (λ j. request_in ((let s = c.args.payload.now in let e = c.read_request-r.ensures in c.put_filters.ensures ∙ (λ j. store ((c.put_paths.ensures ∙ ap (store c.args.row.now 0) (read-paths s e)) j) filters_at (filter_words c.args.w.now (read-filters s e ((refusal-none (asks c.before.before) (sym c.refusal_code-refusal.ensures ∙ c.if-refusal-ne0.false))).filters j)))) j) (read-asks a.payload.now c.read_request-r.ensures j).paths)
+    (λ j. request_in (stored-request c j) (read-asks a.payload.now c.read_request-r.ensures j).paths)
     ∙ request-back a.row.now (request_of a.w.now r) (request-length a.payload.now refl) (filters-length a.w.now _) room
 
 pub returns-then-refusal-ne0 : goal.returns-then-refusal-ne0
@@ -82,7 +82,7 @@ unfolding keeping
 returns c = let a = c.args in let room = c.requires.1.1 in
     let x = row_in a.row.now a.t a.kept.now in
     let u = server_with a.w.now a.defaults.now (held_of a.words.now a.nulls.now a.texts.now a.versions.now a.edits.now) x in
-    let q : OpenRead = request_of a.w.now (meant c.before.before.before.before.before.before.before.before.before.before.before.before.before.before.before.before.before.before.before) in
+    let q : OpenRead = request_of a.w.now (meant (goal.at.returns c).After-read_request-r) in
     let y = read-answered a.payload.now refl u a.g a.exchange (sym (refusal (goal.at.returns c).After-refusal_code-refusal) ∙ c.if-refusal-ne0.false) in
     let s = sent-of (ap (λ (p : OpenRead). blocks_of u a.g p beginning_place) (kept-request (goal.at.returns c).After-put_filters)) c.put_part-f.ensures in
     let f = c.put_part-f.result in

@@ -1,5 +1,5 @@
 use mathlib.Core.Path.{refl, sym, ◌∙◌}
-use borrow.Author.Tests.{lt-ltb, le-ltb, lt-leb, le-leb, eq-eqb, ne_eqb, not-true, not-false}
+use borrow.Author.Tests.{lt-ltb, le-ltb, lt-leb, le-leb, eq-eqb, ne_eqb}
 use Rattle.base_bounds.specs.Bounds.{attribute_limit, path_limit}
 use Rattle.im_exchange.specs.Rules.{max_turn, part}
 use Rattle.im_writer.specs.Envelope.{exchange_limit}
@@ -45,8 +45,8 @@ returns-then-place-ne0 c = λ row kept. let x = c.args.t in rw (lt-ltb x.progres
 
 pub returns-then-not-kept_ok : goal.returns-then-not-kept_ok
 unfolding row_right
-returns-then-not-kept_ok c = λ row kept. let x = c.args.t in rw (lt-ltb x.progress.last exchange_limit c.if-progress-ge-EXCHANGE_LIMIT.false, le-leb x.progress.turn max_turn c.if-progress-gt-MAX_TURN.false, le-leb x.progress.next part c.if-progress-gt-PART.false, le-leb x.progress.closed 1 c.if-progress-gt1.false, le-leb x.asked path_limit c.if-t-gt-MAX_PATHS.false, eq-eqb x.place.phase attribute_phase c.if-place-ne-ATTRIBUTE_PHASE.false, le-leb x.place.path x.asked c.if-t-place.false, le-leb x.place.index attribute_limit c.if-place-gt-ATTRIBUTES.false, eq-eqb x.place.sent 0 c.if-place-ne0.false, sym c.kept_ok.ensures ∙ not-true _ c.if-not-kept_ok.true) refl
+returns-then-not-kept_ok c = λ row kept. let x = c.args.t in rw (lt-ltb x.progress.last exchange_limit c.if-progress-ge-EXCHANGE_LIMIT.false, le-leb x.progress.turn max_turn c.if-progress-gt-MAX_TURN.false, le-leb x.progress.next part c.if-progress-gt-PART.false, le-leb x.progress.closed 1 c.if-progress-gt1.false, le-leb x.asked path_limit c.if-t-gt-MAX_PATHS.false, eq-eqb x.place.phase attribute_phase c.if-place-ne-ATTRIBUTE_PHASE.false, le-leb x.place.path x.asked c.if-t-place.false, le-leb x.place.index attribute_limit c.if-place-gt-ATTRIBUTES.false, eq-eqb x.place.sent 0 c.if-place-ne0.false, sym c.kept_ok.ensures ∙ c.if-not-kept_ok.true) refl
 
 pub returns : goal.returns
 unfolding row_right
-returns c = λ row kept. let x = c.args.t in rw (lt-ltb x.progress.last exchange_limit c.if-progress-ge-EXCHANGE_LIMIT.false, le-leb x.progress.turn max_turn c.if-progress-gt-MAX_TURN.false, le-leb x.progress.next part c.if-progress-gt-PART.false, le-leb x.progress.closed 1 c.if-progress-gt1.false, le-leb x.asked path_limit c.if-t-gt-MAX_PATHS.false, eq-eqb x.place.phase attribute_phase c.if-place-ne-ATTRIBUTE_PHASE.false, le-leb x.place.path x.asked c.if-t-place.false, le-leb x.place.index attribute_limit c.if-place-gt-ATTRIBUTES.false, eq-eqb x.place.sent 0 c.if-place-ne0.false, sym c.kept_ok.ensures ∙ not-false _ c.if-not-kept_ok.false) c.served_ok.ensures
+returns c = λ row kept. let x = c.args.t in rw (lt-ltb x.progress.last exchange_limit c.if-progress-ge-EXCHANGE_LIMIT.false, le-leb x.progress.turn max_turn c.if-progress-gt-MAX_TURN.false, le-leb x.progress.next part c.if-progress-gt-PART.false, le-leb x.progress.closed 1 c.if-progress-gt1.false, le-leb x.asked path_limit c.if-t-gt-MAX_PATHS.false, eq-eqb x.place.phase attribute_phase c.if-place-ne-ATTRIBUTE_PHASE.false, le-leb x.place.path x.asked c.if-t-place.false, le-leb x.place.index attribute_limit c.if-place-gt-ATTRIBUTES.false, eq-eqb x.place.sent 0 c.if-place-ne0.false, sym c.kept_ok.ensures ∙ c.if-not-kept_ok.false) c.served_ok.ensures

@@ -17,20 +17,20 @@ filled : (c : After-fill-f) →
     let o = c.put_report_open-p in
     Filling o.new.0 o.result block_room a.from
     (blocks_from (view_of a.w.now (values_of a.words.now a.nulls.now a.texts.now a.versions.now) a.defaults.now a.edits.now a.g (filters_in a.row.now)) (asked_paths a.row.now a.asked) a.from)
-    c.fill-f.new.out.1.1.1.1.1.1.1.1.1.1.1.1.0 c.fill-f.result
+    c.fill-f.new.out c.fill-f.result
 filled c =
     let a = c.args in
     filling-of (same_blocks a.w.now (values_of a.words.now a.nulls.now a.texts.now a.versions.now) a.defaults.now a.edits.now a.g (filters_in a.row.now) (asked_paths a.row.now a.asked) a.from c.skipped-skips.ensures) c.fill-f.ensures
 
 -- and end within their room
 ends : (c : After-fill-f) → c.fill-f.result.end ≤ c.put_report_open-p.result + block_room
-ends c = end-within ((let a = c.args in filling-of (same_blocks a.w.now (values_of a.words.now a.nulls.now a.texts.now a.versions.now) a.defaults.now a.edits.now a.g (filters_in a.row.now) (asked_paths a.row.now a.asked) a.from c.skipped-skips.ensures) c.fill-f.ensures))
+ends c = end-within (filled c)
 
 pub returns : goal.returns
-returns c = made_some {o₃ = c.put_report_close.new.b.0} {e = c.put_report_close.result} c.put_report_open-p.ensures (filled (goal.at.returns c).After-fill-f) c.if-f-p.false c.put_report_close.ensures
+returns c = made_some {o₃ = c.put_report_close.new.b} {e = c.put_report_close.result} c.put_report_open-p.ensures (filled (goal.at.returns c).After-fill-f) c.if-f-p.false c.put_report_close.ensures
 
 pub returns-then-f-p : goal.returns-then-f-p
-returns-then-f-p c = made_none {o₃ = c.put_report_empty.new.b.0} {e = c.put_report_empty.result} c.put_report_open-p.ensures (filled (goal.at.returns-then-f-p c).After-fill-f) c.if-f-p.true c.put_report_empty.ensures
+returns-then-f-p c = made_none {o₃ = c.put_report_empty.new.b} {e = c.put_report_empty.result} c.put_report_open-p.ensures (filled (goal.at.returns-then-f-p c).After-fill-f) c.if-f-p.true c.put_report_empty.ensures
 
 pub put_report_open-p-requires : goal.put_report_open-p-requires
 put_report_open-p-requires c = omega (arith, c.requires.1.1, length-opening)

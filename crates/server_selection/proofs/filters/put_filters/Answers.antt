@@ -27,7 +27,7 @@ pub overflow_add-i : goal.overflow_add-i
 overflow_add-i c = omega (arith, c.loop-i-test.true, c.requires.1.0)
 
 pub loop-i-preserved : goal.loop-i-preserved
-loop-i-preserved c = let a = c.args in let w = a.w.now in let fs = a.filters.now in let l = c.loop-i in let o = c.clear_filters.new.row.0 in let e = c.put_filter.ensures in
+loop-i-preserved c = let a = c.args in let w = a.w.now in let fs = a.filters.now in let l = c.loop-i in let o = c.clear_filters.new.row in let e = c.put_filter.ensures in
     let m = filter_more w c.requires.0 c.filter_at.result o (version_filter_list fs l.i) (omega (arith, clear-length w a.row.now c.clear_filters.ensures, c.requires.1.1)) l.invariant.1.1 in
     (search rules, (ap length (e ∙ m) ∙ length-store _ _ _, e ∙ m ∙ ap (λ (f : VersionFilter). store o filters_at (filter_words w (version_filter_list fs l.i ++ (f ∷ [])))) c.filter_at.ensures ∙ ap (λ (y : List VersionFilter). store o filters_at (filter_words w y)) (sym (version-filter-more fs l.i))))
 
@@ -36,4 +36,4 @@ shape_of-row c = c.loop-i.invariant.1.0 ∙ clear-length c.args.w.now c.args.row
 
 pub returns : goal.returns
 returns c = let a = c.args in let l = c.loop-i in let k : l.i ≡ a.n = omega (arith, l.invariant.0, c.loop-i-test.false) in
-    l.invariant.1.1 ∙ ap (λ i. store c.clear_filters.new.row.0 filters_at (filter_words a.w.now (version_filter_list a.filters.now i))) k ∙ clear-over a.w.now a.row.now c.clear_filters.ensures (version_filter_list a.filters.now a.n)
+    l.invariant.1.1 ∙ ap (λ i. store c.clear_filters.new.row filters_at (filter_words a.w.now (version_filter_list a.filters.now i))) k ∙ clear-over a.w.now a.row.now c.clear_filters.ensures (version_filter_list a.filters.now a.n)

@@ -2,7 +2,6 @@ use mathlib.Core.Path.{◌≡◌, refl, sym, ap, ◌∙◌}
 use mathlib.Core.Bool.{true, false}
 use Prim.Native.Nat.{◌<◌}
 use native.Mathlib.Omega.{arith}
-use borrow.Author.Tests.{not-true, not-false}
 use Rattle.node_schema.specs.Rows.{count_of_attributes}
 use Rattle.server_selection.specs.Asked.{concrete}
 use Rattle.server_selection.specs.Items.{silent, span, item_at, wildcard_item}
@@ -21,7 +20,7 @@ not-wild c = sym c.is_concrete.ensures ∙ c.if-is_concrete.false
 
 wild : (c : Else-is_concrete) → c.args.i < count_of_attributes c.args.w.now
 unfolding span
-wild c = rw ((sym c.is_concrete.ensures ∙ c.if-is_concrete.false)) at c.requires.1
+wild c = rw (not-wild c) at c.requires.1
 
 pub attribute_cluster-requires : goal.attribute_cluster-requires
 attribute_cluster-requires c = omega (arith, wild (goal.at.attribute_cluster-requires c).Else-is_concrete)
@@ -38,11 +37,11 @@ asks_row-requires c = (c.requires.0, wild (goal.at.asks_row-requires c).Else-is_
 
 pub returns-then-not-asks_row : goal.returns-then-not-asks_row
 unfolding item_at wildcard_item
-returns-then-not-asks_row c = rw (not-wild (goal.at.returns-then-not-asks_row c).Else-is_concrete, sym c.asks_row.ensures ∙ not-true _ c.if-not-asks_row.true) refl
+returns-then-not-asks_row c = rw (not-wild (goal.at.returns-then-not-asks_row c).Else-is_concrete, sym c.asks_row.ensures ∙ c.if-not-asks_row.true) refl
 
 pub read_item-requires : goal.read_item-requires
 read_item-requires c = omega (arith, wild (goal.at.read_item-requires c).Else-is_concrete)
 
 pub returns : goal.returns
 unfolding item_at wildcard_item
-returns c = rw (not-wild (goal.at.returns c).Else-is_concrete, sym c.asks_row.ensures ∙ not-false _ c.if-not-asks_row.false) (c.silenced.ensures ∙ ap silent c.read_item.ensures)
+returns c = rw (not-wild (goal.at.returns c).Else-is_concrete, sym c.asks_row.ensures ∙ c.if-not-asks_row.false) (c.silenced.ensures ∙ ap silent c.read_item.ensures)

@@ -1,7 +1,6 @@
 use mathlib.Core.Path.{◌≡◌, refl, sym, ap₂, ◌∙◌}
 use Prim.Native.Nat.{ℕ, ◌-◌}
 use borrow.Author.Rules.{rules}
-use borrow.Author.Tests.{not-true, not-false}
 use lib.ListN.{take, drop}
 use Rattle.base_utf8.specs.WellFormed.{well_formed}
 use Rattle.node_schema.specs.Check.{every}
@@ -32,13 +31,13 @@ is_formed-requires c = c.requires.1
 pub returns-then-not-is_formed : goal.returns-then-not-is_formed
 returns-then-not-is_formed c =
     let a = c.args in
-    every-fails (formed_at a.w.now a.page.now a.texts.now a.factory) _ c.loop-i.i (search rules) (sym (asked c.before) ∙ not-true _ c.if-not-is_formed.true)
+    every-fails (formed_at a.w.now a.page.now a.texts.now a.factory) _ c.loop-i.i (search rules) (sym (asked c.before) ∙ c.if-not-is_formed.true)
 
 pub loop-i-preserved-then-mark-factory : goal.loop-i-preserved-then-mark-factory
 loop-i-preserved-then-mark-factory c =
     let a = c.args in
     let l = c.loop-i in
-    (search rules, every_more (formed_at a.w.now a.page.now a.texts.now a.factory) _ l.invariant.1 (sym (asked c.before) ∙ not-false _ c.if-not-is_formed.false))
+    (search rules, every_more (formed_at a.w.now a.page.now a.texts.now a.factory) _ l.invariant.1 (sym (asked c.before) ∙ c.if-not-is_formed.false))
 
 pub loop-i-preserved : goal.loop-i-preserved
 loop-i-preserved c =

@@ -1,7 +1,6 @@
 use mathlib.Core.Path.{refl, sym, ◌∙◌}
 use Prim.Native.Nat.{◌-◌}
 use borrow.Author.Rules.{rules}
-use borrow.Author.Tests.{not-true, not-false}
 use Rattle.node_schema.specs.Check.{every}
 use Rattle.node_schema.proofs.CheckLaws.{every_more, every-fails, every-done}
 use Rattle.server_values.specs.Quick.{null_at}
@@ -17,7 +16,7 @@ returns-then-not-null_ok c =
     let a = c.args in
     let l = c.loop-i in
     every-fails (null_at a.w.now a.words.now a.nulls.now) _ l.i (search rules)
-    (sym (null-there a.w.now a.words.now a.nulls.now l.i c.if-nulls-i.true) ∙ sym c.null_ok.ensures ∙ not-true _ c.if-not-null_ok.true)
+    (sym (null-there a.w.now a.words.now a.nulls.now l.i c.if-nulls-i.true) ∙ sym c.null_ok.ensures ∙ c.if-not-null_ok.true)
 
 pub loop-i-preserved-then-nulls-i : goal.loop-i-preserved-then-nulls-i
 loop-i-preserved-then-nulls-i c =
@@ -25,7 +24,7 @@ loop-i-preserved-then-nulls-i c =
     let l = c.loop-i in (
       search rules,
       every_more (null_at a.w.now a.words.now a.nulls.now) l.i l.invariant.1
-          (sym (null-there a.w.now a.words.now a.nulls.now l.i c.if-nulls-i.true) ∙ sym c.null_ok.ensures ∙ not-false _ c.if-not-null_ok.false),
+          (sym (null-there a.w.now a.words.now a.nulls.now l.i c.if-nulls-i.true) ∙ sym c.null_ok.ensures ∙ c.if-not-null_ok.false),
     )
 
 pub loop-i-preserved : goal.loop-i-preserved

@@ -3,7 +3,6 @@ use mathlib.Core.Bool.{true, false}
 use Prim.Native.Nat.{ℕ, ◌*◌, ◌-◌, ◌/◌, ◌%◌}
 use native.Mathlib.Omega.{arith}
 use borrow.Author.Rules.{rules}
-use borrow.Author.Tests.{not-true, not-false}
 use lib.Dec.{eqb}
 use lib.ListN.{get_or}
 use Rattle.node_schema.specs.Layout.{half, text_size}
@@ -54,7 +53,7 @@ pub returns-then-not-is_near : goal.returns-then-not-is_near
 returns-then-not-is_near c =
     let a = c.args in
     let l = c.loop-i in
-    quick-wrong a.w.now a.words.now a.nulls.now a.texts.now a.len a.size l.i (search rules) (sym (asked c.before) ∙ not-true _ c.if-not-is_near.true)
+    quick-wrong a.w.now a.words.now a.nulls.now a.texts.now a.len a.size l.i (search rules) (sym (asked c.before) ∙ c.if-not-is_near.true)
 
 pub loop-i-preserved-then-is_text : goal.loop-i-preserved-then-is_text
 loop-i-preserved-then-is_text c =
@@ -64,7 +63,7 @@ loop-i-preserved-then-is_text c =
       search rules,
       l.invariant.2,
       rank-more a.w.now l.i _ l.invariant.3 (text-here c.before.before.before.before.before.before.before.before),
-      every_more (quick_at a.w.now a.words.now a.nulls.now a.texts.now a.len) l.i l.invariant.4 (sym (asked c.before) ∙ not-false _ c.if-not-is_near.false),
+      every_more (quick_at a.w.now a.words.now a.nulls.now a.texts.now a.len) l.i l.invariant.4 (sym (asked c.before) ∙ c.if-not-is_near.false),
     )
 
 pub number_ok-requires : goal.number_ok-requires
@@ -82,7 +81,7 @@ pub returns-then-not-number_ok : goal.returns-then-not-number_ok
 returns-then-not-number_ok c =
     let a = c.args in
     let l = c.loop-i in
-    quick-wrong a.w.now a.words.now a.nulls.now a.texts.now a.len a.size l.i (search rules) (sym (asked-number c.before) ∙ not-true _ c.if-not-number_ok.true)
+    quick-wrong a.w.now a.words.now a.nulls.now a.texts.now a.len a.size l.i (search rules) (sym (asked-number c.before) ∙ c.if-not-number_ok.true)
 
 pub loop-i-preserved : goal.loop-i-preserved
 loop-i-preserved c =
@@ -92,7 +91,7 @@ loop-i-preserved c =
       search rules,
       l.invariant.2,
       rank_same a.w.now l.i _ l.invariant.3 (none_here c.before.before),
-      every_more (quick_at a.w.now a.words.now a.nulls.now a.texts.now a.len) l.i l.invariant.4 (sym (asked-number c.before) ∙ not-false _ c.if-not-number_ok.false),
+      every_more (quick_at a.w.now a.words.now a.nulls.now a.texts.now a.len) l.i l.invariant.4 (sym (asked-number c.before) ∙ c.if-not-number_ok.false),
     )
 
 pub returns : goal.returns

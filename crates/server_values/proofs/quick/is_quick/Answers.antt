@@ -1,6 +1,5 @@
 use mathlib.Core.Path.{sym, ap, ◌∙◌}
 use mathlib.Core.Bool.{true, false}
-use borrow.Author.Tests.{not-true, not-false}
 use Rattle.node_schema.specs.Check.{every}
 use Rattle.node_schema.proofs.BoolLaws.{past, fails}
 use Rattle.server_values.specs.Quick.{formed_at, null_at, unmarked, quick_right}
@@ -11,7 +10,7 @@ unfolding quick_right
 returns-then-not-nulls_ok c =
     let a = c.args in
     let z = c.nulls_ok.ensures ∙ ap (every (null_at a.w.now a.words.now a.nulls.now)) c.attribute_count-n.ensures in
-    fails _ _ (sym z ∙ not-true _ c.if-not-nulls_ok.true)
+    fails _ _ (sym z ∙ c.if-not-nulls_ok.true)
 
 pub returns-then-not-is_fit : goal.returns-then-not-is_fit
 unfolding quick_right
@@ -19,7 +18,7 @@ returns-then-not-is_fit c =
     let a = c.args in
     let z = c.nulls_ok.ensures ∙ ap (every (null_at a.w.now a.words.now a.nulls.now)) c.attribute_count-n.ensures in
     let e = c.is_fit.ensures ∙ ap (every (formed_at a.w.now a.defaults.now unmarked true)) c.text_room-room.ensures in
-    fails _ _ (sym e ∙ not-true _ c.if-not-is_fit.true) ∙ past _ _ (sym z ∙ not-false _ c.if-not-nulls_ok.false)
+    fails _ _ (sym e ∙ c.if-not-is_fit.true) ∙ past _ _ (sym z ∙ c.if-not-nulls_ok.false)
 
 pub returns-then-not-is_fit-2 : goal.returns-then-not-is_fit-2
 unfolding quick_right
@@ -28,13 +27,13 @@ returns-then-not-is_fit-2 c =
     let z = c.nulls_ok.ensures ∙ ap (every (null_at a.w.now a.words.now a.nulls.now)) c.attribute_count-n.ensures in
     let e = c.is_fit.ensures ∙ ap (every (formed_at a.w.now a.defaults.now unmarked true)) c.text_room-room.ensures in
     let f = c.is_fit-2.ensures ∙ ap (every (formed_at a.w.now a.edits.now a.texts.now false)) c.text_room-room.ensures in
-    fails _ _ (sym f ∙ not-true _ c.if-not-is_fit-2.true) ∙ past _ _ (sym e ∙ not-false _ c.if-not-is_fit.false) ∙ past _ _ (sym z ∙ not-false _ c.if-not-nulls_ok.false)
+    fails _ _ (sym f ∙ c.if-not-is_fit-2.true) ∙ past _ _ (sym e ∙ c.if-not-is_fit.false) ∙ past _ _ (sym z ∙ c.if-not-nulls_ok.false)
 
 pub all_quick-requires : goal.all_quick-requires
 all_quick-requires c =
     let a = c.args in
     sym (c.nulls_ok.ensures ∙ ap (every (null_at a.w.now a.words.now a.nulls.now)) c.attribute_count-n.ensures)
-    ∙ not-false _ c.if-not-nulls_ok.false
+    ∙ c.if-not-nulls_ok.false
 
 pub returns : goal.returns
 unfolding quick_right
@@ -44,6 +43,6 @@ returns c =
     let e = c.is_fit.ensures ∙ ap (every (formed_at a.w.now a.defaults.now unmarked true)) c.text_room-room.ensures in
     let f = c.is_fit-2.ensures ∙ ap (every (formed_at a.w.now a.edits.now a.texts.now false)) c.text_room-room.ensures in
     c.all_quick.ensures
-    ∙ past _ _ (sym f ∙ not-false _ c.if-not-is_fit-2.false)
-    ∙ past _ _ (sym e ∙ not-false _ c.if-not-is_fit.false)
-    ∙ past _ _ (sym z ∙ not-false _ c.if-not-nulls_ok.false)
+    ∙ past _ _ (sym f ∙ c.if-not-is_fit-2.false)
+    ∙ past _ _ (sym e ∙ c.if-not-is_fit.false)
+    ∙ past _ _ (sym z ∙ c.if-not-nulls_ok.false)

@@ -2,7 +2,6 @@ use mathlib.Core.Path.{refl, sym, ◌∙◌}
 use mathlib.Core.Bool.{false}
 use Prim.Native.Nat.{◌-◌}
 use borrow.Author.Rules.{rules}
-use borrow.Author.Tests.{not-true, not-false}
 use lib.ListN.{get_or}
 use Rattle.node_schema.specs.Check.{every}
 use Rattle.node_schema.proofs.CheckLaws.{every_more, every-fails, every-done}
@@ -17,13 +16,13 @@ loop-i-init c = (search rules, c.attribute_count-n.ensures, refl)
 pub returns-then-not-text_ok : goal.returns-then-not-text_ok
 returns-then-not-text_ok c =
     let a = c.args in
-    every-fails (λ k. shown_at a.w.now a.defaults.now a.edits.now k (get_or a.nulls.now k false) (mark_at a.w.now a.texts.now k)) _ c.loop-i.i (search rules) (sym c.text_ok.ensures ∙ not-true _ c.if-not-text_ok.true)
+    every-fails (λ k. shown_at a.w.now a.defaults.now a.edits.now k (get_or a.nulls.now k false) (mark_at a.w.now a.texts.now k)) _ c.loop-i.i (search rules) (sym c.text_ok.ensures ∙ c.if-not-text_ok.true)
 
 pub loop-i-preserved : goal.loop-i-preserved
 loop-i-preserved c =
     let a = c.args in
     let l = c.loop-i in
-    (search rules, l.invariant.1, every_more (λ k. shown_at a.w.now a.defaults.now a.edits.now k (get_or a.nulls.now k false) (mark_at a.w.now a.texts.now k)) _ l.invariant.2 (sym c.text_ok.ensures ∙ not-false _ c.if-not-text_ok.false))
+    (search rules, l.invariant.1, every_more (λ k. shown_at a.w.now a.defaults.now a.edits.now k (get_or a.nulls.now k false) (mark_at a.w.now a.texts.now k)) _ l.invariant.2 (sym c.text_ok.ensures ∙ c.if-not-text_ok.false))
 
 pub returns : goal.returns
 returns c =

@@ -1,7 +1,6 @@
 use mathlib.Core.Path.{◌≡◌, sym, ap, ap₂, ◌∙◌}
 use mathlib.Core.Bool.{true}
 use Prim.Native.Nat.{ℕ, ◌≤◌, ◌<◌}
-use borrow.Author.Tests.{not-true, not-false}
 use Rattle.node_schema.specs.Rows.{attribute_row, is_text}
 use Rattle.server_values.specs.Values.{rank_text, rank_length, mark_of, mark_at}
 use Rattle.server_values.specs.Valid.{mark_max, shown_right}
@@ -11,11 +10,11 @@ use Rattle.server_values.proofs.valid.text_ok.Goals as goal
 use Rattle.server_values.proofs.valid.text_ok.Goals.{After-mark_of-mark, Else-not-is_text}
 
 pub returns-then-not-is_text : goal.returns-then-not-is_text
-returns-then-not-is_text c = let a = c.args in shown-none a.w.now a.defaults.now a.edits.now a.i a.null _ (sym c.is_text.ensures ∙ not-true _ c.if-not-is_text.true)
+returns-then-not-is_text c = let a = c.args in shown-none a.w.now a.defaults.now a.edits.now a.i a.null _ (sym c.is_text.ensures ∙ c.if-not-is_text.true)
 
 -- the row is a text
 text-here : (c : Else-not-is_text) → is_text (attribute_row c.args.w.now c.args.i) ≡ true
-text-here c = sym c.is_text.ensures ∙ not-false _ c.if-not-is_text.false
+text-here c = sym c.is_text.ensures ∙ c.if-not-is_text.false
 
 -- its mark was read
 read : (c : After-mark_of-mark) → c.mark_of-mark.result ≡ mark_at c.args.w.now c.args.texts.now c.args.i

@@ -35,6 +35,7 @@ loop-i-preserved c = let a = c.args in let l = c.loop-i in let e = c.write_entry
   omega (arith, c.loop-i-test.true),
   ap (λ (o : StoreOutcome). length o.held.edits) e ∙ entry_length a.w.now a.defaults.now h a.g a.s.now _ ∙ l.invariant.1,
   writing-goes a.w.now a.g a.defaults.now a.s.now l.invariant.2 x.result _ (omega (arith, c.requires.1.0, c.loop-i-test.true)) (rows-here (entry_in a.entries.now) a.n l.i x.result c.loop-i-test.true x.ensures) e,
+)
 
 pub shape_of-edits : goal.shape_of-edits
 shape_of-edits c = c.loop-i.invariant.1 ∙ sym c.requires.1.1.1

@@ -49,6 +49,7 @@ loop-i-preserved c = let a = c.args in let l = c.loop-i in let x = c.entry_in-x 
   omega (arith, h),
   omega (arith, answer-bound c.entry_in-x.result (get_or c.args.t2 c.loop-i.i 0) (subst InWidth (sym c.entry_in-x.ensures) (c.requires.1.0 c.loop-i.i c.loop-i-test.true)) (elem_Fits w8 w8 c.args.t2 c.well_formed.1.0.0 c.loop-i.i c.well_formed.1.0.1.1 tt).fits, l.invariant.1, e.place),
   status-next a.entries.now a.t2 a.n l.i x.result h x.ensures (omega (arith, whole, c.requires.0, h)) l.invariant.2 e,
+)
 
 pub shape_of-out : goal.shape_of-out
 shape_of-out c = kept-length c.loop-i.invariant.2

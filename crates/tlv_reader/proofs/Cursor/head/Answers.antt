@@ -19,7 +19,7 @@ untagged j = ⊎_elim (λ w. simp (eq-eqb _ _ w.0.taken, le-ltb _ _ w.1.left)) (
 
 shape : (j : Joined-kind-eq-END) (tw nw : ℕ) → (let a = j.args in let s : List ℕ = a.s.now in let c : ℕ = get_or s a.self.at 0 in tw ≡ tag_width (c / 32) → nw ≡ number_width (c % 32) → head_at s a.self.at ≡ sized_at s a.self.at (c / 32) (c % 32) tw nw)
 unfolding head_at
-shape j tw nw et en = simp (lt-ltb _ _ j.if-s-at.false, le-ltb _ _ j.if-kind-gt-END.false, (⊎_elim (λ w. simp (eq-eqb _ _ w.0.taken, le-ltb _ _ w.1.left)) (λ w. simp (ne_eqb _ _ w.left)) j.if-kind-eq-END.branch), et, en)
+shape j tw nw et en = simp (lt-ltb _ _ j.if-s-at.false, le-ltb _ _ j.if-kind-gt-END.false, untagged j, et, en)
 
 pub returns-then-s-at : goal.returns-then-s-at
 unfolding head_at
