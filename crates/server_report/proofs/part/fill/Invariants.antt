@@ -15,8 +15,8 @@ abbrev pub invariant-loop-path : goal.invariant-loop-path
 invariant-loop-path l =
     (l.end + l.room ≡ l.start + block_room)
     × ((length l.out ≡ length l.initial.out)
-    × ((new : List ℕ) (r : Filled) → Filling l.out l.end l.room l.place (ahead (seen l.w l.words l.nulls l.texts l.versions l.defaults l.edits (record { l.level = l.level }) l.skips) (asked_paths l.row l.asked) l.path l.i) new r →
-    Filling l.initial.out l.start block_room l.initial.place (blocks_from (seen l.w l.words l.nulls l.texts l.versions l.defaults l.edits (record { l.level = l.level }) l.skips) (asked_paths l.row l.asked) l.initial.place) new r))
+    × ((new : List ℕ) (r : Filled) → Filling l.out l.end l.room l.place (ahead (seen l.w l.words l.nulls l.texts l.versions l.defaults l.edits (record { level = l.level }) l.skips) (asked_paths l.row l.asked) l.path l.i) new r →
+    Filling l.initial.out l.start block_room l.initial.place (blocks_from (seen l.w l.words l.nulls l.texts l.versions l.defaults l.edits (record { level = l.level }) l.skips) (asked_paths l.row l.asked) l.initial.place) new r))
 
 abbrev pub decreases-loop-path : goal.decreases-loop-path
 decreases-loop-path l = l.asked - l.path

@@ -12,8 +12,8 @@ abbrev pub invariant-loop-i : goal.invariant-loop-i
 invariant-loop-i l =
     (l.end + l.left ≡ l.start + l.room)
     × ((length l.out ≡ length l.initial.out)
-    × ((new : List ℕ) (r : Filled) → Filling l.out l.end l.left l.place (path_blocks (seen l.w l.words l.nulls l.texts l.versions l.defaults l.edits (record { l.level = l.level }) l.skips) l.path l.p l.i) new r →
-    Filling l.initial.out l.start l.room l.initial.place (path_blocks (seen l.w l.words l.nulls l.texts l.versions l.defaults l.edits (record { l.level = l.level }) l.skips) l.path l.p l.first) new r))
+    × ((new : List ℕ) (r : Filled) → Filling l.out l.end l.left l.place (path_blocks (seen l.w l.words l.nulls l.texts l.versions l.defaults l.edits (record { level = l.level }) l.skips) l.path l.p l.i) new r →
+    Filling l.initial.out l.start l.room l.initial.place (path_blocks (seen l.w l.words l.nulls l.texts l.versions l.defaults l.edits (record { level = l.level }) l.skips) l.path l.p l.first) new r))
 
 abbrev pub decreases-loop-i : goal.decreases-loop-i
 decreases-loop-i l = l.span - l.i
