@@ -1,5 +1,5 @@
 -- Laws of bytes below a bound: the greatest byte decides, and bytes below 128 are well formed.
-use mathlib.Core.Path.{◌≡◌, refl, sym, ◌∙◌}
+use mathlib.Core.Path.{◌≡◌, refl, sym, subst, ◌∙◌}
 use mathlib.Core.Bool.{Bool, true, ◌&&◌}
 use mathlib.Core.List.{List, [], ◌∷◌}
 use Prim.Native.Nat.{ℕ, zero, suc, ◌+◌, ◌≤◌, ◌<◌}
@@ -19,7 +19,7 @@ unfolding all_below well_formed completes table
 ascii-formed [] h = refl
 ascii-formed (a ∷ s) h =
     let l = ltb-true a 128 (and_l (ltb a 128) (all_below 128 s) h) in
-    rw (line 0 a refl (omega arith) (omega arith)) (ascii-formed s (and_r (ltb a 128) (all_below 128 s) h))
+    subst (λ rs. completes rs s ≡ true) (sym (line 0 a refl (omega arith) (omega arith))) (ascii-formed s (and_r (ltb a 128) (all_below 128 s) h))
 
 -- below a bound, below a higher one
 pub raised : (k l : ℕ) → k ≤ l → (s : List ℕ) → all_below k s ≡ true → all_below l s ≡ true

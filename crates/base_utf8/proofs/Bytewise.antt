@@ -184,8 +184,8 @@ module _ (a b c d : ℕ) (s : List ℕ) (m : c < 0xC0) where
   first : owed ≡ false → pending a b c ≡ [] → (d < 0xC0 → pending b c d ≡ []) → Step a b c d s
   unfolding completes table trails
   first e p q =
-      split d 0x80 (λ h. rw (p, free e, lt-leb 0x80 d h, line 0 d refl (omega arith) (omega arith), q (omega arith))) (λ l.
-      split d 0xC0 (λ h. rw (p, free e, le-leb 0x80 d l, le-leb d 0xBF (omega arith), no_line 0x80 0xC0 d l h refl) (dead s))
+      split d 0x80 (λ h. rw (p, free e, lt-leb 0x80 d h, q (omega arith)) (ap (λ rs. completes rs s) (line 0 d refl (omega arith) (omega arith)))) (λ l.
+      split d 0xC0 (λ h. rw (p, free e, le-leb 0x80 d l, le-leb d 0xBF (omega arith)) (ap (λ rs. completes rs s) (no_line 0x80 0xC0 d l h refl) ∙ dead s))
       (λ h. rw (p, free e, le-leb 0x80 d l, lt-leb d 0xBF (omega arith), after_first b c d h)))
 
   later-step : Step a b c d s

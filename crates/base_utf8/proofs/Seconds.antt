@@ -6,7 +6,7 @@ use native.Mathlib.Omega.{arith}
 use borrow.Author.Tests.{leb-true, eqb-true, eqb-false, le-leb, lt-leb, eq-eqb, ne_eqb}
 use lib.Dec.{leb, ltb, eqb}
 use Rattle.base_utf8.specs.Bytewise.{due, trails, begins, second, allowed, allowed3}
-use Rattle.base_utf8.proofs.Lines.{and_l, and-true, split}
+use Rattle.base_utf8.proofs.Lines.{and_l, split}
 
 -- two tests that hold of the same numbers
 same_test : (a b x y : ℕ) → (a ≡ b → x ≡ y) → (x ≡ y → a ≡ b) → eqb a b ≡ eqb x y

@@ -1,4 +1,3 @@
-use Prim.Native.Nat.{◌-◌}
 use native.Mathlib.Omega.{arith}
 use Rattle.base_utf8.proofs.Bytewise.{as-walked, one_further, ended}
 use Rattle.base_utf8.proofs.few.Goals as goal

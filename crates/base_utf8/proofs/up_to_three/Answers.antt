@@ -1,4 +1,3 @@
-use Prim.Native.Nat.{◌-◌}
 use native.Mathlib.Omega.{arith}
 use Rattle.base_utf8.specs.Bytewise.{back}
 use Rattle.base_utf8.proofs.Shorter.{three-begin, three-turn, ended-three}
