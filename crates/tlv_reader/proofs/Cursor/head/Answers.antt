@@ -1,6 +1,5 @@
 use mathlib.Core.Path.{◌≡◌, sym, ◌∙◌}
 use mathlib.Core.Bool.{false}
-use mathlib.Core.Logic.{⊎_elim}
 use mathlib.Core.List.{List}
 use Prim.Native.Nat.{ℕ, ◌/◌, ◌%◌}
 use native.Mathlib.Omega.{arith}
@@ -11,11 +10,11 @@ use Rattle.tlv_reader.specs.Octet.{pick, tag_width, number_width}
 use Rattle.tlv_reader.specs.Head.{head_at, sized_at}
 use borrow.Author.Rules.{rules}
 use Rattle.tlv_reader.proofs.Cursor.head.Goals as goal
-use Rattle.tlv_reader.proofs.Cursor.head.Goals.{Joined-kind-eq-END}
+use Rattle.tlv_reader.proofs.Cursor.head.Goals.{Joined-kind-eq-END, then-kind-eq-END+else-form-gt0, else-kind-eq-END}
 
 -- past the first three tests: no reserved type, and no end of container that is tagged
 untagged : (j : Joined-kind-eq-END) → (let c : ℕ = get_or j.args.s.now j.args.self.at 0 in pick (eqb (c % 32) 24) (ltb 0 (c / 32)) false ≡ false)
-untagged j = ⊎_elim (λ w. simp (eq-eqb _ _ w.0.taken, le-ltb _ _ w.1.left)) (λ w. simp (ne_eqb _ _ w.left)) j.if-kind-eq-END.branch
+untagged j = elim j.if-kind-eq-END.branch [ then-kind-eq-END+else-form-gt0 w ↦ simp (eq-eqb _ _ w.if-kind-eq-END.true, le-ltb _ _ w.if-form-gt0.false) | else-kind-eq-END w ↦ simp (ne_eqb _ _ w.if-kind-eq-END.false) ]
 
 shape : (j : Joined-kind-eq-END) (tw nw : ℕ) → (let a = j.args in let s : List ℕ = a.s.now in let c : ℕ = get_or s a.self.at 0 in tw ≡ tag_width (c / 32) → nw ≡ number_width (c % 32) → head_at s a.self.at ≡ sized_at s a.self.at (c / 32) (c % 32) tw nw)
 unfolding head_at
