@@ -9,7 +9,7 @@ use Rattle.tlv_writer.proofs.put_head.Goals as goal
 use Rattle.tlv_writer.proofs.put_head.Goals.{In-Context}
 
 stored-context : (c : In-Context) → start_octets c.args.tag c.args.kind ≡ (32 + c.args.kind) ∷ c.in-Context.number ∷ []
-stored-context c = start-context c.args.kind c.in-Context.is (omega (arith, c.known_told-1.given))
+stored-context c = start-context c.args.kind c.in-Context.is (omega arith)
 
 pub put1-requires : goal.put1-requires
 put1-requires c =

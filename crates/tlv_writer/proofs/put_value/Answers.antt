@@ -13,7 +13,7 @@ use Rattle.tlv_writer.proofs.put_value.Goals.{In-Signed, In-Text}
 
 -- a signed value is the number that its bits are
 signed-kept : (c : In-Signed) → to_z w64 (of_z w64 c.in-Signed.z) ≡ c.in-Signed.z
-signed-kept c = to_z-of_z w64 c.in-Signed.z (record { sfits = c.known_told-in-Signed-1.given.0.1 })
+signed-kept c = to_z-of_z w64 c.in-Signed.z (record { sfits = omega arith })
 
 in-page : (c : In-Text) → c.in-Text.start + c.in-Text.len ≤ length c.args.page.now
 in-page c = rw c.in-Text.is at c.requires.0

@@ -35,7 +35,7 @@ returns-in-Unsigned c = rw c.in-Unsigned.is (omega (arith, c.unsigned_len.ensure
 pub returns-in-Signed : goal.returns-in-Signed
 unfolding datum_octets
 returns-in-Signed c =
-    let e = to_z-of_z w64 c.in-Signed.z (record { sfits = c.known_told-in-Signed-1.given.0.1 }) in
+    let e = to_z-of_z w64 c.in-Signed.z (record { sfits = omega arith }) in
     rw c.in-Signed.is (omega (arith, rw e at c.signed_len.ensures.value))
 
 pub returns-in-Float : goal.returns-in-Float
@@ -45,10 +45,10 @@ returns-in-Float c = rw c.in-Float.is (omega (arith, c.float_len.ensures))
 pub returns-in-Text : goal.returns-in-Text
 unfolding datum_octets
 returns-in-Text c =
-    let v = c.v-in-Text-1.given in
+    let v = c.in-Text in
     let page = c.args.page.now in
     let h = rw add-sub_cancel_left at c.text_len.ensures in
-    rw v.1 (h.0, omega (arith, h.1, length-take v.0.1.0 (drop v.0.0 page), length-drop v.0.0 page))
+    rw v.is (record { value = h.value; small = omega (arith, h.small, length-take v.len (drop v.start page), length-drop v.start page) })
 
 pub returns-in-Other : goal.returns-in-Other
 unfolding datum_octets

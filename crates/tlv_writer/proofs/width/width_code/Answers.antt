@@ -1,4 +1,4 @@
-use mathlib.Core.Path.{refl}
+use mathlib.Core.Path.{◌≡◌, refl}
 use borrow.Author.Tests.{ne_eqb}
 use native.Mathlib.Omega.{arith}
 use Rattle.tlv_writer.specs.Width.{width_code}
@@ -16,7 +16,11 @@ pub returns-in-4 : goal.returns-in-4
 unfolding width_code
 returns-in-4 c = record { value = rw c.in-4.is refl; small = omega arith }
 
-pub returns-in_default : goal.returns-in_default
+pub returns-in_default-clause-value : goal.returns-in_default-clause-value
 unfolding width_code
-returns-in_default c = let w = c.args.w in let r = c.in_default.rest in
-    record { value = simp (ne_eqb w 1 r.0.0.1, ne_eqb w 2 r.0.1, ne_eqb w 4 r.1); small = omega arith }
+returns-in_default-clause-value c =
+    let w = c.args.w in
+    let n₁ : w ≡ 1 → ⊥ = omega arith in
+    let n₂ : w ≡ 2 → ⊥ = omega arith in
+    let n₄ : w ≡ 4 → ⊥ = omega arith in
+    simp (ne_eqb w 1 n₁, ne_eqb w 2 n₂, ne_eqb w 4 n₄)
