@@ -4,6 +4,7 @@ use mathlib.Core.List.{◌∷◌}
 use Prim.Native.Nat.{◌-◌}
 use native.Mathlib.Omega.{arith}
 use native.Mathlib.Nat.{pos_of_ne-zero}
+use borrow.Author.Tests.{not-true, not-false}
 use lib.ListN.{get_or, replicate}
 use Rattle.tlv_reader.specs.Octet.{structure}
 use Rattle.im_members.specs.Pass.{pass_with, inside_on}
@@ -39,11 +40,11 @@ returns-then-left-eq0 c = let a = c.args in let s = a.s.now in let d = a.left - 
 pub returns-then-not-m : goal.returns-then-not-m
 unfolding answer_on
 returns-then-not-m c = let a = c.args in let s = a.s.now in let d = a.left - 1 in
-    sym (ap answer_read (frame-none (answer_from d s) (first (goal.at.returns-then-not-m c).After-begin-m) (c.if-not-m.true)))
+    sym (ap answer_read (frame-none (answer_from d s) (first (goal.at.returns-then-not-m c).After-begin-m) (not-true _ c.if-not-m.true)))
 
 pub returns-then-m-ge10 : goal.returns-then-m-ge10
 unfolding answer_on
-returns-then-m-ge10 c = let a = c.args in let s = a.s.now in let d = a.left - 1 in let L = first (goal.at.returns-then-m-ge10 c).After-begin-m in let g = c.if-not-m.false in let xs = c.begin-m.new.at in
+returns-then-m-ge10 c = let a = c.args in let s = a.s.now in let d = a.left - 1 in let L = first (goal.at.returns-then-m-ge10 c).After-begin-m in let g = not-false _ c.if-not-m.false in let xs = c.begin-m.new.at in
     sym (ap answer_read (frame-end (answer_from d s) L g c.if-m-ge10.true (answer-lacks-path d s xs (required-none (path_at d s) (get_or xs 0 0) (L.passed g 0 refl (λ z. (let o = c.if-m-ge10.true in omega arith)))))))
 
 pub returns-in_default : goal.returns-in_default
@@ -53,11 +54,11 @@ returns-in_default c = let a = c.args in let s = a.s.now in let d = a.left - 1 i
 
 pub returns-then-not-z : goal.returns-then-not-z
 unfolding answer_on
-returns-then-not-z c = sym (ap answer_read ((after (goal.at.returns-then-not-z c).After-finish-z).none (c.if-not-z.true)))
+returns-then-not-z c = sym (ap answer_read ((after (goal.at.returns-then-not-z c).After-finish-z).none (not-true _ c.if-not-z.true)))
 
 pub returns-then-q-eq0 : goal.returns-then-q-eq0
 unfolding answer_on
-returns-then-q-eq0 c = let a = c.args in let s = a.s.now in let d = a.left - 1 in let z = after (goal.at.returns-then-q-eq0 c).After-finish-z in let g = c.if-not-z.false in let xs = c.finish-z.new.at in
+returns-then-q-eq0 c = let a = c.args in let s = a.s.now in let d = a.left - 1 in let z = after (goal.at.returns-then-q-eq0 c).After-finish-z in let g = not-false _ c.if-not-z.false in let xs = c.finish-z.new.at in
     sym (ap answer_read (z.ends g (answer-lacks-status d s xs (required-none (status_at d s) (get_or xs 1 0) c.if-q-eq0.true))))
 
 pub overflow_sub-left-3 : goal.overflow_sub-left-3
@@ -65,10 +66,10 @@ overflow_sub-left-3 c = omega (arith, pos_of_ne-zero c.if-left-eq0.false)
 
 pub returns-in_default-status_at : goal.returns-in_default-status_at
 unfolding answer_on
-returns-in_default-status_at c = let a = c.args in let s = a.s.now in let d = a.left - 1 in let z = after (goal.at.returns-in_default-status_at c).After-finish-z in let g = c.if-not-z.false in let xs = c.finish-z.new.at in
+returns-in_default-status_at c = let a = c.args in let s = a.s.now in let d = a.left - 1 in let z = after (goal.at.returns-in_default-status_at c).After-finish-z in let g = not-false _ c.if-not-z.false in let xs = c.finish-z.new.at in
     sym (ap answer_read (z.ends g (answer-lacks-status d s xs (required-some (status_at d s) (get_or xs 1 0) c.if-q-eq0.false (status-lacks _ (sym c.status_at.ensures ∙ c.in_default-status_at.is))))))
 
 pub returns : goal.returns
 unfolding answer_on
-returns c = let a = c.args in let s = a.s.now in let d = a.left - 1 in let z = after (goal.at.returns c).After-finish-z in let g = c.if-not-z.false in let xs = c.finish-z.new.at in
+returns c = let a = c.args in let s = a.s.now in let d = a.left - 1 in let z = after (goal.at.returns c).After-finish-z in let g = not-false _ c.if-not-z.false in let xs = c.finish-z.new.at in
     sym (ap answer_read (z.ends g (answer-has d s xs (z.found g) (required-some (status_at d s) (get_or xs 1 0) c.if-q-eq0.false (status-has _ (sym c.status_at.ensures ∙ c.in-Status.is))))))

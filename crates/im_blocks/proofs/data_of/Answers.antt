@@ -3,6 +3,7 @@ use mathlib.Core.Bool.{true, false}
 use mathlib.Core.List.{◌∷◌}
 use Prim.Native.Nat.{◌-◌}
 use native.Mathlib.Omega.{arith}
+use borrow.Author.Tests.{not-true, not-false}
 use lib.ListN.{get_or, replicate}
 use Rattle.tlv_reader.specs.Octet.{structure}
 use Rattle.im_members.specs.Pass.{pass_with, inside_on}
@@ -37,11 +38,11 @@ returns-then-left-eq0 c = let a = c.args in let s = a.s.now in let d = a.left - 
 pub returns-then-not-m : goal.returns-then-not-m
 unfolding data_on
 returns-then-not-m c = let a = c.args in let s = a.s.now in let d = a.left - 1 in
-    sym (ap data_read (frame-none (data_from d s) (first (goal.at.returns-then-not-m c).After-begin-m) (c.if-not-m.true)))
+    sym (ap data_read (frame-none (data_from d s) (first (goal.at.returns-then-not-m c).After-begin-m) (not-true _ c.if-not-m.true)))
 
 pub returns-then-m-ge10 : goal.returns-then-m-ge10
 unfolding data_on
-returns-then-m-ge10 c = let a = c.args in let s = a.s.now in let d = a.left - 1 in let L = first (goal.at.returns-then-m-ge10 c).After-begin-m in let g = c.if-not-m.false in let xs = c.begin-m.new.at in
+returns-then-m-ge10 c = let a = c.args in let s = a.s.now in let d = a.left - 1 in let L = first (goal.at.returns-then-m-ge10 c).After-begin-m in let g = not-false _ c.if-not-m.false in let xs = c.begin-m.new.at in
     sym (ap data_read (frame-end (data_from d s) L g c.if-m-ge10.true (data-lacks-path d s xs (required-none (path_at d s) (get_or xs 1 0) (L.passed g 1 refl (λ z. (let o = c.if-m-ge10.true in omega arith)))))))
 
 pub returns-in_default : goal.returns-in_default
@@ -51,21 +52,19 @@ returns-in_default c = let a = c.args in let s = a.s.now in let d = a.left - 1 i
 
 pub returns-then-not-z : goal.returns-then-not-z
 unfolding data_on
-returns-then-not-z c = sym (ap data_read ((after (goal.at.returns-then-not-z c).After-finish-z).none (c.if-not-z.true)))
+returns-then-not-z c = sym (ap data_read ((after (goal.at.returns-then-not-z c).After-finish-z).none (not-true _ c.if-not-z.true)))
 
 pub returns-then-q-eq0 : goal.returns-then-q-eq0
 unfolding data_on
-returns-then-q-eq0 c = let a = c.args in let s = a.s.now in let d = a.left - 1 in let z = after (goal.at.returns-then-q-eq0 c).After-finish-z in let g = c.if-not-z.false in let xs = c.finish-z.new.at in
+returns-then-q-eq0 c = let a = c.args in let s = a.s.now in let d = a.left - 1 in let z = after (goal.at.returns-then-q-eq0 c).After-finish-z in let g = not-false _ c.if-not-z.false in let xs = c.finish-z.new.at in
     sym (ap data_read (z.ends g (data-lacks-data d s xs c.if-q-eq0.true)))
 
 pub returns-then-version-eq-WRONG : goal.returns-then-version-eq-WRONG
 unfolding data_on
-returns-then-version-eq-WRONG c = let a = c.args in let s = a.s.now in let d = a.left - 1 in let z = after (goal.at.returns-then-version-eq-WRONG c).After-finish-z in let g = c.if-not-z.false in let xs = c.finish-z.new.at in
+returns-then-version-eq-WRONG c = let a = c.args in let s = a.s.now in let d = a.left - 1 in let z = after (goal.at.returns-then-version-eq-WRONG c).After-finish-z in let g = not-false _ c.if-not-z.false in let xs = c.finish-z.new.at in
     sym (ap data_read (z.ends g (data-wrong d s xs (number-coded s _ xs z.coded 0 _ _ (omega arith) c.number_by-version.ensures) c.if-version-eq-WRONG.true)))
 
 pub returns : goal.returns
 unfolding data_on
-returns c = let a = c.args in let s = a.s.now in let d = a.left - 1 in let z = after (goal.at.returns c).After-finish-z in let g = c.if-not-z.false in let xs = c.finish-z.new.at in
+returns c = let a = c.args in let s = a.s.now in let d = a.left - 1 in let z = after (goal.at.returns c).After-finish-z in let g = not-false _ c.if-not-z.false in let xs = c.finish-z.new.at in
     sym (ap data_read (z.ends g (data-has d s xs (z.found g) c.if-q-eq0.false (number-coded s _ xs z.coded 0 _ _ (omega arith) c.number_by-version.ensures) c.if-version-eq-WRONG.false)))
-
-pub data-of-spec : {M : Type 1} → statement M

@@ -3,6 +3,7 @@ use mathlib.Core.Bool.{true, false}
 use mathlib.Core.List.{◌∷◌}
 use Prim.Native.Nat.{◌-◌}
 use native.Mathlib.Omega.{arith}
+use borrow.Author.Tests.{not-true, not-false}
 use lib.ListN.{get_or, replicate}
 use Rattle.tlv_reader.specs.Octet.{structure}
 use Rattle.im_members.specs.Pass.{pass_with, inside_on}
@@ -36,11 +37,11 @@ returns-then-left-eq0 c = let a = c.args in let s = a.s.now in let d = a.left - 
 pub returns-then-not-m : goal.returns-then-not-m
 unfolding filter_on
 returns-then-not-m c = let a = c.args in let s = a.s.now in let d = a.left - 1 in
-    sym (ap filter_read (frame-none (filter_from d s) (first (goal.at.returns-then-not-m c).After-begin-m) (c.if-not-m.true)))
+    sym (ap filter_read (frame-none (filter_from d s) (first (goal.at.returns-then-not-m c).After-begin-m) (not-true _ c.if-not-m.true)))
 
 pub returns-then-m-ge10 : goal.returns-then-m-ge10
 unfolding filter_on
-returns-then-m-ge10 c = let a = c.args in let s = a.s.now in let d = a.left - 1 in let L = first (goal.at.returns-then-m-ge10 c).After-begin-m in let g = c.if-not-m.false in let xs = c.begin-m.new.at in
+returns-then-m-ge10 c = let a = c.args in let s = a.s.now in let d = a.left - 1 in let L = first (goal.at.returns-then-m-ge10 c).After-begin-m in let g = not-false _ c.if-not-m.false in let xs = c.begin-m.new.at in
     sym (ap filter_read (frame-end (filter_from d s) L g c.if-m-ge10.true (filter-lacks d s xs (required-none (cluster_at d s) (get_or xs 0 0) (L.passed g 0 refl (λ z. (let o = c.if-m-ge10.true in omega arith)))))))
 
 pub returns-in_default : goal.returns-in_default
@@ -50,14 +51,14 @@ returns-in_default c = let a = c.args in let s = a.s.now in let d = a.left - 1 i
 
 pub returns-then-not-z : goal.returns-then-not-z
 unfolding filter_on
-returns-then-not-z c = sym (ap filter_read ((after (goal.at.returns-then-not-z c).After-finish-z).none (c.if-not-z.true)))
+returns-then-not-z c = sym (ap filter_read ((after (goal.at.returns-then-not-z c).After-finish-z).none (not-true _ c.if-not-z.true)))
 
 pub returns-then-version-ge-ABSENT : goal.returns-then-version-ge-ABSENT
 unfolding filter_on
-returns-then-version-ge-ABSENT c = let a = c.args in let s = a.s.now in let d = a.left - 1 in let z = after (goal.at.returns-then-version-ge-ABSENT c).After-finish-z in let g = c.if-not-z.false in let xs = c.finish-z.new.at in
+returns-then-version-ge-ABSENT c = let a = c.args in let s = a.s.now in let d = a.left - 1 in let z = after (goal.at.returns-then-version-ge-ABSENT c).After-finish-z in let g = not-false _ c.if-not-z.false in let xs = c.finish-z.new.at in
     sym (ap filter_read (z.ends g (filter-has d s xs (z.found g) (number-coded s _ xs z.coded 1 _ _ (omega arith) c.number_by-version.ensures) ∙ filter-over _ _ c.if-version-ge-ABSENT.true)))
 
 pub returns : goal.returns
 unfolding filter_on
-returns c = let a = c.args in let s = a.s.now in let d = a.left - 1 in let z = after (goal.at.returns c).After-finish-z in let g = c.if-not-z.false in let xs = c.finish-z.new.at in
+returns c = let a = c.args in let s = a.s.now in let d = a.left - 1 in let z = after (goal.at.returns c).After-finish-z in let g = not-false _ c.if-not-z.false in let xs = c.finish-z.new.at in
     sym (ap filter_read (z.ends g (filter-has d s xs (z.found g) (number-coded s _ xs z.coded 1 _ _ (omega arith) c.number_by-version.ensures) ∙ filter-under _ _ c.if-version-ge-ABSENT.false)))

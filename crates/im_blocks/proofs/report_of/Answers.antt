@@ -4,6 +4,7 @@ use mathlib.Core.List.{◌∷◌}
 use Prim.Native.Nat.{◌-◌}
 use native.Mathlib.Omega.{arith}
 use native.Mathlib.Nat.{pos_of_ne-zero}
+use borrow.Author.Tests.{not-true, not-false}
 use lib.ListN.{replicate}
 use Rattle.tlv_reader.specs.Octet.{structure}
 use Rattle.im_members.specs.Pass.{pass_with, inside_on}
@@ -43,11 +44,11 @@ returns-then-left-eq0 c = let a = c.args in let s = a.s.now in let d = a.left - 
 pub returns-then-not-m : goal.returns-then-not-m
 unfolding report_on
 returns-then-not-m c = let a = c.args in let s = a.s.now in let d = a.left - 1 in
-    sym (ap report_read (frame-none (report_from d s) (first (goal.at.returns-then-not-m c).After-begin-m) (c.if-not-m.true)))
+    sym (ap report_read (frame-none (report_from d s) (first (goal.at.returns-then-not-m c).After-begin-m) (not-true _ c.if-not-m.true)))
 
 pub returns-then-m-ge10 : goal.returns-then-m-ge10
 unfolding report_on
-returns-then-m-ge10 c = let a = c.args in let s = a.s.now in let d = a.left - 1 in let L = first (goal.at.returns-then-m-ge10 c).After-begin-m in let g = c.if-not-m.false in let o = c.if-m-ge10.true in
+returns-then-m-ge10 c = let a = c.args in let s = a.s.now in let d = a.left - 1 in let L = first (goal.at.returns-then-m-ge10 c).After-begin-m in let g = not-false _ c.if-not-m.false in let o = c.if-m-ge10.true in
     sym (ap report_read (frame-end (report_from d s) L g c.if-m-ge10.true (report-neither d s c.begin-m.new.at (L.passed g 0 refl (λ z. omega arith)) (L.passed g 1 refl (λ z. omega arith)))))
 
 pub returns-in_default : goal.returns-in_default
@@ -60,16 +61,16 @@ overflow_sub-left-then-m-eq0 c = omega (arith, pos_of_ne-zero c.if-left-eq0.fals
 
 pub returns-then-not-z : goal.returns-then-not-z
 unfolding report_on
-returns-then-not-z c = sym (ap report_read ((status-after (goal.at.returns-then-not-z c).After-finish-z).none (c.if-not-z.true)))
+returns-then-not-z c = sym (ap report_read ((status-after (goal.at.returns-then-not-z c).After-finish-z).none (not-true _ c.if-not-z.true)))
 
 pub returns-then-at-ne0 : goal.returns-then-at-ne0
 unfolding report_on
-returns-then-at-ne0 c = let a = c.args in let s = a.s.now in let d = a.left - 1 in let z = status-after (goal.at.returns-then-at-ne0 c).After-finish-z in let g = c.if-not-z.false in let xs = c.finish-z.new.at in
+returns-then-at-ne0 c = let a = c.args in let s = a.s.now in let d = a.left - 1 in let z = status-after (goal.at.returns-then-at-ne0 c).After-finish-z in let g = not-false _ c.if-not-z.false in let xs = c.finish-z.new.at in
     sym (ap report_read (z.ends g (report-both d s xs (z.there g) c.if-at-ne0.true)))
 
 pub returns-then-m-eq0 : goal.returns-then-m-eq0
 unfolding report_on
-returns-then-m-eq0 c = let a = c.args in let s = a.s.now in let d = a.left - 1 in let z = status-after (goal.at.returns-then-m-eq0 c).After-finish-z in let g = c.if-not-z.false in let xs = c.finish-z.new.at in
+returns-then-m-eq0 c = let a = c.args in let s = a.s.now in let d = a.left - 1 in let z = status-after (goal.at.returns-then-m-eq0 c).After-finish-z in let g = not-false _ c.if-not-z.false in let xs = c.finish-z.new.at in
     sym (ap report_read (z.ends g (report-status d s xs (z.there g) c.if-at-ne0.false (z.found g))))
 
 pub returns-in_default-data_of : goal.returns-in_default-data_of
@@ -82,14 +83,14 @@ overflow_sub-left-3 c = omega (arith, pos_of_ne-zero c.if-left-eq0.false)
 
 pub returns-then-not-z-2 : goal.returns-then-not-z-2
 unfolding report_on
-returns-then-not-z-2 c = sym (ap report_read ((data-after (goal.at.returns-then-not-z-2 c).After-finish-z-2).none (c.if-not-z-2.true)))
+returns-then-not-z-2 c = sym (ap report_read ((data-after (goal.at.returns-then-not-z-2 c).After-finish-z-2).none (not-true _ c.if-not-z-2.true)))
 
 pub returns-then-at-ne0-2 : goal.returns-then-at-ne0-2
 unfolding report_on
-returns-then-at-ne0-2 c = let a = c.args in let s = a.s.now in let d = a.left - 1 in let z = data-after (goal.at.returns-then-at-ne0-2 c).After-finish-z-2 in let g = c.if-not-z-2.false in let xs = c.finish-z-2.new.at in
+returns-then-at-ne0-2 c = let a = c.args in let s = a.s.now in let d = a.left - 1 in let z = data-after (goal.at.returns-then-at-ne0-2 c).After-finish-z-2 in let g = not-false _ c.if-not-z-2.false in let xs = c.finish-z-2.new.at in
     sym (ap report_read (z.ends g (report-both d s xs c.if-at-ne0-2.true (z.there g))))
 
 pub returns : goal.returns
 unfolding report_on data_found
-returns c = let a = c.args in let s = a.s.now in let d = a.left - 1 in let z = data-after (goal.at.returns c).After-finish-z-2 in let g = c.if-not-z-2.false in let xs = c.finish-z-2.new.at in
+returns c = let a = c.args in let s = a.s.now in let d = a.left - 1 in let z = data-after (goal.at.returns c).After-finish-z-2 in let g = not-false _ c.if-not-z-2.false in let xs = c.finish-z-2.new.at in
     sym (ap report_read (z.ends g (report-data d s xs c.if-at-ne0-2.false (z.there g) (z.found g))))

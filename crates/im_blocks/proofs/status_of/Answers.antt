@@ -1,6 +1,7 @@
 use mathlib.Core.Path.{◌≡◌, sym, ap, ◌∙◌}
 use mathlib.Core.Bool.{false}
 use native.Mathlib.Omega.{arith}
+use borrow.Author.Tests.{not-true, not-false}
 use lib.ListN.{replicate}
 use Rattle.tlv_reader.specs.Octet.{structure}
 use Rattle.tlv_reader.specs.Decode.{Opt, place}
@@ -25,11 +26,11 @@ gathered c = record { code = c.number_by.result; cluster = c.number_by-2.result 
 read : (c : After-number_by-2) {o : Opt Status} → checked sound_status (gathered c) ≡ o → status_on c.args.left c.args.s.now c.args.e ≡ place o c.begin-m.result.head.next.at
 unfolding status_on
 read c q = let s = c.args.s.now in let L = (begun c.args.left c.args.e c.begin-m.ensures) in let k = L.coded in let xs = c.begin-m.new.at in
-    frame-end (status_from s) L (c.if-not-m.false) (nowhere L) (status-gathered s xs (gathered c) (number-coded s _ xs k 0 _ _ (omega arith) c.number_by.ensures) (number-coded s _ xs k 1 _ _ (omega arith) c.number_by-2.ensures) ∙ q)
+    frame-end (status_from s) L (not-false _ c.if-not-m.false) (nowhere L) (status-gathered s xs (gathered c) (number-coded s _ xs k 0 _ _ (omega arith) c.number_by.ensures) (number-coded s _ xs k 1 _ _ (omega arith) c.number_by-2.ensures) ∙ q)
 
 pub returns-then-not-m : goal.returns-then-not-m
 unfolding status_on
-returns-then-not-m c = sym (ap status_read (frame-none (status_from c.args.s.now) (over (goal.at.returns-then-not-m c).After-begin-m) (c.if-not-m.true)))
+returns-then-not-m c = sym (ap status_read (frame-none (status_from c.args.s.now) (over (goal.at.returns-then-not-m c).After-begin-m) (not-true _ c.if-not-m.true)))
 
 pub returns-then-not-sound_status : goal.returns-then-not-sound_status
 returns-then-not-sound_status c = sym (ap status_read (read (goal.at.returns-then-not-sound_status c).After-number_by-2 (checked-no sound_status _ (sym c.sound_status.ensures ∙ c.if-not-sound_status.true))))
