@@ -9,8 +9,7 @@ use Rattle.im_writer.proofs.put_revision.Goals as goal
 pub returns : goal.returns
 unfolding spelling datum_octets writer_tag revision
 returns c =
-    let p = q.before.before.before.before in
-    then p.put-unsigned.ensures c.put_end.ensures
+    then c.put_unsigned-p.ensures c.put_end.ensures
 
 pub put_unsigned-p-requires : goal.put_unsigned-p-requires
 unfolding spelling datum_octets writer_tag revision

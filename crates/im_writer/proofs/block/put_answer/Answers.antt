@@ -9,11 +9,7 @@ use Rattle.im_writer.proofs.block.put_answer.Goals as goal
 pub returns : goal.returns
 unfolding spelling datum_octets writer_tag answer_members status_tree
 returns c =
-    let s = t.before.before.before.before in
-    let r = s.before.before.before.before in
-    let q = r.before.before.before.before in
-    let p = q.before.before.before.before in
-    then p.put-path.ensures (then (then q.put-open.ensures (then r.put-unsigned.ensures s.put-end.ensures)) c.put_end-s.ensures)
+    then c.put_path-p.ensures (then (then c.put_open-q.ensures (then c.put_unsigned-r.ensures c.put_end-s.ensures)) c.put_end.ensures)
 
 pub put_path-p-requires : goal.put_path-p-requires
 unfolding spelling datum_octets writer_tag answer_members status_tree

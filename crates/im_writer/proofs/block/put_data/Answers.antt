@@ -10,9 +10,7 @@ use Rattle.im_writer.proofs.block.put_data.Goals as goal
 pub returns : goal.returns
 unfolding spelling datum_octets writer_tag data_members
 returns c =
-    let q = r.before.before.before.before in
-    let p = q.before.before.before.before in
-    rw datum-back (then p.put-path.ensures (then q.put-value.ensures c.put_end.ensures))
+    rw datum-back (then c.put_path-p.ensures (then c.put_value-q.ensures c.put_end.ensures))
 
 pub put_path-p-requires : goal.put_path-p-requires
 unfolding spelling datum_octets writer_tag data_members

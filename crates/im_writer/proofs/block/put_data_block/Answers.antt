@@ -9,11 +9,7 @@ use Rattle.im_writer.proofs.block.put_data_block.Goals as goal
 pub returns : goal.returns
 unfolding spelling datum_octets writer_tag data_block_tree
 returns c =
-    let s = t.before.before.before.before in
-    let r = s.before.before.before.before in
-    let q = r.before.before.before.before in
-    let p = q.before.before.before.before in
-    then p.put-open.ensures (then (then q.put-open2.ensures (then r.put-unsigned.ensures s.put-data.ensures)) c.put_end.ensures)
+    then c.put_open-p.ensures (then (then c.put_open-q.ensures (then c.put_unsigned-r.ensures c.put_data-s.ensures)) c.put_end.ensures)
 
 pub put_open-p-requires : goal.put_open-p-requires
 unfolding spelling datum_octets writer_tag data_block_tree

@@ -9,11 +9,7 @@ use Rattle.im_writer.proofs.block.put_path.Goals as goal
 pub returns : goal.returns
 unfolding spelling datum_octets writer_tag path_tree
 returns c =
-    let s = t.before.before.before.before in
-    let r = s.before.before.before.before in
-    let q = r.before.before.before.before in
-    let p = q.before.before.before.before in
-    then p.put-open.ensures (then q.put-unsigned.ensures (then r.put-unsigned2.ensures (then s.put-unsigned3.ensures c.put_end.ensures)))
+    then c.put_open-p.ensures (then c.put_unsigned-q.ensures (then c.put_unsigned-r.ensures (then c.put_unsigned-s.ensures c.put_end.ensures)))
 
 pub put_open-p-requires : goal.put_open-p-requires
 unfolding spelling datum_octets writer_tag path_tree

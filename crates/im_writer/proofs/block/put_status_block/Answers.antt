@@ -9,10 +9,7 @@ use Rattle.im_writer.proofs.block.put_status_block.Goals as goal
 pub returns : goal.returns
 unfolding spelling datum_octets writer_tag status_block_tree
 returns c =
-    let r = s.before.before.before.before in
-    let q = r.before.before.before.before in
-    let p = q.before.before.before.before in
-    then p.put-open.ensures (then (then q.put-open2.ensures r.put-answer.ensures) c.put_end.ensures)
+    then c.put_open-p.ensures (then (then c.put_open-q.ensures c.put_answer-r.ensures) c.put_end.ensures)
 
 pub put_open-p-requires : goal.put_open-p-requires
 unfolding spelling datum_octets writer_tag status_block_tree

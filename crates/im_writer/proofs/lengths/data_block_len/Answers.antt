@@ -7,5 +7,3 @@ pub returns : goal.returns
 returns c =
     let a = c.args in
     omega (arith, c.value_len.ensures, same-path a.endpoint a.cluster a.attribute 1, length-data-block a.endpoint a.cluster a.attribute a.version (datum_in a.page.now a.v), width32 a.version c.ranges.version.fits)
-
-pub data-block-len-spec : {M : Type 1} → statement M

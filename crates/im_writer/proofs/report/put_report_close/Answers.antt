@@ -7,8 +7,7 @@ use Rattle.im_writer.proofs.report.put_report_close.Goals as goal
 pub returns : goal.returns
 unfolding report_closing
 returns c =
-    let p = q.before.before.before.before in
-    then p.put-end.ensures c.put_report_ending.ensures
+    then c.put_end-p.ensures c.put_report_ending.ensures
 
 pub put_end-p-requires : goal.put_end-p-requires
 unfolding report_closing

@@ -8,8 +8,7 @@ use Rattle.im_writer.proofs.report.put_report_empty.Goals as goal
 pub returns : goal.returns
 unfolding spelling report_members writer_tag
 returns c =
-    let p = q.before.before.before.before in
-    then p.put-open.ensures c.put_report_ending.ensures
+    then c.put_open-p.ensures c.put_report_ending.ensures
 
 pub put_open-p-requires : goal.put_open-p-requires
 unfolding spelling report_members writer_tag

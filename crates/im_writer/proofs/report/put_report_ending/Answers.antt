@@ -9,14 +9,12 @@ use Rattle.im_writer.proofs.report.put_report_ending.Goals as goal
 pub returns-then-more : goal.returns-then-more
 unfolding spelling datum_octets writer_tag report_ending
 returns-then-more c =
-    let p = q.before.before.before.before in
-    rw p.before.before.if1.true (then p.put-boolean.ensures c.put_revision.ensures)
+    rw c.if-more.true (then c.put_boolean-p.ensures c.put_revision.ensures)
 
 pub returns : goal.returns
 unfolding spelling datum_octets writer_tag report_ending
 returns c =
-    let p = q.before.before.before.before in
-    rw p.before.before.if1.false (then p.put-boolean2.ensures c.put_revision-2.ensures)
+    rw c.if-more.false (then c.put_boolean-q.ensures c.put_revision-2.ensures)
 
 pub put_boolean-p-requires : goal.put_boolean-p-requires
 unfolding spelling datum_octets writer_tag report_ending

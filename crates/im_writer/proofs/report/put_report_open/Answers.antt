@@ -7,8 +7,7 @@ use Rattle.im_writer.proofs.report.put_report_open.Goals as goal
 pub returns : goal.returns
 unfolding report_opening
 returns c =
-    let p = q.before.before.before.before in
-    then p.put-open.ensures c.put_open-p.ensures
+    then c.put_open-p.ensures c.put_open.ensures
 
 pub put_open-p-requires : goal.put_open-p-requires
 unfolding report_opening

@@ -9,9 +9,7 @@ use Rattle.im_writer.proofs.response.put_status_response.Goals as goal
 pub returns : goal.returns
 unfolding spelling datum_octets writer_tag status_members
 returns c =
-    let q = r.before.before.before.before in
-    let p = q.before.before.before.before in
-    then p.put-open.ensures (then q.put-unsigned.ensures c.put_revision.ensures)
+    then c.put_open-p.ensures (then c.put_unsigned-q.ensures c.put_revision.ensures)
 
 pub put_open-p-requires : goal.put_open-p-requires
 unfolding spelling datum_octets writer_tag status_members

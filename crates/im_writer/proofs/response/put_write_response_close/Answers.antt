@@ -7,8 +7,7 @@ use Rattle.im_writer.proofs.response.put_write_response_close.Goals as goal
 pub returns : goal.returns
 unfolding response_closing
 returns c =
-    let p = q.before.before.before.before in
-    then p.put-end.ensures c.put_revision.ensures
+    then c.put_end-p.ensures c.put_revision.ensures
 
 pub put_end-p-requires : goal.put_end-p-requires
 unfolding response_closing
