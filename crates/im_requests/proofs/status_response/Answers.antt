@@ -9,20 +9,20 @@ use Rattle.im_requests.proofs.status_response.Goals as goal
 
 pub returns-then-not-is_whole : goal.returns-then-not-is_whole
 unfolding response_in
-returns-then-not-is_whole c = let s = c.args.s.now in let m = c.begin_message-m in let xs = m.new.1.1.1.0 in let ks = m.new.1.1.1.1.0 in let L = opened m.ensures in
+returns-then-not-is_whole c = let s = c.args.s.now in let m = c.begin_message-m in let xs = m.new.at in let ks = m.new.codes in let L = opened m.ensures in
     sym (ap response_read (whole-short (response_from s) L (nowhere L) (sym (c.is_whole.ensures xs ks) ∙ c.if-not-is_whole.true)))
 
 pub returns-then-code-ge-ABSENT : goal.returns-then-code-ge-ABSENT
 unfolding response_in
-returns-then-code-ge-ABSENT c = let s = c.args.s.now in let m = c.begin_message-m in let xs = m.new.1.1.1.0 in let ks = m.new.1.1.1.1.0 in let L = opened m.ensures in
+returns-then-code-ge-ABSENT c = let s = c.args.s.now in let m = c.begin_message-m in let xs = m.new.at in let ks = m.new.codes in let L = opened m.ensures in
     sym (ap response_read (whole-ends (response_from s) L (nowhere L) (sym (c.is_whole.ensures xs ks) ∙ c.if-not-is_whole.false) (response-no-code s xs (number-coded s ks xs L.coded 0 255 false (omega arith) c.number_by-code.ensures) c.if-code-ge-ABSENT.true)))
 
 pub returns-then-revision-ge-ABSENT : goal.returns-then-revision-ge-ABSENT
 unfolding response_in
-returns-then-revision-ge-ABSENT c = let s = c.args.s.now in let m = c.begin_message-m in let xs = m.new.1.1.1.0 in let ks = m.new.1.1.1.1.0 in let L = opened m.ensures in
+returns-then-revision-ge-ABSENT c = let s = c.args.s.now in let m = c.begin_message-m in let xs = m.new.at in let ks = m.new.codes in let L = opened m.ensures in
     sym (ap response_read (whole-ends (response_from s) L (nowhere L) (sym (c.is_whole.ensures xs ks) ∙ c.if-not-is_whole.false) (response-no-revision s xs (number-coded s ks xs L.coded 9 255 false (omega arith) c.number_by-revision.ensures) c.if-revision-ge-ABSENT.true)))
 
 pub returns : goal.returns
 unfolding response_in
-returns c = let s = c.args.s.now in let m = c.begin_message-m in let xs = m.new.1.1.1.0 in let ks = m.new.1.1.1.1.0 in let L = opened m.ensures in
+returns c = let s = c.args.s.now in let m = c.begin_message-m in let xs = m.new.at in let ks = m.new.codes in let L = opened m.ensures in
     sym (ap response_read (whole-ends (response_from s) L (nowhere L) (sym (c.is_whole.ensures xs ks) ∙ c.if-not-is_whole.false) (response-has s xs (number-coded s ks xs L.coded 0 255 false (omega arith) c.number_by-code.ensures) c.if-code-ge-ABSENT.false (number-coded s ks xs L.coded 9 255 false (omega arith) c.number_by-revision.ensures) c.if-revision-ge-ABSENT.false)))

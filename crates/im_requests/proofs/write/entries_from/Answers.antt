@@ -36,4 +36,4 @@ loop-kept-smaller c = let a = c.args in let d = a.left in let s = a.s.now in let
 
 pub loop-kept-preserved : goal.loop-kept-preserved
 loop-kept-preserved c = let a = c.args in let d = a.left in let s = a.s.now in let l = c.loop-kept in let o = a.kept.now in let g = entries_at d s a.c.at in let x = entry-some (entry_on d s _) (sym c.entry_at.ensures ∙ c.in-WriteEntry.is) in
-    loop-goes kept_words write_limit o d s (entry-reads d s) g l.invariant (sym c.item_at-item.ensures ∙ c.in-Member.is) x.found entry_size (λ x. refl) (c.keep_entry.ensures ∙ ap (λ (y : WriteEntry). keep_more write_limit entry_size entry_words l.auto l.count y) x.is)
+    loop-goes kept_words write_limit o d s (entry-reads d s) g l.invariant (sym c.item_at-item.ensures ∙ c.in-Member.is) x.found entry_size (λ x. refl) (c.keep_entry.ensures ∙ ap (λ (y : WriteEntry). keep_more write_limit entry_size entry_words l.kept l.count y) x.is)

@@ -2,6 +2,7 @@ use mathlib.Core.Path.{◌≡◌, refl, sym, ap, ◌∙◌}
 use Prim.Native.Nat.{ℕ, ◌*◌}
 use native.Mathlib.Omega.{arith}
 use lib.ListN.{length, replicate}
+use borrow.Author.Tests.{not-true, not-false}
 use Rattle.base_bounds.specs.Bounds.{write_limit}
 use Rattle.im_members.specs.Pass.{Pass, pass_with}
 use Rattle.im_members.proofs.ArrayLaws.{required-none}
@@ -21,30 +22,30 @@ returns-then-m-ge10 c = let s = c.args.s.now in let old = c.args.entries.now in 
 pub returns-then-not-f : goal.returns-then-not-f
 unfolding write_in
 returns-then-not-f c = let s = c.args.s.now in let old = c.args.entries.now in let m = c.begin_message-m in let L = opened m.ensures in let l = c.if-m-ge10.false in let is = only_third _ (L.stopped l).wanted in let f = c.entries_of-f in
-    let b = entries-bad s m.result.head old f.ensures (c.if-not-f.true) in
+    let b = entries-bad s m.result.head old f.ensures (not-true _ c.if-not-f.true) in
     let e = f.ensures ∙ ap (list_read write_limit entry_size kept_words old) b in
     (λ j. write_with (c.refused_write-then-not-f.ensures j) (e j).kept.words) ∙ sym (ap (write_kept old) (whole-refused write_tags (write_from s) s (nest-refused L is l (entries-reads s) (write_from s) b (λ xs n k. write-lacks s xs k))))
 
 pub returns-then-not-r : goal.returns-then-not-r
 returns-then-not-r c = let s = c.args.s.now in let old = c.args.entries.now in let m = c.begin_message-m in let L = opened m.ensures in let l = c.if-m-ge10.false in let is = only_third _ (L.stopped l).wanted in let f = c.entries_of-f in let z = c.finish-z in
-    let xs = z.new.1.1.1.1.1.0 in let Z : Pass = pass_with z.result xs z.new.1.1.1.1.1.1.0 in let K : Kept = record { count = f.result.count; words = f.new.1.1.1.0 } in
-    let k = entries-good s m.result.head old f.ensures (c.if-not-f.false) in
+    let xs = z.new.at in let Z : Pass = pass_with z.result xs z.new.codes in let K : Kept = record { count = f.result.count; words = f.new.kept } in
+    let k = entries-good s m.result.head old f.ensures (not-false _ c.if-not-f.false) in
     let N = nest-on L is l (entries-reads s) k.1 _ z.ensures in
     let r = c.write_of-r in
     let p : kept_of old r.result K ≡ write_kept old (write_in s) =
     (λ j. kept_of old (r.ensures xs j) (k.2 j))
     ∙ ap (λ (n : ℕ). kept_of old (write_by (length s) Z n) (kept_as write_limit kept_words old k.0)) (ap (λ (y : Kept). y.count) k.2)
     ∙ write-passed old N (nowhere N) k.0 (λ h. nest-found L is l (entries-reads s) k.1 _ z.ensures h) in
-    ap (λ (y : WriteCounts). write_with y (replicate (write_limit * entry_size) 0)) c.refused_write-then-not-r.ensures ∙ kept-none old (write_in s) r.result K p (c.if-not-r.true)
+    ap (λ (y : WriteCounts). write_with y (replicate (write_limit * entry_size) 0)) c.refused_write-then-not-r.ensures ∙ kept-none old (write_in s) r.result K p (not-true _ c.if-not-r.true)
 
 pub returns : goal.returns
 returns c = let s = c.args.s.now in let old = c.args.entries.now in let m = c.begin_message-m in let L = opened m.ensures in let l = c.if-m-ge10.false in let is = only_third _ (L.stopped l).wanted in let f = c.entries_of-f in let z = c.finish-z in
-    let xs = z.new.1.1.1.1.1.0 in let Z : Pass = pass_with z.result xs z.new.1.1.1.1.1.1.0 in let K : Kept = record { count = f.result.count; words = f.new.1.1.1.0 } in
-    let k = entries-good s m.result.head old f.ensures (c.if-not-f.false) in
+    let xs = z.new.at in let Z : Pass = pass_with z.result xs z.new.codes in let K : Kept = record { count = f.result.count; words = f.new.kept } in
+    let k = entries-good s m.result.head old f.ensures (not-false _ c.if-not-f.false) in
     let N = nest-on L is l (entries-reads s) k.1 _ z.ensures in
     let r = c.write_of-r in
     let p : kept_of old r.result K ≡ write_kept old (write_in s) =
     (λ j. kept_of old (r.ensures xs j) (k.2 j))
     ∙ ap (λ (n : ℕ). kept_of old (write_by (length s) Z n) (kept_as write_limit kept_words old k.0)) (ap (λ (y : Kept). y.count) k.2)
     ∙ write-passed old N (nowhere N) k.0 (λ h. nest-found L is l (entries-reads s) k.1 _ z.ensures h) in
-    kept-some old (write_in s) r.result K p (c.if-not-r.false)
+    kept-some old (write_in s) r.result K p (not-false _ c.if-not-r.false)
