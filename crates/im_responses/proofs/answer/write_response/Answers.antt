@@ -30,8 +30,8 @@ at-statuses c = only-first _ (((opened c.begin_message-m.ensures)).stopped c.if-
 second : (c : After-finish-z) → let s = c.args.s.now in Left 9 s structure answered_tags (replicate 10 false) c.begin_message-m.new.at (structure_at answered_tags s) (pass_with c.finish-z.result c.finish-z.new.at c.finish-z.new.codes)
 second c = nest-on ((opened c.begin_message-m.ensures)) ((only-first _ (((opened c.begin_message-m.ensures)).stopped c.if-m-ge10.false).wanted)) c.if-m-ge10.false (one-reads c.args.s.now) (one-some _ (sym c.one_of.ensures ∙ c.in-Only.is)) _ c.finish-z.ensures
 
-whole : (c : Else-not-is_whole) → let z = c.finish-z in whole_pass (length c.args.s.now) (pass_with z.result z.new.1.1.1.1.1.0 z.new.1.1.1.1.1.1.0) ≡ true
-whole c = let z = c.finish-z in sym (c.is_whole.ensures z.new.1.1.1.1.1.0 z.new.1.1.1.1.1.1.0) ∙ c.if-not-is_whole.false
+whole : (c : Else-not-is_whole) → let z = c.finish-z in whole_pass (length c.args.s.now) (pass_with z.result z.new.at z.new.codes) ≡ true
+whole c = let z = c.finish-z in sym (c.is_whole.ensures z.new.at z.new.codes) ∙ c.if-not-is_whole.false
 
 found : (c : Else-not-is_whole) → required_in (λ at. only_of (list_at answer_at 9 c.args.s.now at)) (get_or c.finish-z.new.at 0 0) ≡ just c.in-Only.x
 found c = nest-found ((opened c.begin_message-m.ensures)) ((only-first _ (((opened c.begin_message-m.ensures)).stopped c.if-m-ge10.false).wanted)) c.if-m-ge10.false (one-reads c.args.s.now) (one-some _ (sym c.one_of.ensures ∙ c.in-Only.is)) _ c.finish-z.ensures (whole-good _ _ (whole c))
@@ -53,7 +53,7 @@ returns-in_default c = let s = c.args.s.now in
 pub returns-then-not-is_whole : goal.returns-then-not-is_whole
 unfolding answered_in
 returns-then-not-is_whole c = let s = c.args.s.now in let z = c.finish-z in let N = second (goal.at.returns-then-not-is_whole c).After-finish-z in
-    sym (ap one_read (whole-short (answered_from s) N (nowhere N) (sym (c.is_whole.ensures z.new.1.1.1.1.1.0 z.new.1.1.1.1.1.1.0) ∙ c.if-not-is_whole.true)))
+    sym (ap one_read (whole-short (answered_from s) N (nowhere N) (sym (c.is_whole.ensures z.new.at z.new.codes) ∙ c.if-not-is_whole.true)))
 
 pub returns-then-revision-ge-ABSENT : goal.returns-then-revision-ge-ABSENT
 returns-then-revision-ge-ABSENT c = let s = c.args.s.now in let xs = c.finish-z.new.at in

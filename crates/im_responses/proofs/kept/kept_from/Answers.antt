@@ -38,4 +38,4 @@ loop-kept-smaller c = let a = c.args in let d = a.left in let s = a.s.now in let
 
 pub loop-kept-preserved : goal.loop-kept-preserved
 loop-kept-preserved c = let a = c.args in let d = a.left in let s = a.s.now in let l = c.loop-kept in let o = a.kept.now in let g = blocks_at d s a.c.at in let x = report-some (report_on d s _) (sym c.report_of.ensures ∙ c.in-Report.is) in
-    loop-goes block_words max_blocks o d s (report-reads d s) g l.invariant (sym c.item_at-item.ensures ∙ c.in-Member.is) x.found block_size block-wide (c.keep_three.ensures ∙ ap (λ (y : List ℕ). keep_more max_blocks 3 (λ z. z) l.auto l.count y) (c.words_of-w.ensures ∙ ap report_words x.is))
+    loop-goes block_words max_blocks o d s (report-reads d s) g l.invariant (sym c.item_at-item.ensures ∙ c.in-Member.is) x.found block_size block-wide (c.keep_three.ensures ∙ ap (λ (y : List ℕ). keep_more max_blocks 3 (λ z. z) l.kept l.count y) (c.words_of-w.ensures ∙ ap report_words x.is))

@@ -3,6 +3,7 @@ use mathlib.Core.Bool.{false}
 use mathlib.Core.List.{[]}
 use native.Mathlib.Omega.{arith}
 use lib.ListN.{length}
+use borrow.Author.Tests.{not-true, not-false}
 use Rattle.base_octets.specs.Store.{store}
 use Rattle.im_members.specs.Pass.{Pass, pass_with}
 use Rattle.im_members.proofs.ArrayLaws.{optional-none}
@@ -26,18 +27,18 @@ returns-then-m-ge10 c = let a = c.args in let s = a.s.now in let old = a.kept.no
 pub returns-then-not-f : goal.returns-then-not-f
 unfolding part_in
 returns-then-not-f c = let a = c.args in let s = a.s.now in let old = a.kept.now in let m = c.begin_message-m in let L = opened m.ensures in let l = c.if-m-ge10.false in let is = only-second _ (L.stopped l).wanted in let f = c.kept_of-f in
-    let b = kept-bad max_blocks block_size block_words old (list_on report_at 9 s m.result.head) f.ensures (c.if-not-f.true) in
+    let b = kept-bad max_blocks block_size block_words old (list_on report_at 9 s m.result.head) f.ensures (not-true _ c.if-not-f.true) in
     let e = f.ensures ∙ ap (list_read max_blocks block_size block_words old) b in
     (λ j. part_with (record { good = false; more = 0; blocks = 0 }) (e j).kept.words) ∙ sym (ap (part_kept old) (whole-refused part_tags (part_from s) s (nest-no-option L is l (blocks-reads s) (part_from s) b [] (part-lacks s))))
 
 pub returns : goal.returns
 unfolding kept_by
 returns c = let a = c.args in let s = a.s.now in let old = a.kept.now in let m = c.begin_message-m in let L = opened m.ensures in let l = c.if-m-ge10.false in let is = only-second _ (L.stopped l).wanted in let f = c.kept_of-f in let z = c.finish-z in let h = m.result.head in
-    let xs = z.new.1.1.1.1.1.0 in let Z : Pass = pass_with z.result xs z.new.1.1.1.1.1.1.0 in
-    let k = kept-good max_blocks block_size block_words old (list_on report_at 9 s h) f.ensures (c.if-not-f.false) in
+    let xs = z.new.at in let Z : Pass = pass_with z.result xs z.new.codes in
+    let k = kept-good max_blocks block_size block_words old (list_on report_at 9 s h) f.ensures (not-false _ c.if-not-f.false) in
     let N = nest-on L is l (blocks-reads s) k.1 _ z.ensures in
     c.part_by-2.ensures
-    ∙ ap (λ (p : PartRead). kept_by p f.new.1.1.1.0) (c.part_of-p-2.ensures xs)
+    ∙ ap (λ (p : PartRead). kept_by p f.new.kept) (c.part_of-p-2.ensures xs)
     ∙ (λ j. kept_by (part_by (length s) Z (k.2 j).count) (k.2 j).words)
     ∙ part_out N (nowhere N) k.0
     (λ g. nest-option L is l (blocks-reads s) k.1 _ z.ensures [] g)
