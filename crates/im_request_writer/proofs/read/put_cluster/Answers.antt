@@ -9,10 +9,7 @@ use Rattle.im_request_writer.proofs.read.put_cluster.Goals as goal
 pub returns : goal.returns
 unfolding spelling datum_octets writer_tag cluster_tree
 returns c =
-    let r = s.before.before.before.before in
-    let q = r.before.before.before.before in
-    let p = q.before.before.before.before in
-    then p.put-open.ensures (then q.put-unsigned.ensures (then r.put-unsigned2.ensures c.put_end.ensures))
+    then c.put_open-p.ensures (then c.put_unsigned-q.ensures (then c.put_unsigned-r.ensures c.put_end.ensures))
 
 pub put_open-p-requires : goal.put_open-p-requires
 unfolding spelling datum_octets writer_tag cluster_tree

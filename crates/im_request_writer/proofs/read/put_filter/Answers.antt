@@ -9,10 +9,7 @@ use Rattle.im_request_writer.proofs.read.put_filter.Goals as goal
 pub returns : goal.returns
 unfolding spelling datum_octets writer_tag filter_tree
 returns c =
-    let r = s.before.before.before.before in
-    let q = r.before.before.before.before in
-    let p = q.before.before.before.before in
-    then p.put-open.ensures (then q.put-cluster.ensures (then r.put-unsigned.ensures c.put_end.ensures))
+    then c.put_open-p.ensures (then c.put_cluster-q.ensures (then c.put_unsigned-r.ensures c.put_end.ensures))
 
 pub put_open-p-requires : goal.put_open-p-requires
 unfolding spelling datum_octets writer_tag filter_tree

@@ -6,8 +6,7 @@ use Rattle.im_request_writer.proofs.read.put_read_close.Goals as goal
 pub returns-then-any : goal.returns-then-any
 unfolding read_closing
 returns-then-any c =
-    let p = q.before.before.before.before in
-    rw p.before.before.if1.true (then p.put-end.ensures c.put_revision.ensures)
+    rw c.if-any.true (then c.put_end-p.ensures c.put_revision.ensures)
 
 pub returns : goal.returns
 unfolding read_closing

@@ -9,11 +9,7 @@ use Rattle.im_request_writer.proofs.read.put_read_open.Goals as goal
 pub returns : goal.returns
 unfolding spelling datum_octets writer_tag read_opening paths_tree
 returns c =
-    let s = t.before.before.before.before in
-    let r = s.before.before.before.before in
-    let q = r.before.before.before.before in
-    let p = q.before.before.before.before in
-    then p.put-open.ensures (then (then q.put-open2.ensures (then r.put-wildcard.ensures s.put-end.ensures)) c.put_boolean.ensures)
+    then c.put_open-p.ensures (then (then c.put_open-q.ensures (then c.put_wildcard-r.ensures c.put_end-s.ensures)) c.put_boolean.ensures)
 
 pub put_open-p-requires : goal.put_open-p-requires
 unfolding spelling datum_octets writer_tag read_opening paths_tree

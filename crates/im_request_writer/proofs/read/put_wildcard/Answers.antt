@@ -9,8 +9,7 @@ use Rattle.im_request_writer.proofs.read.put_wildcard.Goals as goal
 pub returns : goal.returns
 unfolding spelling datum_octets writer_tag wildcard_tree
 returns c =
-    let p = q.before.before.before.before in
-    then p.put-open.ensures c.put_end.ensures
+    then c.put_open-p.ensures c.put_end.ensures
 
 pub put_open-p-requires : goal.put_open-p-requires
 unfolding spelling datum_octets writer_tag wildcard_tree

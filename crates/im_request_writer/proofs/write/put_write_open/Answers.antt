@@ -9,11 +9,7 @@ use Rattle.im_request_writer.proofs.write.put_write_open.Goals as goal
 pub returns : goal.returns
 unfolding spelling datum_octets writer_tag write_opening
 returns c =
-    let s = t.before.before.before.before in
-    let r = s.before.before.before.before in
-    let q = r.before.before.before.before in
-    let p = q.before.before.before.before in
-    then p.put-open.ensures (then q.put-boolean.ensures (then r.put-boolean2.ensures (then s.put-open2.ensures c.put_open-p.ensures)))
+    then c.put_open-p.ensures (then c.put_boolean-q.ensures (then c.put_boolean-r.ensures (then c.put_open-s.ensures c.put_open.ensures)))
 
 pub put_open-p-requires : goal.put_open-p-requires
 unfolding spelling datum_octets writer_tag write_opening

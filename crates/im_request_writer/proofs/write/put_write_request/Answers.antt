@@ -6,13 +6,9 @@ use Rattle.im_request_writer.proofs.write.put_write_request.Goals as goal
 
 pub returns : goal.returns
 returns c =
-    let s = t.before.before.before.before in
-    let r = s.before.before.before.before in
-    let q = r.before.before.before.before in
-    let p = q.before.before.before.before in
-    let a = p.before.before.before.before.args in
+    let a = c.args in
     rw (write-octets a.given a.version a.endpoint a.cluster a.attribute (datum_in a.page.now a.v)) at
-    (then p.put-write-open.ensures (then q.put-version.ensures (then r.put-data.ensures (then s.put-end.ensures c.put_revision.ensures))))
+    (then c.put_write_open-p.ensures (then c.put_version-q.ensures (then c.put_data-r.ensures (then c.put_end-s.ensures c.put_revision.ensures))))
 
 pub put_write_open-p-requires : goal.put_write_open-p-requires
 put_write_open-p-requires c =
