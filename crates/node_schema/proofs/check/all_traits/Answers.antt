@@ -11,7 +11,7 @@ pub loop-i-preserved : goal.loop-i-preserved
 loop-i-preserved c =
     let a = c.args in
     let l = c.loop-i in
-    (search rules, traits-turn a.w.now l.i l.bits l.sums _ c.wrapping_add_u64-sums.ensures l.invariant.1)
+    (search rules, traits-turn a.w.now l.i l.bits l.sums _ c.wrapping_add_u64-sums.ensures.value l.invariant.1)
 
 pub returns : goal.returns
 returns c =

@@ -19,7 +19,7 @@ loop-i-preserved c =
     let l = c.loop-i in (
       search rules,
       omega (arith, and_le_l l.gaps c.wrapping_sub_u64-gaps.result, l.invariant.1),
-      rise-turn a.w.now a.from l.words l.gaps l.i _ l.invariant.1 l.invariant.2 (gap_is _ _ _ (omega arith) c.wrapping_sub_u64-gaps.ensures),
+      rise-turn a.w.now a.from l.words l.gaps l.i _ l.invariant.1 l.invariant.2 (gap_is _ _ _ (omega arith) c.wrapping_sub_u64-gaps.ensures.value),
     )
 
 pub returns : goal.returns

@@ -13,5 +13,5 @@ returns c =
     let a = c.args in
     rw (lt-ltb _ _ c.if-cluster_index-ge-CLUSTERS.false)
     (c.find_word.ensures
-    ∙ ap (λ (n : ℕ). find_word a.w.now key_column n (a.cluster-index * half + a.attribute)) c.attribute_count-n.ensures
-    ∙ word-search a.w.now key_column (count_of_attributes a.w.now) a.cluster-index a.attribute (search rules))
+    ∙ ap (λ (n : ℕ). find_word a.w.now key_column n (a.cluster_index * half + a.attribute)) c.attribute_count-n.ensures
+    ∙ word-search a.w.now key_column (count_of_attributes a.w.now) a.cluster_index a.attribute (search rules))
