@@ -3,5 +3,4 @@ pub mod AccessLaws
 pub mod RuleLaws
 pub mod GrantLaws
 pub mod SearchLaws
-pub mod AccessWalk
 pub mod Examples

@@ -1,11 +1,10 @@
 use Prim.Native.Nat.{◌-◌}
 use borrow.Author.Rules.{rules}
-use lib.ListN.{length-map}
 use Rattle.node_access.proofs.SearchLaws.{up-begin, up_step, up_done}
 use Rattle.node_access.proofs.table.granted_by.Goals as goal
 
 pub loop-i-init : goal.loop-i-init
-loop-i-init c = let a = c.args in (search rules, c.cluster_count-n.ensures, rw length-map at c.well_formed.0.1.1.0.1.0.1, up-begin a.g a.e a.subject a.w.now)
+loop-i-init c = let a = c.args in (search rules, c.cluster_count-n.ensures, search rules, up-begin a.g a.e a.subject a.w.now)
 
 pub loop-i-preserved : goal.loop-i-preserved
 loop-i-preserved c = let a = c.args in let l = c.loop-i in (search rules, l.invariant.1, l.invariant.2, up_step a.g a.e a.subject a.w.now l.level l.i _ _ _ (search rules) l.invariant.3 c.cluster_endpoint-endpoint.ensures c.cluster_id-cluster.ensures c.raised.ensures)
