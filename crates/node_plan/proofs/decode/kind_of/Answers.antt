@@ -1,4 +1,4 @@
-use mathlib.Core.Path.{sym, ap₂, ◌∙◌}
+use Rattle.std.proofs.Common.{sym, ap₂, ◌∙◌, arith}
 use Rattle.node_kinds.specs.declared.Kind.TheVariants.{Signed}
 use Rattle.node_schema.specs.Rows.{attribute_row}
 use Rattle.node_plan.proofs.KindLaws.{kind-unsigned, kind-signed, kind-float, kind-text, kind-boolean, signed-again}
@@ -22,7 +22,5 @@ returns-in-4 c = let a = attribute_row c.args.w.now c.args.i in
     cc (kind-text a (sym c.kind_code-code.ensures ∙ c.in-4.is))
 
 pub returns-in_default : goal.returns-in_default
-returns-in_default c = let a = attribute_row c.args.w.now c.args.i in
-    let e = c.kind_code-code.ensures in
-    let m = c.in_default.rest in
-    sym (kind-boolean a (λ q. m.0.0.0.1 (e ∙ q)) (λ q. m.0.0.1 (e ∙ q)) (λ q. m.0.1 (e ∙ q)) (λ q. m.1 (e ∙ q)))
+returns-in_default c =
+    sym (kind-boolean (attribute_row c.args.w.now c.args.i) (omega arith) (omega arith) (omega arith) (omega arith))

@@ -1,4 +1,4 @@
-use mathlib.Core.Path.{◌≡◌, sym, ◌∙◌}
+use Rattle.std.proofs.Common.{◌≡◌, sym, ◌∙◌, arith}
 use Rattle.node_schema.specs.Rows.{attribute_row}
 use Rattle.node_plan.specs.Check.{number_right}
 use Rattle.node_plan.proofs.KindLaws.{other-code}
@@ -30,6 +30,5 @@ returns-in-4 c = let a = attribute_row c.args.w.now c.args.i in
 
 pub returns-in_default : goal.returns-in_default
 unfolding number_right
-returns-in_default c = let e = c.kind_code-code.ensures in
-    let m = c.in_default.rest in
-    rw (other-code _ _ _ _ _ _ (λ q. m.0.0.0.1 (e ∙ q)) (λ q. m.0.0.1 (e ∙ q)) (λ q. m.0.1 (e ∙ q)) (λ q. m.1 (e ∙ q)), ← c.first_value-first.ensures)
+returns-in_default c =
+    rw (other-code _ _ _ _ _ (attribute_row c.args.w.now c.args.i).kind (omega arith) (omega arith) (omega arith) (omega arith), ← c.first_value-first.ensures)
