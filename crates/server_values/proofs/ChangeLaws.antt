@@ -7,29 +7,25 @@ use native.Mathlib.Omega.{arith}
 use borrow.Author.Tests.{ne_eqb}
 use lib.Dec.{eqb}
 use lib.ListN.{length, get_or, set}
-use types.Run.{OneOf, miss}
-use denote.Enum.Declared.{tag_of}
-use Rattle.tlv_reader.specs.contracts.Value.{the_type}
 use Rattle.tlv_reader.specs.Octet.{pick}
 use Rattle.tlv_reader.specs.declared.Value.{Value}
 use Rattle.tlv_reader.specs.declared.Value.TheVariants as Parsed
 use Rattle.tlv_reader.specs.Value.{Datum, null, boolean, unsigned, signed, float, text, other, datum_in}
 use Rattle.node_kinds.specs.Limits.{is_null, null_of}
 use Rattle.node_kinds.specs.Stored.{word_of, equal, next_version}
-use Rattle.node_kinds.proofs.LimitLaws.{all_but, variants}
 use Rattle.node_schema.specs.Rows.{attribute_row}
 use Rattle.node_plan.specs.Pages.{shown_length}
 use Rattle.server_values.specs.declared.Values.{Values}
 use Rattle.server_values.specs.Change.{text_of, is_text, word_for, mark_for, differs_from, changes, set_at, edits_set, stored_values, stored_edits}
 
 -- a value of another variant than Text is no text
-pub no_text : (v : Value) → OneOf (all_but 5 variants) (tag_of the_type v) → (s : List ℕ) → false ≡ is_text (datum_in s v)
+pub no_text : (v : Value) → ((a n : ℕ) → v ≡ Parsed.Text a n → ⊥) → (s : List ℕ) → false ≡ is_text (datum_in s v)
 no_text Parsed.Null h s = refl
 no_text (Parsed.Boolean b) h s = refl
 no_text (Parsed.Unsigned n) h s = refl
 no_text (Parsed.Signed z) h s = refl
 no_text (Parsed.Float n) h s = refl
-no_text (Parsed.Text a n) h s = absurd (miss (all_but 5 variants) 5 tt h)
+no_text (Parsed.Text a n) h s = absurd (h a n refl)
 no_text Parsed.Other h s = refl
 
 -- and has no bytes

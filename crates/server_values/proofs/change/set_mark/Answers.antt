@@ -17,7 +17,9 @@ given c =
     (t, c.requires t)
 
 few : (c : After-bytes_of-bytes) → length c.bytes_of-bytes.result.now ≤ text_size
-few c = omega (arith, ap length c.bytes_of-bytes.ensures, ((let t = sym (c.is_text.ensures c.args.src.now) ∙ c.if-is_text.true in (t, c.requires t))).1.1)
+few c =
+    let t = sym (c.is_text.ensures c.args.src.now) ∙ c.if-is_text.true in
+    omega (arith, ap length c.bytes_of-bytes.ensures, (c.requires t).1)
 
 pub overflow_cast-texts : goal.overflow_cast-texts
 overflow_cast-texts c = omega (arith, few (goal.at.overflow_cast-texts c).After-bytes_of-bytes)

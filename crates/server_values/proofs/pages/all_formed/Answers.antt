@@ -11,15 +11,12 @@ use Rattle.server_values.proofs.pages.all_formed.Goals as goal
 use Rattle.server_values.proofs.pages.all_formed.Goals.{After-is_formed}
 
 -- what was asked of the text
-asked : (c : After-is_formed invariant-loop decreases-loop) →
-    let a = c.before.before.before.before.before.before.before.before.args in
-    c.is-formed.result ≡ formed_at a.w.now a.page.now a.texts.now a.factory c.before.before.before.before.before.before.loop.i
+asked : (c : After-is_formed) → c.is_formed.result ≡ formed_at c.args.w.now c.args.page.now c.args.texts.now c.args.factory c.loop-i.i
 asked c =
-    let a = c.before.before.before.before.before.before.before.before.args in
-    let l = c.before.before.before.before.before.before.loop in
-    c.is-formed.ensures
-    ∙ ap₂ (λ (s n : ℕ). well_formed (take n (drop s a.page.now))) c.before.before.start-in.ensures c.before.length-in.ensures
-    ∙ formed-here a.w.now a.page.now a.texts.now a.factory l.i c.before.before.before.if1.true
+    let a = c.args in
+    c.is_formed.ensures
+    ∙ ap₂ (λ (s n : ℕ). well_formed (take n (drop s a.page.now))) c.start_in-start.ensures c.length_in.ensures
+    ∙ formed-here a.w.now a.page.now a.texts.now a.factory c.loop-i.i c.if-mark-factory.true
 
 pub loop-i-init : goal.loop-i-init
 unfolding every
@@ -31,13 +28,15 @@ is_formed-requires c = c.requires.1
 pub returns-then-not-is_formed : goal.returns-then-not-is_formed
 returns-then-not-is_formed c =
     let a = c.args in
-    every-fails (formed_at a.w.now a.page.now a.texts.now a.factory) _ c.loop-i.i (search rules) (sym (asked c.before) ∙ c.if-not-is_formed.true)
+    let x = asked (goal.at.returns-then-not-is_formed c).After-is_formed in
+    every-fails (formed_at a.w.now a.page.now a.texts.now a.factory) _ c.loop-i.i (search rules) (sym (x) ∙ c.if-not-is_formed.true)
 
 pub loop-i-preserved-then-mark-factory : goal.loop-i-preserved-then-mark-factory
 loop-i-preserved-then-mark-factory c =
     let a = c.args in
+    let x = asked (goal.at.loop-i-preserved-then-mark-factory c).After-is_formed in
     let l = c.loop-i in
-    (search rules, every_more (formed_at a.w.now a.page.now a.texts.now a.factory) _ l.invariant.1 (sym (asked c.before) ∙ c.if-not-is_formed.false))
+    (search rules, every_more (formed_at a.w.now a.page.now a.texts.now a.factory) _ l.invariant.1 (sym (x) ∙ c.if-not-is_formed.false))
 
 pub loop-i-preserved : goal.loop-i-preserved
 loop-i-preserved c =
