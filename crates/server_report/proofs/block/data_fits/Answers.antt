@@ -14,5 +14,3 @@ returns-then-is_ample c =
 
 pub returns : goal.returns
 returns c = ap (λ (k : ℕ). leb k c.args.room) c.data_block_len.ensures.value
-
-pub data-fits-spec : {M : Type 1} → statement M

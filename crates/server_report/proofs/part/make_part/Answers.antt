@@ -15,7 +15,7 @@ use Rattle.server_report.proofs.part.make_part.Goals.{After-fill-f}
 filled : (c : After-fill-f) →
     let a = c.args in
     let o = c.put_report_open-p in
-    Filling o.new.0 o.result block_room a.from
+    Filling o.new.b o.result block_room a.from
     (blocks_from (view_of a.w.now (values_of a.words.now a.nulls.now a.texts.now a.versions.now) a.defaults.now a.edits.now a.g (filters_in a.row.now)) (asked_paths a.row.now a.asked) a.from)
     c.fill-f.new.out c.fill-f.result
 filled c =
