@@ -1,14 +1,11 @@
 -- A value that can be kept: what it has where it is a text.
 use mathlib.Core.Path.{◌≡◌, refl}
 use mathlib.Core.Bool.{true, false, ◌&&◌}
-use mathlib.Core.List.{List, [], ◌∷◌}
+use mathlib.Core.List.{List}
 use Prim.Native.Nat.{ℕ, ◌-◌, ◌≤◌}
 use borrow.Author.Tests.{ltb-false, leb-true}
-use types.Run.{OneOf, miss}
-use denote.Enum.Declared.{tag_of}
 use lib.Dec.{leb}
 use lib.ListN.{length}
-use Rattle.tlv_reader.specs.contracts.Value.{the_type}
 use Rattle.tlv_reader.specs.declared.Value.{Value}
 use Rattle.tlv_reader.specs.declared.Value.TheVariants as value
 use Rattle.node_schema.proofs.BoolLaws.{left, right}
@@ -17,7 +14,7 @@ use Rattle.cache_entries.specs.Values.{inside_usable, usable_in, long_v}
 
 -- a value that is no text
 abbrev pub NoText : Value → Type 0
-NoText v = OneOf (0 ∷ 1 ∷ 2 ∷ 3 ∷ 4 ∷ 6 ∷ []) (tag_of the_type v)
+NoText v = (a n : ℕ) → v ≡ value.Text a n → ⊥
 
 pub not-long : (v : Value) → NoText v → false ≡ long_v v
 unfolding long_v
@@ -26,7 +23,7 @@ not-long (value.Boolean b) h = refl
 not-long (value.Unsigned n) h = refl
 not-long (value.Signed z) h = refl
 not-long (value.Float n) h = refl
-not-long (value.Text a n) h = absurd (miss (0 ∷ 1 ∷ 2 ∷ 3 ∷ 4 ∷ 6 ∷ []) 5 tt h)
+not-long (value.Text a n) h = absurd (h a n refl)
 not-long value.Other h = refl
 
 -- a text that is usable lies in the message, and one that is not long fits its place

@@ -3,7 +3,7 @@ use mathlib.Core.Path.{◌≡◌, refl, sym, ap, ◌∙◌}
 use mathlib.Core.Bool.{true, false, ◌&&◌}
 use mathlib.Core.List.{List}
 use Prim.Native.Nat.{ℕ, ◌<◌}
-use borrow.Author.Tests.{ltb-true, not-true, not-false}
+use borrow.Author.Tests.{ltb-true}
 use lib.Dec.{ltb}
 use lib.ListN.{get_or}
 use Rattle.node_schema.proofs.BoolLaws.{left, right}
@@ -35,11 +35,11 @@ returns-then-is_text c = let a = c.args in let t = sym c.is_text.ensures ∙ c.i
 
 pub returns-then-not-text : goal.returns-then-not-text
 unfolding place_given
-returns-then-not-text c = let a = c.args in let f = sym c.is_text.ensures ∙ c.if-is_text.false in let g = not-true a.text c.if-not-text.true in (rw g refl, λ kind word is e. stays-none a.kinds.now a.words.now a.n a.i c.requires.1.0 c.requires.1.1.0 c.requires.1.1.1.0 c.requires.1.1.1.1.0 kind word a.marks.now c.requires.1.1.1.1.1.0 f (is ∙ g))
+returns-then-not-text c = let a = c.args in let f = sym c.is_text.ensures ∙ c.if-is_text.false in let g = c.if-not-text.true in (rw g refl, λ kind word is e. stays-none a.kinds.now a.words.now a.n a.i c.requires.1.0 c.requires.1.1.0 c.requires.1.1.1.0 c.requires.1.1.1.1.0 kind word a.marks.now c.requires.1.1.1.1.1.0 f (is ∙ g))
 
 pub bounds-marks-p : goal.bounds-marks-p
 bounds-marks-p c = let a = c.args in free-below a.kinds.now a.words.now a.n a.i (sym c.is_text.ensures ∙ c.if-is_text.false) c.requires.1.1.1.1.1.1 (c.free_place-p.ensures ∙ ap or_first (marked-free a.kinds.now a.words.now a.n a.marks.now c.requires.1.1.1.1.1.0))
 
 pub returns : goal.returns
 unfolding place_given
-returns c = let a = c.args in let f = sym c.is_text.ensures ∙ c.if-is_text.false in let g = not-false a.text c.if-not-text.false in let free = c.free_place-p.ensures ∙ ap or_first (marked-free a.kinds.now a.words.now a.n a.marks.now c.requires.1.1.1.1.1.0) in (rw (g, f) free, λ kind word is e. let q = e g in rw (← q) (becomes-text a.kinds.now a.words.now a.n a.i c.requires.1.0 c.requires.1.1.0 c.requires.1.1.1.0 c.requires.1.1.1.1.0 kind word a.marks.now c.requires.1.1.1.1.1.0 f (is ∙ g) (rw q (free-below a.kinds.now a.words.now a.n a.i f c.requires.1.1.1.1.1.1 free))))
+returns c = let a = c.args in let f = sym c.is_text.ensures ∙ c.if-is_text.false in let g = c.if-not-text.false in let free = c.free_place-p.ensures ∙ ap or_first (marked-free a.kinds.now a.words.now a.n a.marks.now c.requires.1.1.1.1.1.0) in (rw (g, f) free, λ kind word is e. let q = e g in rw (← q) (becomes-text a.kinds.now a.words.now a.n a.i c.requires.1.0 c.requires.1.1.0 c.requires.1.1.1.0 c.requires.1.1.1.1.0 kind word a.marks.now c.requires.1.1.1.1.1.0 f (is ∙ g) (rw q (free-below a.kinds.now a.words.now a.n a.i f c.requires.1.1.1.1.1.1 free))))
