@@ -1,3 +1,4 @@
+pub mod FindLaws
 pub mod Fills
 pub mod Decimals
 pub mod WordLaws

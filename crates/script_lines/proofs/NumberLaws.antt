@@ -7,8 +7,6 @@ use native.Mathlib.Nat.{pow-suc, pow-le-pow_right}
 use native.Mathlib.Numerals.{add-one}
 use native.Mathlib.Omega.{arith}
 use borrow.Author.Tests.{lt-ltb, le-ltb, eq-eqb, ne_eqb}
-use types.Run.{OneOf, miss}
-use denote.Enum.Declared.{tag_of}
 use lib.Dec.{eqb}
 use lib.ListN.{length, take, drop, get_or, length-take, length-drop}
 use lib.Seq.{drop-cons, drop-length, take-nil, drop-drop, get_or-take, get_or-drop}
@@ -16,7 +14,6 @@ use Rattle.script_lines.specs.declared.Scan.{Scan}
 use Rattle.script_lines.specs.declared.number.Digits.{Digits}
 use Rattle.script_lines.specs.declared.number.Digits.TheVariants.{Number, Unreadable}
 use Rattle.script_lines.specs.declared.number.Number.{Number as NumberRead}
-use Rattle.script_lines.specs.contracts.number.Digits as DigitsType
 use Rattle.script_lines.specs.Numbers.{decimal_of, hex_digit, hex_from, read_as, unread_at, at_most, is_byte, negated_of, signed_of}
 
 pub byte-none : (w : List ℕ) (b : ℕ) → (length w ≡ 1 → ⊥) → false ≡ is_byte w b
@@ -29,8 +26,8 @@ byte_one [] b h = absurd (omega arith)
 byte_one (c ∷ []) b h = refl
 byte_one (c ∷ d ∷ w) b h = absurd (omega arith)
 
-pub most-unread : (highest : ℕ) (next : Scan) (d : Digits) → OneOf (1 ∷ []) (tag_of DigitsType.the_type d) → unread_at next ≡ at_most highest next d
-most-unread highest next (Number n) h = absurd (miss (1 ∷ []) 0 tt h)
+pub most-unread : (highest : ℕ) (next : Scan) (d : Digits) → ((n : ℕ) → d ≡ Number n → ⊥) → unread_at next ≡ at_most highest next d
+most-unread highest next (Number n) h = absurd (h n refl)
 most-unread highest next Unreadable h = refl
 
 -- one step of reading hex digits

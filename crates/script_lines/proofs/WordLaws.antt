@@ -6,7 +6,7 @@ use Prim.Native.Nat.{ℕ, ◌+◌, ◌<◌, ◌≤◌}
 use native.Mathlib.Omega.{arith}
 use borrow.Author.Tests.{le-leb, lt-leb}
 use lib.Dec.{eqb}
-use lib.ListN.{length, get_or}
+use lib.ListN.{length, get_or, drop, length-drop}
 use lib.Seq.{take-length}
 use Rattle.script_lines.specs.Find.{index_of, slice}
 use Rattle.script_lines.specs.declared.Scan.{Scan}
@@ -37,7 +37,7 @@ module _ (line : List ℕ) (s : Scan) where
 -- where a search for a space stops
 pub end-found : (line : List ℕ) (at : ℕ) → at + index_of space (slice at (length line) line) ≡ word_end line at
 unfolding word_end slice
-end-found line at = rw (take-length line)
+end-found line at = rw (← length-drop at line, take-length)
 
 pub none_within : (at n : ℕ) → WordWithin (no_word at) n
 none_within at n = record { starts = omega arith; ends = omega arith }

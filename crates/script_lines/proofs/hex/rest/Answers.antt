@@ -6,7 +6,6 @@ use Rattle.script_lines.specs.Bytes.{rest_at, rest_kept}
 use Rattle.script_lines.proofs.ByteLaws.{reading-first, reading-none, reading-last, reading-cut, reading-next, two_here, short-here, ends-unread, ends_read, ends-kept}
 use borrow.Author.Rules.{rules}
 use Rattle.script_lines.proofs.Fills.{filled}
-use Prim.Native.Nat.{◌-◌}
 use lib.ListN.{length}
 use Rattle.script_lines.proofs.hex.rest.Goals as goal
 
@@ -33,7 +32,7 @@ returns-then-line-at-eq2 c =
     let b = c.byte_at-byte in
     let k = c.keep-n.ensures in
     let z = reading-last l.invariant b.result b.ensures (omega arith) c.if-line-at-eq2.true in
-    record { value = ends_read a.line.now a.s a.out.now more _ z.0 (k.0 ∙ z.2); out_after = ends-kept a.line.now a.s a.out.now more (k.1 ∙ z.1); filled = filled _ _ (omega (arith, k.0, ap length k.1, length-set l.out l.n b.result)) }
+    record { value = ends_read a.line.now a.s a.out.now more _ z.0 (k.value ∙ z.2); out_after = ends-kept a.line.now a.s a.out.now more (k.out_after ∙ z.1); filled = filled _ _ (omega (arith, k.value, ap length k.out_after, length-set l.out l.n b.result)) }
 
 pub returns-then-line-at-lt3 : goal.returns-then-line-at-lt3
 returns-then-line-at-lt3 c =
@@ -50,14 +49,14 @@ returns-then-line-at-ne32 c =
     let b = c.byte_at-byte in
     let k = c.keep-n.ensures in
     let z = reading-cut l.invariant b.result b.ensures (omega arith) (omega arith) c.if-line-at-ne32.true in
-    record { value = ends-unread a.line.now a.s a.out.now more z.0; out_after = ends-kept a.line.now a.s a.out.now more (k.1 ∙ z.1); filled = search rules }
+    record { value = ends-unread a.line.now a.s a.out.now more z.0; out_after = ends-kept a.line.now a.s a.out.now more (k.out_after ∙ z.1); filled = search rules }
 
 pub loop-at-preserved : goal.loop-at-preserved
 loop-at-preserved c =
     let l = c.loop-at in
     let b = c.byte_at-byte in
     let k = c.keep-n.ensures in
-    rw (k.0, k.1) (reading-next l.invariant b.result b.ensures (omega arith) (omega arith) c.if-line-at-ne32.false)
+    rw (k.value, k.out_after) (reading-next l.invariant b.result b.ensures (omega arith) (omega arith) c.if-line-at-ne32.false)
 
 pub returns : goal.returns
 returns c =

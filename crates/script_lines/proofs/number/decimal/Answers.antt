@@ -3,7 +3,6 @@ use native.Mathlib.Omega.{arith}
 use borrow.Author.Tests.{eq-eqb}
 use Rattle.script_lines.proofs.Decimals.{digit-below, digit-above, too_much, one_more, no_more, of-digits}
 use borrow.Author.Rules.{rules}
-use Prim.Native.Nat.{◌-◌}
 use Rattle.script_lines.proofs.number.decimal.Goals as goal
 
 pub returns-then-w-eq0 : goal.returns-then-w-eq0

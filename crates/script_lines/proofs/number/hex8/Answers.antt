@@ -4,7 +4,6 @@ use mathlib.Core.Path.{◌≡◌, refl, sym, ◌∙◌}
 use native.Mathlib.Omega.{arith}
 use borrow.Author.Rules.{rules}
 use borrow.Author.Tests.{eq-eqb, ne_eqb}
-use Prim.Native.Nat.{◌-◌}
 use Rattle.script_lines.proofs.NumberLaws.{hex-none, hex-more, hex-done, digits-fit, digits-grow}
 use Rattle.script_lines.proofs.number.hex8.Goals as goal
 
@@ -19,7 +18,7 @@ returns-then-d-ge16 c =
     let w = c.args.w.now in
     let l = c.loop-i in
     let d = c.hex_digit-d in
-    rw (eq-eqb _ 8 c.if-w-ne8.false) (sym (sym l.invariant.2 ∙ hex-none w l.n l.i c.loop-i-test.true (rw d.ensures.0 at c.if-d-ge16.true)))
+    rw (eq-eqb _ 8 c.if-w-ne8.false) (sym (sym l.invariant.2 ∙ hex-none w l.n l.i c.loop-i-test.true (rw d.ensures.value at c.if-d-ge16.true)))
 
 pub loop-i-preserved : goal.loop-i-preserved
 loop-i-preserved c =
@@ -28,9 +27,9 @@ loop-i-preserved c =
     let d = c.hex_digit-d in
     let h = c.loop-i-test.true in
     let fits = digits-fit l.n l.i l.invariant.1 (omega arith) in
-    let less = rw d.ensures.0 at c.if-d-ge16.false in
+    let less = rw d.ensures.value at c.if-d-ge16.false in
     let e : l.n % 268435456 ≡ l.n = mod-eq_of_lt fits in
-    rw (e, d.ensures.0) (omega arith, digits-grow l.n l.i _ l.invariant.1 less, sym (hex-more w l.n l.i h less) ∙ l.invariant.2)
+    rw (e, d.ensures.value) (omega arith, digits-grow l.n l.i _ l.invariant.1 less, sym (hex-more w l.n l.i h less) ∙ l.invariant.2)
 
 pub returns : goal.returns
 returns c =

@@ -15,7 +15,7 @@ returns-then-same_bytes-2 c = rw (c.is_done-then-same_bytes-2.ensures, c.read_nu
 
 pub returns-then-same_bytes-3 : goal.returns-then-same_bytes-3
 unfolding numeric_at
-returns-then-same_bytes-3 c = let n = c.read_signed-n in rw (c.is_done-then-same_bytes-3.ensures, c.signed_of.ensures, of_z-to_z w64 n.result.value (omega arith), n.ensures.0, sym c.same_bytes.ensures ∙ c.if-same_bytes.false, sym c.same_bytes-2.ensures ∙ c.if-same_bytes-2.false, sym c.same_bytes-3.ensures ∙ c.if-same_bytes-3.true)
+returns-then-same_bytes-3 c = let n = c.read_signed-n in rw (c.is_done-then-same_bytes-3.ensures, c.signed_of.ensures, of_z-to_z w64 n.result.value (omega arith), n.ensures.value, sym c.same_bytes.ensures ∙ c.if-same_bytes.false, sym c.same_bytes-2.ensures ∙ c.if-same_bytes-2.false, sym c.same_bytes-3.ensures ∙ c.if-same_bytes-3.true)
 
 pub returns-then-same_bytes-4 : goal.returns-then-same_bytes-4
 unfolding numeric_at
