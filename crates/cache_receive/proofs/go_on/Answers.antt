@@ -17,5 +17,5 @@ room-here c = omega (arith, c.put_success-end.ensures.1, c.requires.1.1.1.1.1)
 
 pub returns : goal.returns
 unfolding goes_on
-returns c = let a = c.args in let p = c.requires in let e = message-length s.put-success.ensures.0 (room-here c) in
-    λ clusters keys versions kinds words order lengths page. sent-as s.put-success.ensures.0 (room-here c) (λ m. record { held = held_in clusters keys versions kinds words order lengths a.t; asked = keeping (next_awaited (request_of a.t a.kept.now)) m }) page (ap (λ (k : ℕ). record { number = 0; len = k }) (sym e)) (left-on clusters keys versions kinds words order lengths p.0 p.1.0 a.t a.kept.now (take (s.put-success.result - 0) (drop 0 s.put-success.new.0)) p.1.1.0 (c.put_standing.ensures ∙ ap (λ (k : ℕ). store a.asked.now 0 (standing_words (next_standing a.t k))) (sym e)) c.keep.ensures.kept_after)
+returns c = let a = c.args in let p = c.requires in let room = room-here (goal.at.returns c).After-put_success-end in let e = message-length c.put_success-end.ensures.0 room in
+    λ clusters keys versions kinds words order lengths page. sent-as c.put_success-end.ensures.0 room (λ m. record { held = held_in clusters keys versions kinds words order lengths a.t; asked = keeping (next_awaited (request_of a.t a.kept.now)) m }) page (ap (λ (k : ℕ). record { number = 0; len = k }) (sym e)) (left-on clusters keys versions kinds words order lengths p.0 p.1.0 a.t a.kept.now (take (c.put_success-end.result - 0) (drop 0 c.put_success-end.new.out)) p.1.1.0 (c.put_standing.ensures ∙ ap (λ (k : ℕ). store a.asked.now 0 (standing_words (next_standing a.t k))) (sym e)) c.keep.ensures.kept_after)
