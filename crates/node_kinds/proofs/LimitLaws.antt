@@ -8,10 +8,7 @@ use borrow.Author.Tests.{leb-true}
 use lib.IntN.{ℤ}
 use lib.Dec.{leb, eqb}
 use lib.ListN.{length, take, drop, length-take, length-drop}
-use types.Run.{OneOf, miss}
-use denote.Enum.Declared.{tag_of}
 use Rattle.base_bounds.specs.Bounds.{text_bytes_limit}
-use Rattle.tlv_reader.specs.contracts.Value.{the_type}
 use Rattle.tlv_reader.specs.declared.Value.{Value}
 use Rattle.tlv_reader.specs.declared.Value.TheVariants as Parsed
 use Rattle.tlv_reader.specs.Value.{Datum, datum_in}
@@ -20,7 +17,7 @@ use Rattle.node_kinds.specs.declared.Range.{Range}
 use Rattle.node_kinds.specs.declared.Kind.{Kind}
 use Rattle.node_kinds.specs.declared.Kind.TheVariants as Kinds
 use Rattle.node_kinds.specs.declared.Verdict.TheVariants.{InvalidDataType}
-use Rattle.node_kinds.specs.Limits.{by_kind, limited, wrong, against, null_of, judged, inside, also, against_in, judged_in}
+use Rattle.node_kinds.specs.Limits.{limited, wrong, against, null_of, judged, inside, also, against_in, judged_in}
 
 -- ---- a value's type and a kind: the kind's own type, or the wrong one
 
@@ -62,9 +59,13 @@ fit s (Kinds.Float r) (Parsed.Text a n) = apart refl
 fit s Kinds.Text (Parsed.Text a n) = text a n
 fit s k Parsed.Other = apart refl
 
--- the variant of a parsed value that is of the kind's own type
-abbrev pub own_tag : Kind → ℕ
-own_tag k = by_kind 1 (λ l h. 2) (λ l h. 3) (λ r. 4) 5 k
+-- a parsed value that is not of the kind's own type
+abbrev pub NotOwn : Kind → Value → Type 0
+NotOwn Kinds.Boolean v = (b : Bool) → v ≡ Parsed.Boolean b → ⊥
+NotOwn (Kinds.Unsigned low high) v = (n : ℕ) → v ≡ Parsed.Unsigned n → ⊥
+NotOwn (Kinds.Signed low high) v = (z : ℤ) → v ≡ Parsed.Signed z → ⊥
+NotOwn (Kinds.Float r) v = (n : ℕ) → v ≡ Parsed.Float n → ⊥
+NotOwn Kinds.Text v = (a n : ℕ) → v ≡ Parsed.Text a n → ⊥
 
 -- the variants of a parsed value but one
 abbrev pub all_but : ℕ → List ℕ → List ℕ
@@ -74,19 +75,19 @@ all_but k (j ∷ js) = cond (eqb j k) js (j ∷ all_but k js)
 abbrev pub variants : List ℕ
 variants = 0 ∷ 1 ∷ 2 ∷ 3 ∷ 4 ∷ 5 ∷ 6 ∷ []
 
-other-type : {s : List ℕ} {k : Kind} {v : Value} → Fit s k v → OneOf (all_but (own_tag k) variants) (tag_of the_type v) → wrong ≡ against (datum_in s v) k
-other-type (boolean b) h = absurd (miss (all_but 1 variants) 1 tt h)
-other-type (unsigned low high n) h = absurd (miss (all_but 2 variants) 2 tt h)
-other-type (signed low high z) h = absurd (miss (all_but 3 variants) 3 tt h)
-other-type (float r n) h = absurd (miss (all_but 4 variants) 4 tt h)
-other-type (text a n) h = absurd (miss (all_but 5 variants) 5 tt h)
+other-type : {s : List ℕ} {k : Kind} {v : Value} → Fit s k v → NotOwn k v → wrong ≡ against (datum_in s v) k
+other-type (boolean b) h = absurd (h b refl)
+other-type (unsigned low high n) h = absurd (h n refl)
+other-type (signed low high z) h = absurd (h z refl)
+other-type (float r n) h = absurd (h n refl)
+other-type (text a n) h = absurd (h a n refl)
 other-type (apart e) h = sym e
 
 pub also-wrong : (b : Bool) → also b wrong ≡ wrong
 also-wrong true = refl
 also-wrong false = refl
 
-pub another-type : (s : List ℕ) (k : Kind) (v : Value) → OneOf (all_but (own_tag k) variants) (tag_of the_type v) → wrong ≡ against_in s v k
+pub another-type : (s : List ℕ) (k : Kind) (v : Value) → NotOwn k v → wrong ≡ against_in s v k
 another-type s k v h = sym (also-wrong (inside s v)) ∙ ap (also (inside s v)) (other-type (fit s k v) h)
 
 -- ---- a text
@@ -125,8 +126,8 @@ text-verdict s a n =
 
 -- ---- null
 
-pub not_null : (v : Value) → OneOf (all_but 0 variants) (tag_of the_type v) → false ≡ null_of v
-not_null Parsed.Null h = absurd (miss (all_but 0 variants) 0 tt h)
+pub not_null : (v : Value) → (v ≡ Parsed.Null → ⊥) → false ≡ null_of v
+not_null Parsed.Null h = absurd (h refl)
 not_null (Parsed.Boolean b) h = refl
 not_null (Parsed.Unsigned n) h = refl
 not_null (Parsed.Signed z) h = refl

@@ -1,4 +1,5 @@
 use mathlib.Core.Path.{◌≡◌, sym, ◌∙◌}
+use native.Mathlib.Omega.{arith}
 use Rattle.node_kinds.specs.declared.Kind.{Kind}
 use Rattle.node_kinds.specs.declared.Kind.TheVariants as Kinds
 use Rattle.node_kinds.specs.Limits.{against_in, judged_in}
@@ -28,20 +29,19 @@ returns-in-Boolean c = c.judge_boolean.ensures c.args.src.now ∙ arm (goal.at.r
 
 pub returns-in-Unsigned : goal.returns-in-Unsigned
 returns-in-Unsigned c =
-    let g = c.kind-1.given in
-    c.judge_unsigned.ensures c.args.src.now ∙ arm (goal.at.returns-in-Unsigned c).Else-is_null (Kinds.Unsigned g.0.0 g.0.1.0) g.1
+    let g = c.in-Unsigned in
+    c.judge_unsigned.ensures c.args.src.now ∙ arm (goal.at.returns-in-Unsigned c).Else-is_null (Kinds.Unsigned g.low g.high) g.is
 
 pub returns-in-Signed : goal.returns-in-Signed
 returns-in-Signed c =
-    let g = c.kind-in-Signed-1.given in
-    let t = c.known_told-in-Signed-1.given in
+    let g = c.in-Signed in
     c.judge_signed.ensures c.args.src.now
-    ∙ rw (signed_back g.0.0 t.0.1, signed_back g.0.1.0 t.1.0.1) (arm (goal.at.returns-in-Signed c).Else-is_null (Kinds.Signed g.0.0 g.0.1.0) g.1)
+    ∙ rw (signed_back g.low (omega arith), signed_back g.high (omega arith)) (arm (goal.at.returns-in-Signed c).Else-is_null (Kinds.Signed g.low g.high) g.is)
 
 pub returns-in-Float : goal.returns-in-Float
 returns-in-Float c =
-    let g = c.kind-in-Float-1.given in
-    c.judge_float.ensures c.args.src.now ∙ arm (goal.at.returns-in-Float c).Else-is_null (Kinds.Float g.0.0) g.1
+    let g = c.in-Float in
+    c.judge_float.ensures c.args.src.now ∙ arm (goal.at.returns-in-Float c).Else-is_null (Kinds.Float g.range) g.is
 
 pub returns-in-Text : goal.returns-in-Text
 returns-in-Text c = c.judge_text.ensures ∙ arm (goal.at.returns-in-Text c).Else-is_null Kinds.Text c.in-Text.is

@@ -1,4 +1,5 @@
 use mathlib.Core.Path.{◌∙◌}
+use native.Mathlib.Omega.{arith}
 use Rattle.node_kinds.specs.Stored.{word_of}
 use Rattle.node_kinds.proofs.SignedLaws.{signed_back}
 use Rattle.node_kinds.proofs.stored.word_of.Goals as goal
@@ -22,8 +23,8 @@ returns-in-Unsigned c = rw c.in-Unsigned.is
 pub returns-in-Signed : goal.returns-in-Signed
 unfolding word_of
 returns-in-Signed c =
-    let g = c.v-in-Signed-1.given in
-    c.bits_of.ensures ∙ rw (g.1, signed_back g.0.0 c.known_told-in-Signed-1.given.0.1)
+    let g = c.in-Signed in
+    c.bits_of.ensures ∙ rw (g.is, signed_back g.z (omega arith))
 
 pub returns-in-Float : goal.returns-in-Float
 unfolding word_of
