@@ -1,12 +1,12 @@
 use mathlib.Core.Path.{sym, ◌∙◌}
-use borrow.Author.Tests.{not-true, not-false, eq-eqb, ne_eqb}
+use borrow.Author.Tests.{eq-eqb, ne_eqb}
 use Rattle.script_answer.proofs.message.newest.Goals as goal
 
 pub returns-then-not-is_done : goal.returns-then-not-is_done
-returns-then-not-is_done c = let d = c.is_done in rw (sym d.ensures ∙ not-true d.result c.if-not-is_done.true) c.nothing.ensures
+returns-then-not-is_done c = let d = c.is_done in rw (sym d.ensures ∙ c.if-not-is_done.true) c.nothing.ensures
 
 pub returns-then-m-eq0 : goal.returns-then-m-eq0
-returns-then-m-eq0 c = let d = c.is_done in rw (sym d.ensures ∙ not-false d.result c.if-not-is_done.false, eq-eqb c.args.m.len 0 c.if-m-eq0.true) c.nothing-then-m-eq0.ensures
+returns-then-m-eq0 c = let d = c.is_done in rw (sym d.ensures ∙ c.if-not-is_done.false, eq-eqb c.args.m.len 0 c.if-m-eq0.true) c.nothing-then-m-eq0.ensures
 
 pub returns : goal.returns
-returns c = let d = c.is_done in rw (sym d.ensures ∙ not-false d.result c.if-not-is_done.false, ne_eqb c.args.m.len 0 c.if-m-eq0.false)
+returns c = let d = c.is_done in rw (sym d.ensures ∙ c.if-not-is_done.false, ne_eqb c.args.m.len 0 c.if-m-eq0.false)

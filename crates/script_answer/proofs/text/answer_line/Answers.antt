@@ -10,12 +10,9 @@ put_bytes-end-requires c =
 
 pub put1-requires : goal.put1-requires
 put1-requires c =
-    let d = b.before.before.before.before in
-    let a = d.before.before.before.before.args in
-    omega (arith, c.put_bytes-end.ensures.place, d.put-decimal.ensures.place, length-decimal a.number, length-hex a.bytes.now, stays d.put-decimal.ensures, stays c.put_bytes-end.ensures)
+    let a = c.args in
+    omega (arith, c.put_bytes-end.ensures.place, c.put_decimal-at.ensures.place, length-decimal a.number, length-hex a.bytes.now, stays c.put_decimal-at.ensures, stays c.put_bytes-end.ensures)
 
 pub returns : goal.returns
 returns c =
-    let b = e.before.before.before.before in
-    let d = b.before.before.before.before in
-    then d.put-decimal.ensures (then b.put-bytes.ensures c.put1.ensures)
+    then c.put_decimal-at.ensures (then c.put_bytes-end.ensures c.put1.ensures)

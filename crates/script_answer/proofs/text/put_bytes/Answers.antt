@@ -22,9 +22,8 @@ put_byte-next-requires c =
 
 pub loop-i-preserved : goal.loop-i-preserved
 loop-i-preserved c =
-    let s = p.before.before.before.before in
-    let bytes = s.before.before.before.args.bytes.now in
-    let l = s.loop in
+    let bytes = c.args.bytes.now in
+    let l = c.loop-i in
     (omega arith, rw (add-one, hex-more bytes l.i (omega arith)) (then l.invariant.1 c.put_byte-next.ensures))
 
 pub shape_of-text : goal.shape_of-text

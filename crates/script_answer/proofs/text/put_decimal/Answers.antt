@@ -5,24 +5,14 @@ use Rattle.script_answer.proofs.text.put_decimal.Goals as goal
 
 pub returns-then-n-lt10 : goal.returns-then-n-lt10
 unfolding decimal_text
-returns-then-n-lt10 c =
-    let one = p.before in
-    simp (lt-ltb _ _ one.before.before.if1.true) (rw (← one.digit.ensures) c.put1.ensures)
+returns-then-n-lt10 c = simp (lt-ltb _ _ c.if-n-lt10.true) (rw (← c.digit.ensures) c.put1.ensures)
 
 pub returns-then-n-lt100 : goal.returns-then-n-lt100
 unfolding decimal_text
 returns-then-n-lt100 c =
-    let one = p.before in
-    let ten = one.before in
-    let test = ten.before.before in
-    simp (le-ltb _ _ test.before.if1.false, lt-ltb _ _ test.if2.true) (rw (← ten.digit2.ensures, ← one.digit3.ensures) c.put2.ensures)
+    simp (le-ltb _ _ c.if-n-lt10.false, lt-ltb _ _ c.if-n-lt100.true) (rw (← c.digit-then-n-lt100.ensures, ← c.digit-then-n-lt100-2.ensures) c.put2.ensures)
 
 pub returns : goal.returns
 unfolding decimal_text
 returns c =
-    let one = p.before in
-    let ten = one.before in
-    let q = ten.before.before.before.before in
-    let hundred = q.before in
-    let test = hundred.before.before in
-    simp (le-ltb _ _ test.before.if1.false, le-ltb _ _ test.if2.false) (rw (← hundred.digit4.ensures, ← ten.digit5.ensures, ← one.digit6.ensures) (then q.put12.ensures c.put2-2.ensures))
+    simp (le-ltb _ _ c.if-n-lt10.false, le-ltb _ _ c.if-n-lt100.false) (rw (← c.digit-2.ensures, ← c.digit-3.ensures, ← c.digit-4.ensures) (then c.put1-at.ensures c.put2-2.ensures))
