@@ -1,16 +1,9 @@
-use Prim.Native.Nat.{◌-◌, ◌<◌}
 use native.Mathlib.Omega.{arith}
-use lib.ListN.{get_or}
 use Rattle.base_octets.proofs.StoreLaws as Stores
 use Rattle.cache_order.proofs.OrderLaws.{places-at}
 use Rattle.cache_messages.proofs.FilterLaws.{filters-begin, filters-done, filters-more}
 use borrow.Author.Rules.{rules}
 use Rattle.cache_messages.proofs.read.put_rising.Goals as goal
-use Rattle.cache_messages.proofs.read.put_rising.Goals.{In-loop-j}
-
--- the place of the cluster of rank j is that of a cluster
-place-below : (c : In-loop-j invariant-loop decreases-loop) → get_or c.before.before.before.before.args.order.now c.before.loop.j 0 < c.before.before.before.before.args.n
-place-below c = places-at c.before.before.before.before.args.order.now c.before.before.before.before.args.n c.before.before.before.before.requires.1.1.0 c.before.loop.j c.loop-test.true
 
 pub loop-j-init : goal.loop-j-init
 loop-j-init c = (search rules, filters-begin _ _ _ _ _ _)
@@ -19,19 +12,19 @@ pub bounds-order-j : goal.bounds-order-j
 bounds-order-j c = omega (arith, c.requires.1.0, c.loop-j-test.true)
 
 pub overflow_cast-k : goal.overflow_cast-k
-overflow_cast-k c = omega (arith, place-below c.before, c.requires.0)
+overflow_cast-k c = omega (arith, places-at c.args.order.now c.args.n c.requires.1.1.0 c.loop-j.j c.loop-j-test.true, c.requires.0)
 
 pub offset_bounds-shares-k : goal.offset_bounds-shares-k
-offset_bounds-shares-k c = omega (arith, place-below c.before, c.requires.0)
+offset_bounds-shares-k c = omega (arith, places-at c.args.order.now c.args.n c.requires.1.1.0 c.loop-j.j c.loop-j-test.true, c.requires.0)
 
 pub bounds-shares-k : goal.bounds-shares-k
-bounds-shares-k c = omega (arith, place-below c.before, c.requires.0)
+bounds-shares-k c = omega (arith, places-at c.args.order.now c.args.n c.requires.1.1.0 c.loop-j.j c.loop-j-test.true, c.requires.0)
 
 pub offset_bounds-clusters-k : goal.offset_bounds-clusters-k
-offset_bounds-clusters-k c = omega (arith, place-below c.before.before, c.requires.0)
+offset_bounds-clusters-k c = omega (arith, places-at c.args.order.now c.args.n c.requires.1.1.0 c.loop-j.j c.loop-j-test.true, c.requires.0)
 
 pub bounds-clusters-k : goal.bounds-clusters-k
-bounds-clusters-k c = omega (arith, place-below c.before.before, c.requires.0)
+bounds-clusters-k c = omega (arith, places-at c.args.order.now c.args.n c.requires.1.1.0 c.loop-j.j c.loop-j-test.true, c.requires.0)
 
 pub put_filter_for-at-requires : goal.put_filter_for-at-requires
 put_filter_for-at-requires c = omega (arith, c.loop-j.invariant.1.near, c.loop-j-test.true, c.requires.0, c.requires.1.1.1, Stores.same_length c.loop-j.invariant.1.stored)
