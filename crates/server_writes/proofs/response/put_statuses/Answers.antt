@@ -36,7 +36,7 @@ pub bounds-codes-i : goal.bounds-codes-i
 bounds-codes-i c = omega (arith, c.requires.0, c.loop-i-test.true)
 
 pub put_write_status-at-requires : goal.put_write_status-at-requires
-put_write_status-at-requires c = omega (arith, answer-bound c.entry_in-x.result (get_or c.args.t2 c.loop-i.i 0) (subst InWidth (sym c.entry_in-x.ensures) (c.requires.1.0 c.loop-i.i c.loop-i-test.true)) (elem_Fits w8 w8 c.args.t2 c.well_formed.1.0.0 c.loop-i.i c.well_formed.1.0.1.1 tt).fits, c.loop-i.invariant.1, c.requires.1.1, c.loop-i-test.true, kept-length c.loop-i.invariant.2)
+put_write_status-at-requires c = omega (arith, answer-bound c.entry_in-x.result (get_or c.args.codes c.loop-i.i 0) (subst InWidth (sym c.entry_in-x.ensures) (c.requires.1.0 c.loop-i.i c.loop-i-test.true)) (elem_Fits w8 w8 c.args.codes c.well_formed.1.0.0 c.loop-i.i c.well_formed.1.0.1.1 tt).fits, c.loop-i.invariant.1, c.requires.1.1, c.loop-i-test.true, kept-length c.loop-i.invariant.2)
 
 pub overflow_add-i : goal.overflow_add-i
 overflow_add-i c = omega (arith, c.requires.0, c.loop-i-test.true)
@@ -45,10 +45,10 @@ pub loop-i-smaller : goal.loop-i-smaller
 loop-i-smaller c = omega (arith, c.loop-i-test.true)
 
 pub loop-i-preserved : goal.loop-i-preserved
-loop-i-preserved c = let a = c.args in let l = c.loop-i in let x = c.entry_in-x in let e = c.put_write_status-at.ensures in let h = c.loop-i-test.true in let whole : length a.t2 ≡ write_limit = c.well_formed.1.0.1.0.1 in (
+loop-i-preserved c = let a = c.args in let l = c.loop-i in let x = c.entry_in-x in let e = c.put_write_status-at.ensures in let h = c.loop-i-test.true in let whole : length a.codes ≡ write_limit = c.well_formed.1.0.1.0.1 in (
   omega (arith, h),
-  omega (arith, answer-bound c.entry_in-x.result (get_or c.args.t2 c.loop-i.i 0) (subst InWidth (sym c.entry_in-x.ensures) (c.requires.1.0 c.loop-i.i c.loop-i-test.true)) (elem_Fits w8 w8 c.args.t2 c.well_formed.1.0.0 c.loop-i.i c.well_formed.1.0.1.1 tt).fits, l.invariant.1, e.place),
-  status-next a.entries.now a.t2 a.n l.i x.result h x.ensures (omega (arith, whole, c.requires.0, h)) l.invariant.2 e,
+  omega (arith, answer-bound c.entry_in-x.result (get_or c.args.codes c.loop-i.i 0) (subst InWidth (sym c.entry_in-x.ensures) (c.requires.1.0 c.loop-i.i c.loop-i-test.true)) (elem_Fits w8 w8 c.args.codes c.well_formed.1.0.0 c.loop-i.i c.well_formed.1.0.1.1 tt).fits, l.invariant.1, e.place),
+  status-next a.entries.now a.codes a.n l.i x.result h x.ensures (omega (arith, whole, c.requires.0, h)) l.invariant.2 e,
 )
 
 pub shape_of-out : goal.shape_of-out
