@@ -40,13 +40,13 @@ module _ {Value : Type 0} where
   pub stored_grows : (clusters : ℕ → Cluster Value) (stores : List (Store Value)) → Grown clusters (stored_in clusters stores)
   unfolding stored_in
   stored_grows clusters [] = still clusters
-  stored_grows clusters (k ∷ stores) = grown-on clusters _ _ (changed-grows clusters k.cluster k.attribute k.value) (stored_grows _ stores)
+  stored_grows clusters (k ∷ stores) = grown-on clusters _ _ (changed-grows clusters k.cluster k.attribute k.value) (stored_grows (update clusters k.cluster (changed (clusters k.cluster) k.attribute k.value)) stores)
 
   stored-counts : (node : Node Value) (clusters : ℕ → Cluster Value) (stores : List (Store Value)) → Counted node clusters → Counted node (stored_in clusters stores)
   unfolding stored_in
   stored-counts node clusters [] h = h
   stored-counts node clusters (k ∷ stores) h =
-      stored-counts node _ stores
+      stored-counts node (update clusters k.cluster (changed (clusters k.cluster) k.attribute k.value)) stores
       (update_all (λ (d : ℕ) (u : Cluster Value). u.version ≡ version_after node d u.changes) clusters k.cluster (changed (clusters k.cluster) k.attribute k.value)
       (rw (h k.cluster) (counts-on (node.first_version k.cluster) (clusters k.cluster).changes)) h)
 

@@ -129,7 +129,7 @@ module _ {Value : Type 0} where
         opened = v.opened;
         one = omega arith;
         exchange = λ e. omega arith;
-        messages = all_cons (Fine _) tt (λ u i. begun-fine s.cache _ refl u (h.cache.ids u i) (v.messages u i));
+        messages = all_cons (Fine (begin_read s filters).cache) tt (λ u i. begun-fine s.cache (begin_read s filters).cache refl u (h.cache.ids u i) (v.messages u i));
         turn = λ e. absurd (omega (arith, v.last));
         keeps = holds-grow (λ u i. Memᴰ.tail i) s.row v.keeps;
         newest = λ e. first s.messages refl refl;
@@ -143,7 +143,7 @@ module _ {Value : Type 0} where
         opened = v.opened;
         one = omega arith;
         exchange = λ e. omega arith;
-        messages = all_cons (Fine _) (λ e. absurd (true≢false (sym e))) (λ u i. begun-fine s.cache _ refl u (h.cache.ids u i) (v.messages u i));
+        messages = all_cons (Fine (begin_write s).cache) (λ e. absurd {0} (true≢false (sym e))) (λ u i. begun-fine s.cache (begin_write s).cache refl u (h.cache.ids u i) (v.messages u i));
         turn = λ e. absurd (omega (arith, v.last));
         keeps = holds-grow (λ u i. Memᴰ.tail i) s.row v.keeps;
         newest = λ e. absurd (true≢false (sym e));
