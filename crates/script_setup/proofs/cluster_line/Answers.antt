@@ -1,5 +1,4 @@
 use mathlib.Core.Path.{sym, ◌∙◌}
-use borrow.Author.Tests.{not-true, not-false}
 use Rattle.script_setup.specs.Setup.{cluster_read, cluster_line}
 use Rattle.script_setup.proofs.cluster_line.Goals as goal
 
@@ -9,7 +8,7 @@ returns-then-not-is_done c =
     let p = c.read_place-p.ensures in
     let v = c.read_number-version.ensures.value in
     let d = c.is_done in
-    let no = sym d.ensures ∙ not-true d.result c.if-not-is_done.true in
+    let no = sym d.ensures ∙ c.if-not-is_done.true in
     record { value = rw (← p, ← v, no); setup_after = rw (← p, ← v, no) }
 
 pub returns : goal.returns
@@ -18,5 +17,5 @@ returns c =
     let p = c.read_place-p.ensures in
     let v = c.read_number-version.ensures.value in
     let d = c.is_done in
-    let yes = sym d.ensures ∙ not-false d.result c.if-not-is_done.false in
+    let yes = sym d.ensures ∙ c.if-not-is_done.false in
     record { value = rw (← p, ← v, yes); setup_after = rw (← p, ← v, yes) c.add_cluster.ensures }

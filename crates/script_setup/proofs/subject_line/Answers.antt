@@ -1,5 +1,4 @@
 use mathlib.Core.Path.{sym, ◌∙◌}
-use borrow.Author.Tests.{not-true, not-false}
 use Rattle.script_setup.specs.Setup.{subject_at}
 use Rattle.script_setup.proofs.subject_line.Goals as goal
 
@@ -8,7 +7,7 @@ unfolding subject_at
 returns-then-not-is_done c =
     let n = c.read_number-n.ensures.value in
     let d = c.is_done in
-    let no = sym d.ensures ∙ not-true d.result c.if-not-is_done.true in
+    let no = sym d.ensures ∙ c.if-not-is_done.true in
     record { value = rw (← n, no); setup_after = rw (← n, no) }
 
 pub returns : goal.returns
@@ -16,5 +15,5 @@ unfolding subject_at
 returns c =
     let n = c.read_number-n.ensures.value in
     let d = c.is_done in
-    let yes = sym d.ensures ∙ not-false d.result c.if-not-is_done.false in
+    let yes = sym d.ensures ∙ c.if-not-is_done.false in
     record { value = rw (← n, yes); setup_after = rw (← n, yes) }

@@ -1,5 +1,4 @@
 use mathlib.Core.Path.{sym, ◌∙◌}
-use borrow.Author.Tests.{not-true, not-false}
 use Rattle.script_setup.specs.Access.{access_at}
 use Rattle.script_setup.proofs.access.access_line.Goals as goal
 
@@ -11,7 +10,7 @@ returns-then-not-is_done c =
     let e = c.read_marked-endpoint.ensures.value in
     let k = c.read_marked-cluster.ensures.value in
     let d = c.is_done in
-    rw (← p, ← subject, ← e, ← k, sym d.ensures ∙ not-true d.result c.if-not-is_done.true)
+    rw (← p, ← subject, ← e, ← k, sym d.ensures ∙ c.if-not-is_done.true)
 
 pub returns : goal.returns
 unfolding access_at
@@ -21,4 +20,4 @@ returns c =
     let e = c.read_marked-endpoint.ensures.value in
     let k = c.read_marked-cluster.ensures.value in
     let d = c.is_done in
-    rw (c.with_entry-more.ensures, ← p, ← subject, ← e, ← k, sym d.ensures ∙ not-false d.result c.if-not-is_done.false)
+    rw (c.with_entry-more.ensures, ← p, ← subject, ← e, ← k, sym d.ensures ∙ c.if-not-is_done.false)

@@ -17,7 +17,7 @@ unfolding zeros attribute_setup attribute_texts
 returns-then-not-limits c =
     let a = c.args in
     let r = c.read_row-row in
-    let no : attribute_read a.line.now a.s ≡ false = ap (λ (x : AttributeLine). x.limits.ok) (sym r.ensures.0) ∙ not-true r.result.limits.ok c.if-not-limits.true in
+    let no : attribute_read a.line.now a.s ≡ false = ap (λ (x : AttributeLine). x.limits.ok) (sym r.ensures.value) ∙ not-true r.result.limits.ok c.if-not-limits.true in
     record { value = sym no; setup_after = rw no; texts_after = rw no }
 
 pub returns : goal.returns
@@ -25,6 +25,6 @@ unfolding zeros attribute_setup attribute_texts
 returns c =
     let a = c.args in
     let r = c.read_row-row in
-    let yes : attribute_read a.line.now a.s ≡ true = ap (λ (x : AttributeLine). x.limits.ok) (sym r.ensures.0) ∙ not-false r.result.limits.ok c.if-not-limits.false in
+    let yes : attribute_read a.line.now a.s ≡ true = ap (λ (x : AttributeLine). x.limits.ok) (sym r.ensures.value) ∙ not-false r.result.limits.ok c.if-not-limits.false in
     let added = c.add_row.ensures in
-    record { value = sym yes; setup_after = (rw r.ensures.0 at added.0) ∙ picked (attribute_read a.line.now a.s) a.setup.now yes; texts_after = (rw (r.ensures.1, r.ensures.0) at added.1) ∙ picked (attribute_read a.line.now a.s) a.texts.now yes }
+    record { value = sym yes; setup_after = (rw r.ensures.value at added.setup_after) ∙ picked (attribute_read a.line.now a.s) a.setup.now yes; texts_after = (rw (r.ensures.bytes_after, r.ensures.value) at added.texts_after) ∙ picked (attribute_read a.line.now a.s) a.texts.now yes }

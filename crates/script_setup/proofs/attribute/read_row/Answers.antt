@@ -9,4 +9,4 @@ returns c =
     let w = c.read_marked-write.ensures.value in
     let n = c.read_flag-nullable.ensures.value in
     let l = c.read_limits-limits.ensures in
-    record { value = rw (c.privilege.ensures.value, c.privilege-2.ensures.value, ← p, ← r, ← w, ← n, ← l.0); bytes_after = rw (← p, ← r, ← w, ← n) l.1.0 }
+    record { value = rw (c.privilege.ensures.value, c.privilege-2.ensures.value, ← p, ← r, ← w, ← n, ← l.value); bytes_after = rw (← p, ← r, ← w, ← n) l.bytes_after }

@@ -3,4 +3,4 @@ use Rattle.script_setup.proofs.attribute.text.Goals as goal
 
 pub returns : goal.returns
 returns c = let r = c.rest-b in
-    record { value = rw r.ensures.0; bytes_after = r.ensures.1.0; code_bound = search rules }
+    record { value = rw r.ensures.value; bytes_after = r.ensures.out_after; code_bound = search rules }

@@ -18,7 +18,7 @@ loop-i-preserved c =
     let i = c.loop-i.i in
     let more : n - i ≡ suc (n - (i + 1)) = omega arith in
     let key = c.set_key-rank.ensures in
-    (omega arith, (omega arith, rw (key.0, key.1.0) (rw more at c.loop-i.invariant.1.1)))
+    (omega arith, (omega arith, rw (key.value, key.words_after) (rw more at c.loop-i.invariant.1.1)))
 
 pub returns : goal.returns
 unfolding keys_from keys_set

@@ -10,5 +10,5 @@ use Rattle.script_setup.proofs.plan.set_schema.Goals as goal
 pub returns : goal.returns
 returns c =
     let a = c.args in
-    let size : length a.words.now ≡ word_count = omega (arith, c.set_words-arg-1.given, c.set_words-arg-2-1.given) in
+    let size : length a.words.now ≡ word_count = omega arith in
     c.set_keys.ensures ∙ ap (λ (w : List ℕ). keys_set a.setup.now w) (c.set_words.ensures ∙ ap (λ (n : ℕ). take n a.setup.now) size)
