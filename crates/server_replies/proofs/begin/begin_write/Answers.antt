@@ -61,7 +61,7 @@ sent c =
     let h = (held_of c.args.words.now c.args.nulls.now c.args.texts.now c.args.versions.now c.args.edits.now) in
     let w = c.write_all-codes in
     let n = write-count a.payload.now c.write_request-r.ensures in
-    let q = (write_entries c.args.payload.now c.write_request-r.ensures (few c)) in
+    let q = write_entries c.args.payload.now c.write_request-r.ensures (refusal-none ((record { good = c.write_request-r.result.good; timed = c.write_request-r.result.timed; paths = 0; filters = 0; writes = c.write_request-r.result.entries })) (sym c.refusal_code-refusal.ensures ∙ c.if-refusal-ne0.false)).writes in
     response-sent a.payload.now refl (server_with a.w.now a.defaults.now h (row_in [] a.t a.kept.now)) a.g a.exchange ((sym ((c.refusal_code-refusal.ensures ∙ ap refusal_code (write-asks c.args.payload.now c.write_request-r.ensures))) ∙ c.if-refusal-ne0.false)) (w.ensures.1 ∙ ap (λ (xs : List WriteEntry). codes_in (codes_of a.w.now a.g a.defaults.now a.payload.now h xs)) q) (response-as cache_edition a.exchange first_reply w.result q n c.put_statuses-end.ensures)
 
 short : (c : After-put_statuses-end) →
@@ -81,7 +81,7 @@ write_all-codes-requires c = let p = c.requires in (p.0, (few (goal.at.write_all
 pub returns-then-r-eq1 : goal.returns-then-r-eq1
 returns-then-r-eq1 c = let a = c.args in let h = held (goal.at.returns-then-r-eq1 c).After-write_request-r in let k = c.once_kept.ensures in λ row. let x = row_in row a.t a.kept.now in let u : Server = server_with a.w.now a.defaults.now (held_of a.words.now a.nulls.now a.texts.now a.versions.now a.edits.now) x in
     wrote-done a.payload.now refl u a.g a.exchange (accepted (goal.at.returns-then-r-eq1 c).Else-refusal-ne0) (c.write_all-codes.ensures.0 ∙ ap (held_after a.w.now a.g a.defaults.now a.payload.now h) (entries (goal.at.returns-then-r-eq1 c).Else-refusal-ne0)) (silent a.payload.now refl u a.g a.exchange (sym (write-suppress a.payload.now c.write_request-r.ensures) ∙ c.if-r-eq1.true))
-    (k.0 row, (nothing-given x k.1 (answered a.exchange) x.request x.place a.out.now (k.0 row), kept_full x k.1 (answered a.exchange) x.request x.place [] (omega arith) (k.0 row)))
+    (k.by_index row, (nothing-given x k.whole (answered a.exchange) x.request x.place a.out.now (k.by_index row), kept_full x k.whole (answered a.exchange) x.request x.place [] (omega arith) (k.by_index row)))
 
 pub put_statuses-end-requires : goal.put_statuses-end-requires
 put_statuses-end-requires c = let p = c.requires in (few (goal.at.put_statuses-end-requires c).Else-refusal-ne0, (widths (goal.at.put_statuses-end-requires c).Else-refusal-ne0, (omega arith, (p.1.1.0, p.1.1.1))))
@@ -95,4 +95,4 @@ once_kept-requires-2 c = omega (arith, part-short (sent (goal.at.once_kept-requi
 pub returns : goal.returns
 returns c = let a = c.args in let h = held (goal.at.returns c).After-write_request-r in let k = c.once_kept-2.ensures in λ row. let x = row_in row a.t a.kept.now in let u : Server = server_with a.w.now a.defaults.now (held_of a.words.now a.nulls.now a.texts.now a.versions.now a.edits.now) x in
     wrote-done a.payload.now refl u a.g a.exchange (accepted (goal.at.returns c).Else-refusal-ne0) (c.write_all-codes.ensures.0 ∙ ap (held_after a.w.now a.g a.defaults.now a.payload.now h) (entries (goal.at.returns c).Else-refusal-ne0)) (spoken a.payload.now refl u a.g a.exchange (λ z. c.if-r-eq1.false (write-suppress a.payload.now c.write_request-r.ensures ∙ z)))
-    (both-given x k.1 (answered a.exchange) x.request x.place (sent (goal.at.returns c).After-put_statuses-end) (short (goal.at.returns c).After-put_statuses-end) c.requires.1.1.1 (k.0 row))
+    (both-given x k.whole (answered a.exchange) x.request x.place (sent (goal.at.returns c).After-put_statuses-end) (short (goal.at.returns c).After-put_statuses-end) c.requires.1.1.1 (k.by_index row))
