@@ -3,10 +3,8 @@ use mathlib.Core.Path.{◌≡◌, refl, sym, ap, ◌∙◌}
 use Prim.Native.Nat.{ℕ, ◌+◌, ◌%◌, ◌≤◌, ◌<◌}
 use native.Mathlib.Omega.{arith}
 use mathlib.Core.Bool.{Bool, true, false, not}
-use mathlib.Core.List.{List, [], ◌∷◌}
+use mathlib.Core.List.{List, []}
 use borrow.Author.Tests.{eqb-true, eq-eqb, ne_eqb}
-use types.Run.{OneOf, miss}
-use denote.Enum.Declared.{tag_of}
 use mir.Syntax.{w64}
 use mir.Val.{to_z}
 use lib.Dec.{eqb, leb, ltb}
@@ -14,7 +12,6 @@ use lib.ListN.{length, get_or}
 use Rattle.tlv_reader.specs.Octet.{pick}
 use Rattle.tlv_reader.specs.declared.Value.{Value}
 use Rattle.tlv_reader.specs.declared.Value.TheVariants as value
-use Rattle.tlv_reader.specs.contracts.Value as ValueType
 use Rattle.node_schema.specs.declared.Found.{Found}
 use Rattle.node_schema.specs.declared.Found.TheVariants as found
 use Rattle.node_schema.proofs.SearchLaws as Search
@@ -30,7 +27,6 @@ use Rattle.cache_state.specs.Words.{words_right}
 use Rattle.cache_state.proofs.StateLaws.{right-held, right-size}
 use Rattle.cache_ask.specs.declared.EntryHeld.{EntryHeld}
 use Rattle.cache_ask.specs.declared.EntryHeld.TheVariants as held
-use Rattle.cache_ask.specs.contracts.EntryHeld as HeldType
 use Rattle.cache_ask.specs.Ask.{value_by, entry_read, entry_of, text_of_value, text_of_entry, text_of, text_shown, Ordered}
 
 never : {A : Type 0} → ◌≡◌ {A = ℕ} 0 1 → A
@@ -74,18 +70,18 @@ module _ (page : List ℕ) (s : CacheState) (h : cache_right page s ≡ true) wh
     found-short k = (found-text k).short
 
 -- no text
-pub no-entry : (page : List ℕ) (x : EntryHeld) → OneOf (0 ∷ 1 ∷ []) (tag_of HeldType.the_type x) → [] ≡ text_of_entry page x
+pub no-entry : (page : List ℕ) (x : EntryHeld) → ((version : ℕ) (v : Value) → x ≡ held.Here version v → ⊥) → [] ≡ text_of_entry page x
 no-entry page held.Broken h = refl
 no-entry page held.Nothing h = refl
-no-entry page (held.Here v x) h = absurd (miss (0 ∷ 1 ∷ []) 2 tt h)
+no-entry page (held.Here v x) h = absurd (h v x refl)
 
-pub no_text : (page : List ℕ) (v : Value) → OneOf (0 ∷ 1 ∷ 2 ∷ 3 ∷ 4 ∷ 6 ∷ []) (tag_of ValueType.the_type v) → [] ≡ text_of_value page v
+pub no_text : (page : List ℕ) (v : Value) → ((start len : ℕ) → v ≡ value.Text start len → ⊥) → [] ≡ text_of_value page v
 no_text page value.Null h = refl
 no_text page (value.Boolean b) h = refl
 no_text page (value.Unsigned n) h = refl
 no_text page (value.Signed z) h = refl
 no_text page (value.Float n) h = refl
-no_text page (value.Text a n) h = absurd (miss (0 ∷ 1 ∷ 2 ∷ 3 ∷ 4 ∷ 6 ∷ []) 5 tt h)
+no_text page (value.Text a n) h = absurd (h a n refl)
 no_text page value.Other h = refl
 
 -- what is of no other kind is a text

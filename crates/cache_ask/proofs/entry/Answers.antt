@@ -29,7 +29,7 @@ abbrev lent : Start → CacheStanding → List ℕ → CacheState
 lent s t kept = state_with s.args.clusters.now s.args.keys.now s.args.versions.now s.args.kinds.now s.args.words.now s.args.order.now s.args.lengths.now t kept
 
 as_read : (c : After-cache_ok) (kept : List ℕ) {r : EntryHeld} → AnswersEntry c.args.asked.now c.args.page.now (lent (goal.at.After-cache_ok c).Start c.read_standing-t.result kept) c.args.endpoint c.args.cluster c.args.attribute r → AnswersEntry c.args.asked.now c.args.page.now (lent (goal.at.After-cache_ok c).Start (standing_in c.args.asked.now) kept) c.args.endpoint c.args.cluster c.args.attribute r
-as_read c kept {r} k = subst (λ (t : CacheStanding). AnswersEntry c.args.asked.now c.args.page.now (lent c t kept) c.args.endpoint c.args.cluster c.args.attribute r) c.read_standing-t.ensures.value k
+as_read c kept {r} k = subst (λ (t : CacheStanding). AnswersEntry c.args.asked.now c.args.page.now (lent (goal.at.After-cache_ok c).Start t kept) c.args.endpoint c.args.cluster c.args.attribute r) c.read_standing-t.ensures.value k
 
 -- it keeps the rules
 kept-rules : (c : Else-not-cache_ok) (kept : List ℕ) → (words_right c.args.asked.now && cache_right c.args.page.now (lent (goal.at.Else-not-cache_ok c).Start c.read_standing-t.result kept)) ≡ true
@@ -39,20 +39,20 @@ ruled : (c : Else-not-cache_ok) (kept : List ℕ) → cache_right c.args.page.no
 ruled c kept = right (words_right c.args.asked.now) _ (kept-rules c kept)
 
 -- the entry that was found
-there : (c : In-At) → let s = e.before.before.before.before in path_at (lent s c.read_standing-t.result []).held s.args.endpoint s.args.cluster s.args.attribute ≡ found.At c.in-At.i
+there : (c : In-At) → path_at (lent (goal.at.In-At c).Start c.read_standing-t.result []).held c.args.endpoint c.args.cluster c.args.attribute ≡ found.At c.in-At.i
 there c = sym (c.path_at.ensures c.args.versions.now c.args.kinds.now c.args.words.now c.args.lengths.now) ∙ c.in-At.is
 
 below : (c : In-At) → c.in-At.i < max_entries
-below c = let s = e.before.before.before.before in entry_found s.args.page.now (lent s c.read_standing-t.result []) (ruled c []) s.args.endpoint s.args.cluster s.args.attribute c.in-At.i (there c)
+below c = entry_found c.args.page.now (lent (goal.at.In-At c).Start c.read_standing-t.result []) (ruled (goal.at.In-At c).Else-not-cache_ok []) c.args.endpoint c.args.cluster c.args.attribute c.in-At.i (there c)
 
 pub returns-then-not-cache_ok : goal.returns-then-not-cache_ok
-returns-then-not-cache_ok c = let a = c.args in λ kept. as_read (goal.at.returns-then-not-cache_ok c).After-cache_ok kept (entry-broken a.asked.now a.page.now (lent c c.read_standing-t.result kept) a.endpoint a.cluster a.attribute (sym (c.cache_ok.ensures kept) ∙ c.if-not-cache_ok.true))
+returns-then-not-cache_ok c = let a = c.args in λ kept. as_read (goal.at.returns-then-not-cache_ok c).After-cache_ok kept (entry-broken a.asked.now a.page.now (lent (goal.at.returns-then-not-cache_ok c).Start c.read_standing-t.result kept) a.endpoint a.cluster a.attribute (sym (c.cache_ok.ensures kept) ∙ c.if-not-cache_ok.true))
 
 pub path_at-requires : goal.path_at-requires
 path_at-requires c = right-ordered c.args.page.now (lent (goal.at.path_at-requires c).Start c.read_standing-t.result []) (ruled (c) [])
 
 pub returns-in_default : goal.returns-in_default
-returns-in_default c = let a = c.args in λ kept. as_read (goal.at.returns-in_default c).After-cache_ok kept (entry-right a.asked.now a.page.now (lent c c.read_standing-t.result kept) a.endpoint a.cluster a.attribute (kept-rules (goal.at.returns-in_default c).Else-not-cache_ok kept) (sym (ap (entry_read (lent c c.read_standing-t.result kept).held) (sym (c.path_at.ensures a.versions.now a.kinds.now a.words.now a.lengths.now) ∙ c.in_default.is))))
+returns-in_default c = let a = c.args in λ kept. as_read (goal.at.returns-in_default c).After-cache_ok kept (entry-right a.asked.now a.page.now (lent (goal.at.returns-in_default c).Start c.read_standing-t.result kept) a.endpoint a.cluster a.attribute (kept-rules (goal.at.returns-in_default c).Else-not-cache_ok kept) (sym (ap (entry_read (lent (goal.at.returns-in_default c).Start c.read_standing-t.result kept).held) (sym (c.path_at.ensures a.versions.now a.kinds.now a.words.now a.lengths.now) ∙ c.in_default.is))))
 
 pub offset_bounds-versions-i : goal.offset_bounds-versions-i
 offset_bounds-versions-i c = omega (arith, below (goal.at.offset_bounds-versions-i c).In-At)
@@ -61,7 +61,7 @@ pub bounds-versions-i : goal.bounds-versions-i
 bounds-versions-i c = omega (arith, below (goal.at.bounds-versions-i c).In-At)
 
 pub returns-then-version-ge-NO_VERSION : goal.returns-then-version-ge-NO_VERSION
-returns-then-version-ge-NO_VERSION c = let a = c.args in λ kept. as_read (goal.at.returns-then-version-ge-NO_VERSION c).After-cache_ok kept (entry-right a.asked.now a.page.now (lent c c.read_standing-t.result kept) a.endpoint a.cluster a.attribute (kept-rules (goal.at.returns-then-version-ge-NO_VERSION c).Else-not-cache_ok kept) (rw (there (goal.at.returns-then-version-ge-NO_VERSION c).In-At, le-ltb _ no_version c.if-version-ge-NO_VERSION.true) refl))
+returns-then-version-ge-NO_VERSION c = let a = c.args in λ kept. as_read (goal.at.returns-then-version-ge-NO_VERSION c).After-cache_ok kept (entry-right a.asked.now a.page.now (lent (goal.at.returns-then-version-ge-NO_VERSION c).Start c.read_standing-t.result kept) a.endpoint a.cluster a.attribute (kept-rules (goal.at.returns-then-version-ge-NO_VERSION c).Else-not-cache_ok kept) (rw (there (goal.at.returns-then-version-ge-NO_VERSION c).In-At, le-ltb _ no_version c.if-version-ge-NO_VERSION.true) refl))
 
 pub bounds-kinds-i : goal.bounds-kinds-i
 bounds-kinds-i c = omega (arith, below (goal.at.bounds-kinds-i c).In-At)
@@ -73,7 +73,7 @@ pub bounds-words-i : goal.bounds-words-i
 bounds-words-i c = omega (arith, below (goal.at.bounds-words-i c).In-At)
 
 pub value_by-requires : goal.value_by-requires
-value_by-requires c = let a = c.args in let st = lent c c.read_standing-t.result [] in (found_word a.page.now st (ruled (goal.at.value_by-requires c).Else-not-cache_ok []) a.endpoint a.cluster a.attribute c.in-At.i (there (goal.at.value_by-requires c).In-At), found-place a.page.now st (ruled (goal.at.value_by-requires c).Else-not-cache_ok []) a.endpoint a.cluster a.attribute c.in-At.i (there (goal.at.value_by-requires c).In-At))
+value_by-requires c = let a = c.args in let st = lent (goal.at.value_by-requires c).Start c.read_standing-t.result [] in (found_word a.page.now st (ruled (goal.at.value_by-requires c).Else-not-cache_ok []) a.endpoint a.cluster a.attribute c.in-At.i (there (goal.at.value_by-requires c).In-At), found-place a.page.now st (ruled (goal.at.value_by-requires c).Else-not-cache_ok []) a.endpoint a.cluster a.attribute c.in-At.i (there (goal.at.value_by-requires c).In-At))
 
 pub returns : goal.returns
-returns c = let a = c.args in λ kept. as_read (goal.at.returns c).After-cache_ok kept (entry-right a.asked.now a.page.now (lent c c.read_standing-t.result kept) a.endpoint a.cluster a.attribute (kept-rules (goal.at.returns c).Else-not-cache_ok kept) (ap (λ (v : Value). held.Here (get_or a.versions.now c.in-At.i 0) v) c.value_by.ensures ∙ rw (there (goal.at.returns c).In-At, lt-ltb _ no_version c.if-version-ge-NO_VERSION.false) refl))
+returns c = let a = c.args in λ kept. as_read (goal.at.returns c).After-cache_ok kept (entry-right a.asked.now a.page.now (lent (goal.at.returns c).Start c.read_standing-t.result kept) a.endpoint a.cluster a.attribute (kept-rules (goal.at.returns c).Else-not-cache_ok kept) (ap (λ (v : Value). held.Here (get_or a.versions.now c.in-At.i 0) v) c.value_by.ensures ∙ rw (there (goal.at.returns c).In-At, lt-ltb _ no_version c.if-version-ge-NO_VERSION.false) refl))

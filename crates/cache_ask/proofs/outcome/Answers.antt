@@ -22,7 +22,7 @@ abbrev lent : Start → CacheStanding → List ℕ → CacheState
 lent s t kept = state_with s.args.clusters.now s.args.keys.now s.args.versions.now s.args.kinds.now s.args.words.now s.args.order.now s.args.lengths.now t kept
 
 as_read : (c : After-cache_ok) (kept : List ℕ) {r : Ended} → AnswersOutcome c.args.asked.now c.args.page.now (lent (goal.at.After-cache_ok c).Start c.read_standing-t.result kept) r → AnswersOutcome c.args.asked.now c.args.page.now (lent (goal.at.After-cache_ok c).Start (standing_in c.args.asked.now) kept) r
-as_read c kept {r} k = subst (λ (t : CacheStanding). AnswersOutcome c.args.asked.now c.args.page.now (lent c t kept) r) c.read_standing-t.ensures.value k
+as_read c kept {r} k = subst (λ (t : CacheStanding). AnswersOutcome c.args.asked.now c.args.page.now (lent (goal.at.After-cache_ok c).Start t kept) r) c.read_standing-t.ensures.value k
 
 -- it keeps the rules
 kept-rules : (c : Else-not-cache_ok) (kept : List ℕ) → (words_right c.args.asked.now && cache_right c.args.page.now (lent (goal.at.Else-not-cache_ok c).Start c.read_standing-t.result kept)) ≡ true
@@ -34,19 +34,19 @@ unfolding standing_in
 narrow c = let w = c.args.asked.now in subst (λ (t : CacheStanding). t.status < 256) (sym c.read_standing-t.ensures.value) (words_right_lem w (left (words_right w) _ (kept-rules c []))).status
 
 pub returns-then-not-cache_ok : goal.returns-then-not-cache_ok
-returns-then-not-cache_ok c = let a = c.args in λ kept. as_read (goal.at.returns-then-not-cache_ok c).After-cache_ok kept (outcome-broken a.asked.now a.page.now (lent c c.read_standing-t.result kept) (sym (c.cache_ok.ensures kept) ∙ c.if-not-cache_ok.true))
+returns-then-not-cache_ok c = let a = c.args in λ kept. as_read (goal.at.returns-then-not-cache_ok c).After-cache_ok kept (outcome-broken a.asked.now a.page.now (lent (goal.at.returns-then-not-cache_ok c).Start c.read_standing-t.result kept) (sym (c.cache_ok.ensures kept) ∙ c.if-not-cache_ok.true))
 
 pub returns-then-t-eq-NONE : goal.returns-then-t-eq-NONE
-returns-then-t-eq-NONE c = let a = c.args in λ kept. as_read (goal.at.returns-then-t-eq-NONE c).After-cache_ok kept (outcome-right a.asked.now a.page.now (lent c c.read_standing-t.result kept) (kept-rules (goal.at.returns-then-t-eq-NONE c).Else-not-cache_ok kept) (rw (eq-eqb _ _ c.if-t-eq-NONE.true) refl))
+returns-then-t-eq-NONE c = let a = c.args in λ kept. as_read (goal.at.returns-then-t-eq-NONE c).After-cache_ok kept (outcome-right a.asked.now a.page.now (lent (goal.at.returns-then-t-eq-NONE c).Start c.read_standing-t.result kept) (kept-rules (goal.at.returns-then-t-eq-NONE c).Else-not-cache_ok kept) (rw (eq-eqb _ _ c.if-t-eq-NONE.true) refl))
 
 pub returns-then-t-eq-LAST_PART : goal.returns-then-t-eq-LAST_PART
-returns-then-t-eq-LAST_PART c = let a = c.args in λ kept. as_read (goal.at.returns-then-t-eq-LAST_PART c).After-cache_ok kept (outcome-right a.asked.now a.page.now (lent c c.read_standing-t.result kept) (kept-rules (goal.at.returns-then-t-eq-LAST_PART c).Else-not-cache_ok kept) (rw (ne_eqb _ _ c.if-t-eq-NONE.false, eq-eqb _ _ c.if-t-eq-LAST_PART.true) refl))
+returns-then-t-eq-LAST_PART c = let a = c.args in λ kept. as_read (goal.at.returns-then-t-eq-LAST_PART c).After-cache_ok kept (outcome-right a.asked.now a.page.now (lent (goal.at.returns-then-t-eq-LAST_PART c).Start c.read_standing-t.result kept) (kept-rules (goal.at.returns-then-t-eq-LAST_PART c).Else-not-cache_ok kept) (rw (ne_eqb _ _ c.if-t-eq-NONE.false, eq-eqb _ _ c.if-t-eq-LAST_PART.true) refl))
 
 pub overflow_cast-result : goal.overflow_cast-result
 overflow_cast-result c = omega (arith, narrow (goal.at.overflow_cast-result c).Else-not-cache_ok)
 
 pub returns-then-t-eq-STATUS : goal.returns-then-t-eq-STATUS
-returns-then-t-eq-STATUS c = let a = c.args in λ kept. as_read (goal.at.returns-then-t-eq-STATUS c).After-cache_ok kept (outcome-right a.asked.now a.page.now (lent c c.read_standing-t.result kept) (kept-rules (goal.at.returns-then-t-eq-STATUS c).Else-not-cache_ok kept) (rw (ne_eqb _ _ c.if-t-eq-NONE.false, ne_eqb _ _ c.if-t-eq-LAST_PART.false, eq-eqb _ _ c.if-t-eq-STATUS.true) refl))
+returns-then-t-eq-STATUS c = let a = c.args in λ kept. as_read (goal.at.returns-then-t-eq-STATUS c).After-cache_ok kept (outcome-right a.asked.now a.page.now (lent (goal.at.returns-then-t-eq-STATUS c).Start c.read_standing-t.result kept) (kept-rules (goal.at.returns-then-t-eq-STATUS c).Else-not-cache_ok kept) (rw (ne_eqb _ _ c.if-t-eq-NONE.false, ne_eqb _ _ c.if-t-eq-LAST_PART.false, eq-eqb _ _ c.if-t-eq-STATUS.true) refl))
 
 pub returns : goal.returns
-returns c = let a = c.args in λ kept. as_read (goal.at.returns c).After-cache_ok kept (outcome-right a.asked.now a.page.now (lent c c.read_standing-t.result kept) (kept-rules (goal.at.returns c).Else-not-cache_ok kept) (rw (ne_eqb _ _ c.if-t-eq-NONE.false, ne_eqb _ _ c.if-t-eq-LAST_PART.false, ne_eqb _ _ c.if-t-eq-STATUS.false) refl))
+returns c = let a = c.args in λ kept. as_read (goal.at.returns c).After-cache_ok kept (outcome-right a.asked.now a.page.now (lent (goal.at.returns c).Start c.read_standing-t.result kept) (kept-rules (goal.at.returns c).Else-not-cache_ok kept) (rw (ne_eqb _ _ c.if-t-eq-NONE.false, ne_eqb _ _ c.if-t-eq-LAST_PART.false, ne_eqb _ _ c.if-t-eq-STATUS.false) refl))

@@ -19,17 +19,17 @@ abbrev lent : Start → CacheStanding → List ℕ → CacheState
 lent s t kept = state_with s.args.clusters.now s.args.keys.now s.args.versions.now s.args.kinds.now s.args.words.now s.args.order.now s.args.lengths.now t kept
 
 as_read : (c : After-cache_ok) (kept : List ℕ) {r : Abandoned} → AnswersUnknown c.args.asked.now c.args.page.now (lent (goal.at.After-cache_ok c).Start c.read_standing-t.result kept) r → AnswersUnknown c.args.asked.now c.args.page.now (lent (goal.at.After-cache_ok c).Start (standing_in c.args.asked.now) kept) r
-as_read c kept {r} k = subst (λ (t : CacheStanding). AnswersUnknown c.args.asked.now c.args.page.now (lent c t kept) r) c.read_standing-t.ensures.value k
+as_read c kept {r} k = subst (λ (t : CacheStanding). AnswersUnknown c.args.asked.now c.args.page.now (lent (goal.at.After-cache_ok c).Start t kept) r) c.read_standing-t.ensures.value k
 
 -- it keeps the rules
 kept-rules : (c : Else-not-cache_ok) (kept : List ℕ) → (words_right c.args.asked.now && cache_right c.args.page.now (lent (goal.at.Else-not-cache_ok c).Start c.read_standing-t.result kept)) ≡ true
 kept-rules c kept = sym (c.cache_ok.ensures kept) ∙ c.if-not-cache_ok.false
 
 pub returns-then-not-cache_ok : goal.returns-then-not-cache_ok
-returns-then-not-cache_ok c = let a = c.args in λ kept. as_read (goal.at.returns-then-not-cache_ok c).After-cache_ok kept (unknown-broken a.asked.now a.page.now (lent c c.read_standing-t.result kept) (sym (c.cache_ok.ensures kept) ∙ c.if-not-cache_ok.true))
+returns-then-not-cache_ok c = let a = c.args in λ kept. as_read (goal.at.returns-then-not-cache_ok c).After-cache_ok kept (unknown-broken a.asked.now a.page.now (lent (goal.at.returns-then-not-cache_ok c).Start c.read_standing-t.result kept) (sym (c.cache_ok.ensures kept) ∙ c.if-not-cache_ok.true))
 
 pub returns-then-t-eq0 : goal.returns-then-t-eq0
-returns-then-t-eq0 c = let a = c.args in λ kept. as_read (goal.at.returns-then-t-eq0 c).After-cache_ok kept (unknown-right a.asked.now a.page.now (lent c c.read_standing-t.result kept) (kept-rules (goal.at.returns-then-t-eq0 c).Else-not-cache_ok kept) (rw (eq-eqb _ _ c.if-t-eq0.true) refl))
+returns-then-t-eq0 c = let a = c.args in λ kept. as_read (goal.at.returns-then-t-eq0 c).After-cache_ok kept (unknown-right a.asked.now a.page.now (lent (goal.at.returns-then-t-eq0 c).Start c.read_standing-t.result kept) (kept-rules (goal.at.returns-then-t-eq0 c).Else-not-cache_ok kept) (rw (eq-eqb _ _ c.if-t-eq0.true) refl))
 
 pub returns : goal.returns
-returns c = let a = c.args in λ kept. as_read (goal.at.returns c).After-cache_ok kept (unknown-right a.asked.now a.page.now (lent c c.read_standing-t.result kept) (kept-rules (goal.at.returns c).Else-not-cache_ok kept) (rw (ne_eqb _ _ c.if-t-eq0.false) refl))
+returns c = let a = c.args in λ kept. as_read (goal.at.returns c).After-cache_ok kept (unknown-right a.asked.now a.page.now (lent (goal.at.returns c).Start c.read_standing-t.result kept) (kept-rules (goal.at.returns c).Else-not-cache_ok kept) (rw (ne_eqb _ _ c.if-t-eq0.false) refl))

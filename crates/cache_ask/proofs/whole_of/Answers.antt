@@ -20,8 +20,8 @@ returns-in_default c = λ kinds words lengths. sym (ap (λ (f : Found). whole_re
 
 pub returns-in-At-coherent_at : goal.returns-in-At-coherent_at
 unfolding coherent_of
-returns-in-At-coherent_at c = let a = c.args in λ kinds words lengths. sym (ap (λ (f : Found). whole_read (coherent_there (lent c kinds words lengths) f)) (sym c.find_cluster.ensures ∙ c.in-At.is) ∙ ap whole_read (coherent-is (coherent_at (lent c kinds words lengths) c.in-At.k) (sym (c.coherent_at.ensures a.clusters.now kinds words a.order.now lengths a.t.cluster_count) ∙ c.in-At-coherent_at.is)))
+returns-in-At-coherent_at c = let a = c.args in λ kinds words lengths. sym (ap (λ (f : Found). whole_read (coherent_there (lent (goal.at.returns-in-At-coherent_at c).Start kinds words lengths) f)) (sym c.find_cluster.ensures ∙ c.in-At.is) ∙ ap whole_read (coherent-is (coherent_at (lent (goal.at.returns-in-At-coherent_at c).Start kinds words lengths) c.in-At.k) (sym (c.coherent_at.ensures a.clusters.now kinds words a.order.now lengths a.t.cluster_count) ∙ c.in-At-coherent_at.is)))
 
 pub returns-in-No : goal.returns-in-No
 unfolding coherent_of
-returns-in-No c = let a = c.args in λ kinds words lengths. sym (ap (λ (f : Found). whole_read (coherent_there (lent c kinds words lengths) f)) (sym c.find_cluster.ensures ∙ c.in-At.is) ∙ ap whole_read (coherent-not (coherent_at (lent c kinds words lengths) c.in-At.k) (sym (c.coherent_at.ensures a.clusters.now kinds words a.order.now lengths a.t.cluster_count) ∙ c.in-No.is)))
+returns-in-No c = let a = c.args in λ kinds words lengths. sym (ap (λ (f : Found). whole_read (coherent_there (lent (goal.at.returns-in-No c).Start kinds words lengths) f)) (sym c.find_cluster.ensures ∙ c.in-At.is) ∙ ap whole_read (coherent-not (coherent_at (lent (goal.at.returns-in-No c).Start kinds words lengths) c.in-At.k) (sym (c.coherent_at.ensures a.clusters.now kinds words a.order.now lengths a.t.cluster_count) ∙ c.in-No.is)))
