@@ -1,13 +1,12 @@
 use mathlib.Core.Path.{◌≡◌, refl}
 use mathlib.Core.Bool.{true}
-use mathlib.Core.Logic.{⊎_elim}
 use lib.Dec.{eqb}
 use borrow.Author.Tests.{eq-eqb, ne_eqb}
 use Rattle.tlv_reader.specs.Octet.{pick}
 use Rattle.im_exchange.specs.Rules.{first_reply}
 use Rattle.cache_state.specs.State.{writing, open_right}
 use Rattle.cache_state.proofs.open_ok.Goals as goal
-use Rattle.cache_state.proofs.open_ok.Goals.{Joined-t-eq-WRITING}
+use Rattle.cache_state.proofs.open_ok.Goals.{Joined-t-eq-WRITING, then-t-eq-WRITING+else-t-ne-FIRST_REPLY, else-t-eq-WRITING}
 
 pub returns-then-t-eq0 : goal.returns-then-t-eq0
 unfolding open_right
@@ -25,7 +24,7 @@ returns-then-t-ne-FIRST_REPLY c = let t = c.args.t in λ kept. rw (ne_eqb t.exch
 once : (j : Joined-t-eq-WRITING) → let t = j.args.t in pick (eqb t.stage writing) (eqb t.turn first_reply) true ≡ true
 once j =
     let t = j.args.t in
-    ⊎_elim (λ w. rw (eq-eqb t.stage writing w.0.taken) (eq-eqb t.turn first_reply w.2.left)) (λ w. rw (ne_eqb t.stage writing w.left) refl) j.if-t-eq-WRITING.branch
+    elim j.if-t-eq-WRITING.branch [ then-t-eq-WRITING+else-t-ne-FIRST_REPLY w ↦ rw (eq-eqb t.stage writing w.if-t-eq-WRITING.true) (eq-eqb t.turn first_reply w.if-t-ne-FIRST_REPLY.false) | else-t-eq-WRITING w ↦ rw (ne_eqb t.stage writing w.if-t-eq-WRITING.false) refl ]
 
 pub returns : goal.returns
 unfolding open_right

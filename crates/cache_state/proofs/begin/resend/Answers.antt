@@ -49,4 +49,4 @@ put_kept-requires c = (len-here (goal.at.put_kept-requires c).Else-not-cache_ok,
 
 pub returns : goal.returns
 unfolding resends
-returns c = let a = c.args in let e = c.read_standing-t.ensures.value in let k = c.put_kept.ensures in rw (left (words_right a.asked.now) (cache_right a.page.now (state_in a.clusters.now a.keys.now a.versions.now a.kinds.now a.words.now a.order.now a.lengths.now a.asked.now a.kept.now)) (right-here (goal.at.returns c).Else-not-cache_ok), right (words_right a.asked.now) (cache_right a.page.now (state_in a.clusters.now a.keys.now a.versions.now a.kinds.now a.words.now a.order.now a.lengths.now a.asked.now a.kept.now)) (right-here (goal.at.returns c).Else-not-cache_ok), le-ltb (length a.out.now) max_message c.if-out-lt-MAX_MESSAGE.false, sym (opened (goal.at.returns c).After-is_open) ∙ c.if-not-is_open.false) (resent-as a.clusters.now a.keys.now a.versions.now a.kinds.now a.words.now a.order.now a.lengths.now a.asked.now a.kept.now a.page.now (omega (arith, (right-asked a.page.now (state_in a.clusters.now a.keys.now a.versions.now a.kinds.now a.words.now a.order.now a.lengths.now a.asked.now a.kept.now) (right (words_right a.asked.now) (cache_right a.page.now (state_in a.clusters.now a.keys.now a.versions.now a.kinds.now a.words.now a.order.now a.lengths.now a.asked.now a.kept.now)) (right-here (goal.at.returns c).Else-not-cache_ok))).len, k.1)) (λ j. record { number = 0; len = (e j).len }) (k.0 ∙ ap (λ (t : CacheStanding). store a.out.now 0 (take t.len a.kept.now)) e))
+returns c = let a = c.args in let e = c.read_standing-t.ensures.value in let k = c.put_kept.ensures in rw (left (words_right a.asked.now) (cache_right a.page.now (state_in a.clusters.now a.keys.now a.versions.now a.kinds.now a.words.now a.order.now a.lengths.now a.asked.now a.kept.now)) (right-here (goal.at.returns c).Else-not-cache_ok), right (words_right a.asked.now) (cache_right a.page.now (state_in a.clusters.now a.keys.now a.versions.now a.kinds.now a.words.now a.order.now a.lengths.now a.asked.now a.kept.now)) (right-here (goal.at.returns c).Else-not-cache_ok), le-ltb (length a.out.now) max_message c.if-out-lt-MAX_MESSAGE.false, sym (opened (goal.at.returns c).After-is_open) ∙ c.if-not-is_open.false) (resent-as a.clusters.now a.keys.now a.versions.now a.kinds.now a.words.now a.order.now a.lengths.now a.asked.now a.kept.now a.page.now (omega (arith, (right-asked a.page.now (state_in a.clusters.now a.keys.now a.versions.now a.kinds.now a.words.now a.order.now a.lengths.now a.asked.now a.kept.now) (right (words_right a.asked.now) (cache_right a.page.now (state_in a.clusters.now a.keys.now a.versions.now a.kinds.now a.words.now a.order.now a.lengths.now a.asked.now a.kept.now)) (right-here (goal.at.returns c).Else-not-cache_ok))).len, k.whole)) (λ j. record { number = 0; len = (e j).len }) (k.out_after ∙ ap (λ (t : CacheStanding). store a.out.now 0 (take t.len a.kept.now)) e))
