@@ -50,12 +50,11 @@ fn set_key(words: &mut [u64; WORDS], i: usize, path: u64, rank: u64) -> u64
 }
 
 // The words as they were set up.
-fn set_words(setup: &[u64], words: &mut [u64])
-    requires { length words.old ≤ length setup.now }
+fn set_words(setup: &[u64; SETUP], words: &mut [u64; WORDS])
     ensures { words.new ≡ take (length words.old) setup.now }
 {
     let mut i = 0;
-    while i < words.len() {
+    while i < WORDS {
         words[i] = setup[i];
         i += 1;
     }

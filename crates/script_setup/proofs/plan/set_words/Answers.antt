@@ -10,15 +10,6 @@ use Rattle.script_setup.proofs.plan.set_words.Goals as goal
 pub loop-i-init : goal.loop-i-init
 loop-i-init c = (refl, (omega arith, refl))
 
-pub offset_bounds-setup-i : goal.offset_bounds-setup-i
-offset_bounds-setup-i c = omega (arith, c.well_formed)
-
-pub offset_bounds-words-i : goal.offset_bounds-words-i
-offset_bounds-words-i c = omega (arith, c.well_formed)
-
-pub loop-i-smaller : goal.loop-i-smaller
-loop-i-smaller c = simp length-set (omega arith)
-
 pub loop-i-preserved : goal.loop-i-preserved
 loop-i-preserved c =
     let a = c.args in
@@ -29,9 +20,6 @@ loop-i-preserved c =
     let in-setup : i < length a.setup.now = omega arith in
     let known = c.loop-i.invariant in
     (length-set w i v ∙ known.0, (omega arith, rw add-one (take-suc-set w i v in_words ∙ ap (λ (l : List ℕ). l ++ (v ∷ [])) known.1.1 ∙ sym (take-suc a.setup.now i 0 in-setup))))
-
-pub shape_of-words : goal.shape_of-words
-shape_of-words c = c.loop-i.invariant.0
 
 pub returns : goal.returns
 returns c =

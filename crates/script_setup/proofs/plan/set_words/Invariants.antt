@@ -7,4 +7,4 @@ abbrev pub invariant-loop-i : goal.invariant-loop-i
 invariant-loop-i l = (length l.words ≡ length l.initial.words) × ((l.i ≤ length l.initial.words) × (take l.i l.words ≡ take l.i l.setup))
 
 abbrev pub decreases-loop-i : goal.decreases-loop-i
-decreases-loop-i l = length l.words - l.i
+decreases-loop-i l = length l.initial.words - l.i
