@@ -1,11 +1,10 @@
 -- An item as the code sets it: its value in words, its place in the page, its cluster and then its entry.
 use mathlib.Core.Path.{◌≡◌, refl, sym, ap, subst, ◌∙◌}
 use mathlib.Core.Bool.{Bool, true, false}
-use mathlib.Core.List.{List, [], ◌∷◌}
+use mathlib.Core.List.{List}
 use Prim.Native.Nat.{ℕ, ◌+◌, ◌*◌, ◌/◌, ◌%◌, ◌≤◌, ◌<◌}
 use native.Mathlib.Omega.{arith}
 use borrow.Author.Tests.{eq-eqb}
-use types.Run.{miss}
 use lib.Dec.{eqb}
 use lib.ListN.{set}
 use Rattle.tlv_reader.specs.declared.Value.{Value}
@@ -40,7 +39,7 @@ no_length (value.Boolean b) h = refl
 no_length (value.Unsigned n) h = refl
 no_length (value.Signed z) h = refl
 no_length (value.Float n) h = refl
-no_length (value.Text a n) h = absurd (miss (0 ∷ 1 ∷ 2 ∷ 3 ∷ 4 ∷ 6 ∷ []) 5 tt h)
+no_length (value.Text a n) h = absurd (h a n refl)
 no_length value.Other h = refl
 
 pub not-stored : (s page : List ℕ) (p : ℕ) (v : Value) → NoText v → page ≡ text_stored s page p v
@@ -48,7 +47,7 @@ not-stored s page p v h = go (form v)
   where
     go : Form v → page ≡ text_stored s page p v
     go (plain f same) = sym (same s page p)
-    go (text a n e) = absurd (miss (0 ∷ 1 ∷ 2 ∷ 3 ∷ 4 ∷ 6 ∷ []) 5 tt (subst NoText e h))
+    go (text a n e) = absurd (h a n e)
 
 -- the word of a value that is no text are its bits
 pub word-plain : (p : ℕ) (v : Value) → eqb (kind_v v) text_kind ≡ false → word_of v ≡ word_as p v

@@ -45,4 +45,4 @@ pub set_entry-n-requires : goal.set_entry-n-requires
 set_entry-n-requires c = let a = c.args in let r = ready-here (goal.at.set_entry-n-requires c).Start in (r.few-entries, (r.entry_next, (r.entry-low, (ap (λ (o : List ℕ). order_right a.keys.now o a.counts.entries) (ap Cached.order (c.set_cluster-k.ensures a.keys.now a.versions.now a.kinds.now a.words.now a.lengths.now a.counts.entries false)) ∙ r.entry-order, word_below (held (goal.at.set_entry-n-requires c).Start false) a.i a.v _ _ c.kind_of-kind.ensures c.move_text-place.ensures.0 _ c.word_as.ensures r.own))))
 
 pub returns : goal.returns
-returns c = let a = c.args in let k = c.kind_of-kind in let m = c.move_text-place in let w = c.word_as in let one = c.set_cluster-k in let two = c.set_entry-n in (λ primed. item-set (held (goal.at.returns c).Start primed) a.i a.v _ _ k.ensures m.ensures.0 _ w.ensures a.p a.first a.second _ c.length_of.ensures _ _ (one.ensures a.keys.now a.versions.now a.kinds.now a.words.now a.lengths.now a.counts.entries primed) (two.ensures one.new.0 one.result primed), (c.store_text.ensures ∙ stored_there (held (goal.at.returns c).Start false) a.i a.v _ _ k.ensures m.ensures.0 a.s.now a.page.now, (marks-set _ _ a.i _ _ _ _ _ _ (two.ensures one.new.0 one.result false) (m.ensures.1 _ _ refl (λ t. word-place (held (goal.at.returns c).Start false) a.i a.v _ _ k.ensures m.ensures.0 _ w.ensures (eqb-true _ _ t))), c.ranges.second.fits)))
+returns c = let a = c.args in let k = c.kind_of-kind in let m = c.move_text-place in let w = c.word_as in let one = c.set_cluster-k in let two = c.set_entry-n in (λ primed. item-set (held (goal.at.returns c).Start primed) a.i a.v _ _ k.ensures m.ensures.0 _ w.ensures a.p a.first a.second _ c.length_of.ensures _ _ (one.ensures a.keys.now a.versions.now a.kinds.now a.words.now a.lengths.now a.counts.entries primed) (two.ensures one.new.clusters one.result primed), (c.store_text.ensures ∙ stored_there (held (goal.at.returns c).Start false) a.i a.v _ _ k.ensures m.ensures.0 a.s.now a.page.now, (marks-set _ _ a.i _ _ _ _ _ _ (two.ensures one.new.clusters one.result false) (m.ensures.1 _ _ refl (λ t. word-place (held (goal.at.returns c).Start false) a.i a.v _ _ k.ensures m.ensures.0 _ w.ensures (eqb-true _ _ t))), c.ranges.second.fits)))

@@ -9,20 +9,20 @@ use Rattle.cache_entries.proofs.ValueLaws.{text-inside, text-short}
 use Rattle.cache_report.proofs.set.store_text.Goals as goal
 
 pub returns-in_default : goal.returns-in_default
-returns-in_default c = let a = c.args in not-stored a.s.now a.page.now a.place a.v c.in_default.keys2
+returns-in_default c = let a = c.args in not-stored a.s.now a.page.now a.place a.v c.in_default.not-Text
 
 pub overflow_mul-place : goal.overflow_mul-place
-overflow_mul-place c = let g = c.v-1.given in omega (arith, c.requires.1.1.0 (text-kind g.0.0 g.0.1.0 g.1))
+overflow_mul-place c = let g = c.in-Text in omega (arith, c.requires.1.1.0 (text-kind g.start g.len g.is))
 
 pub overflow_add-start : goal.overflow_add-start
-overflow_add-start c = let g = c.v-1.given in let h = text-inside c.args.s.now g.0.0 g.0.1.0 g.1 c.requires.0 in omega (arith, h.few, h.before)
+overflow_add-start c = let g = c.in-Text in let h = text-inside c.args.s.now g.start g.len g.is c.requires.0 in omega (arith, h.few, h.before)
 
 pub slice_bounds-put_bytes-end : goal.slice_bounds-put_bytes-end
-slice_bounds-put_bytes-end c = let g = c.v-1.given in let h = text-inside c.args.s.now g.0.0 g.0.1.0 g.1 c.requires.0 in omega (arith, h.few, h.before)
+slice_bounds-put_bytes-end c = let g = c.in-Text in let h = text-inside c.args.s.now g.start g.len g.is c.requires.0 in omega (arith, h.few, h.before)
 
 pub put_bytes-requires : goal.put_bytes-requires
-put_bytes-requires c = let g = c.v-1.given in let p = c.requires in let h = text-inside c.args.s.now g.0.0 g.0.1.0 g.1 p.0 in omega (arith, h.few, h.before, text-short g.0.0 g.0.1.0 g.1 p.1.0, p.1.1.0 (text-kind g.0.0 g.0.1.0 g.1), p.1.1.1)
+put_bytes-requires c = let g = c.in-Text in let p = c.requires in let h = text-inside c.args.s.now g.start g.len g.is p.0 in omega (arith, h.few, h.before, text-short g.start g.len g.is p.1.0, p.1.1.0 (text-kind g.start g.len g.is), p.1.1.1)
 
 pub returns : goal.returns
 unfolding text_stored
-returns c = let a = c.args in let g = c.v-1.given in let q : (g.0.0 + g.0.1.0) - g.0.0 ≡ g.0.1.0 = omega arith in c.put_bytes.ensures.content ∙ ap (λ (n : ℕ). store a.page.now (200 * a.place) (take n (drop g.0.0 a.s.now))) q ∙ rw g.1
+returns c = let a = c.args in let g = c.in-Text in let q : (g.start + g.len) - g.start ≡ g.len = omega arith in c.put_bytes.ensures.content ∙ ap (λ (n : ℕ). store a.page.now (200 * a.place) (take n (drop g.start a.s.now))) q ∙ rw g.is
