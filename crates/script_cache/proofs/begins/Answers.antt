@@ -11,5 +11,4 @@ returns-then-same_bytes-2 c =
 
 pub returns : goal.returns
 returns c =
-    let no = nor.before.before.before in
-    rw (sym no.before.same_bytes.ensures ∙ no.if1.false, sym c.same_bytes-2.ensures ∙ c.if-same_bytes-2.false, or-false) c.same_bytes-3.ensures
+    rw (sym c.same_bytes.ensures ∙ c.if-same_bytes.false, sym c.same_bytes-2.ensures ∙ c.if-same_bytes-2.false, or-false) c.same_bytes-3.ensures

@@ -11,5 +11,4 @@ returns-then-same_bytes c =
 
 pub returns : goal.returns
 returns c =
-    let no = nor.before.before.before in
-    rw (sym no.before.begins.ensures ∙ no.if1.false, sym c.same_bytes.ensures ∙ c.if-same_bytes.false, or-false) c.same_bytes-2.ensures
+    rw (sym c.begins.ensures ∙ c.if-begins.false, sym c.same_bytes.ensures ∙ c.if-same_bytes.false, or-false) c.same_bytes-2.ensures

@@ -1,5 +1,4 @@
 use mathlib.Core.Path.{refl, sym, ◌∙◌}
-use borrow.Author.Tests.{not-true, not-false}
 use Rattle.base_octets.specs.Store.{store}
 use Rattle.script_cache.specs.Asks.{entry_at}
 use Rattle.script_cache.specs.Lines.{state_of}
@@ -11,7 +10,7 @@ unfolding entry_at store
 returns-then-not-is_done c =
     let p = c.read_path-a.ensures in
     let d = c.is_done in
-    let no = sym d.ensures ∙ not-true d.result c.if-not-is_done.true in
+    let no = sym d.ensures ∙ c.if-not-is_done.true in
     rw (← p, no) (record { line = refl; content = refl })
 
 pub say_entry-requires : goal.say_entry-requires
@@ -25,6 +24,6 @@ unfolding entry_at
 returns c =
     let p = c.read_path-a.ensures in
     let d = c.is_done in
-    let yes = sym d.ensures ∙ not-false d.result c.if-not-is_done.false in
+    let yes = sym d.ensures ∙ c.if-not-is_done.false in
     let w = (c.entry-h.ensures c.args.cache.kept).answer in
     rw (← p, yes, ← w) c.say_entry.ensures

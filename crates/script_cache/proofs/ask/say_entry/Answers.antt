@@ -11,7 +11,7 @@ use Rattle.script_cache.proofs.ask.say_entry.Goals as goal
 pub put_value-len-requires : goal.put_value-len-requires
 put_value-len-requires c =
     let s = rw c.in-Here.is at c.requires in
-    (s.0, omega (arith, untagged-bound _ s.1, c.put_value-arg-1.given))
+    (s.0, omega (arith, untagged-bound _ s.1))
 
 pub returns-in-Broken : goal.returns-in-Broken
 unfolding store

@@ -1,5 +1,4 @@
 use mathlib.Core.Path.{refl, sym, ◌∙◌}
-use borrow.Author.Tests.{not-true, not-false}
 use Rattle.base_octets.specs.Store.{store}
 use Rattle.script_cache.specs.Asks.{whole_at}
 use Rattle.script_cache.proofs.ask.whole_line.Goals as goal
@@ -9,7 +8,7 @@ unfolding whole_at store
 returns-then-not-is_done c =
     let p = c.read_place-a.ensures in
     let d = c.is_done in
-    let no = sym d.ensures ∙ not-true d.result c.if-not-is_done.true in
+    let no = sym d.ensures ∙ c.if-not-is_done.true in
     rw (← p, no) (record { line = refl; content = refl })
 
 pub returns : goal.returns
@@ -17,6 +16,6 @@ unfolding whole_at
 returns c =
     let p = c.read_place-a.ensures in
     let d = c.is_done in
-    let yes = sym d.ensures ∙ not-false d.result c.if-not-is_done.false in
+    let yes = sym d.ensures ∙ c.if-not-is_done.false in
     let w = (c.coherent-w.ensures c.args.cache.kept).answer in
     rw (← p, yes, ← w) c.say_whole.ensures
