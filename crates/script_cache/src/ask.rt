@@ -1,6 +1,7 @@
 // Lines that ask the cache what it holds.
 ghost use Rattle.std.specs.Prelude.{◌≡◌, ◌≤◌};
 ghost use Rattle.base_octets.specs.Store.{store};
+ghost use Rattle.tlv_writer.specs.Element.{InPage};
 ghost use Rattle.im_writer.specs.Envelope.{big_octets};
 ghost use Rattle.script_answer.specs.declared.LineSaid.TheVariants as says;
 ghost use Rattle.script_cache.specs.Shown.{whole_shown, entry_shown, outcome_shown, unknown_shown, Shows, Showable};
@@ -66,6 +67,23 @@ fn say_whole(w: Whole, out: &mut [u8; MAX_MESSAGE]) -> LineSaid
     }
 }
 
+// A value whose text, if it is one, lies in the page; null for one that does not, which no call of ours makes.
+fn held(v: Value, page: &[u8]) -> Value
+    ensures in_page { InPage page.now result }
+    ensures same { InPage page.now v → result ≡ v }
+{
+    let Value::Text { start, len } = v else {
+        return v;
+    };
+    if page.len() < start {
+        return Value::Null;
+    }
+    if page.len() - start < len {
+        return Value::Null;
+    }
+    v
+}
+
 // An entry: its value as an untagged element after the version.
 fn say_entry(h: EntryHeld, page: &[u8; PAGE_SIZE], out: &mut [u8; MAX_MESSAGE]) -> LineSaid
     requires { Showable page.now h }
@@ -76,7 +94,8 @@ fn say_entry(h: EntryHeld, page: &[u8; PAGE_SIZE], out: &mut [u8; MAX_MESSAGE]) 
         EntryHeld::Nothing => said(cache_state::NOTHING, 0),
         EntryHeld::Here(version, v) => {
             put_version(out, version);
-            let len = put_value(out, VERSION_SIZE, Tag::Anonymous, v, page);
+            let shown = held(v, page);
+            let len = put_value(out, VERSION_SIZE, Tag::Anonymous, shown, page);
             said(cache_state::DONE, len)
         }
     }

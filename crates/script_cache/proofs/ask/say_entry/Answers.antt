@@ -11,7 +11,9 @@ use Rattle.script_cache.proofs.ask.say_entry.Goals as goal
 pub put_value-len-requires : goal.put_value-len-requires
 put_value-len-requires c =
     let s = rw c.in-Here.is at c.requires in
-    (s.0, omega (arith, untagged-bound _ s.1))
+    let e = c.held-shown.ensures.same s.0 in
+    let b = rw (← e) at (untagged-bound _ s.1) in
+    (c.held-shown.ensures.in_page, omega (arith, b))
 
 pub returns-in-Broken : goal.returns-in-Broken
 unfolding store
@@ -24,5 +26,7 @@ returns-in-Nothing c = rw c.in-Nothing.is (record { line = c.said-in-Nothing.ens
 pub returns-in-Here : goal.returns-in-Here
 unfolding big_octets
 returns-in-Here c =
-    let t = then (record { content = c.put_version.ensures; place = refl }) c.put_value-len.ensures in
+    let s = rw c.in-Here.is at c.requires in
+    let w = rw (c.held-shown.ensures.same s.0) at c.put_value-len.ensures in
+    let t = then (record { content = c.put_version.ensures; place = refl }) w in
     rw c.in-Here.is (record { line = c.said-in-Here.ensures ∙ ap (Line 0) (t.place ∙ zero-add _); content = t.content })
