@@ -67,4 +67,4 @@ use Rattle.proof_example.specs.Calls.{ServerCalls}
 
 pub server-calls : ServerCalls
 unfolding bytes_of Number.number_of store all_below completes table trailing within Utf8.after Utf8.well_formed closed_at head_at head_octets number_width tag_width allowed_in element_by element_end fold_at fold_by boolean_octets datum_octets form_of head_for label_of open_octets text_octets unsigned_octets least_of least_width width_code each_step optional_in field_step fields_at fields_from inside_at place_of put_at slot_of flag_in flag_of number_in wide_in Scalar.number_of askable_p banned loose path_at path_from sound_path first_of list_at message_at untagged asked_at asked_of read_from read_in response_from response_in block_tree data_block_tree data_members path_tree big_number big_octets envelope_octets envelope_word report_ending report_members revision status_members members primitive_d spelling spellings writer_tag envelope_in fields_of filter_members paths_tree read_members wildcard_tree judged_in status_code equal held next_version count every rises Schema.changes Schema.well_formed rows_from first covers_place given_by grants_of is_granted level_of privilege_ok privileges_ok table_ok kind_of accepted numbers_right texts_right shown_text stored_edits stored_values word_for fresh_values values_right datum_at text_at asked_for asks_for concrete filter_words joined on skips_now word_after paths_words concrete_item item_at read_item span wildcard_item located allowed reached action_of on_request on_status block_of blocks_from collect path_blocks paths_blocks value_block left taken report.after part_payload changed offered refusal_code read_begun request_of report_message keeping next_part kept_right row_right served_right standing_in for_server reacted received step_of altered_by fresh_row started server_right read_message success_message access defaults edits plan words changed_edits changed_values part1 part2 request row1 row2 sign0 sign1 sign2 sign3 success
-server-calls = record { accepts = refl; words-fit = refl; table-right = refl; edits-size = refl; made = refl; begins = refl; repeats = refl; alters = refl; goes_on_lem = refl; turns = (refl, refl); part1-sent = λ l. refl; part2-sent = λ l. refl; row6 = refl; may-read6 = (_, refl); stands = (refl, refl, refl, refl) }
+server-calls = record { accepts = refl; words-fit = refl; table-right = refl; edits-size = refl; made = refl; begins = refl; repeats = refl; alters = refl; goes_on = refl; turns = (refl, refl); part1-sent = λ l. refl; part2-sent = λ l. refl; row6 = refl; may-read6 = (_, refl); stands = (refl, refl, refl, refl) }
