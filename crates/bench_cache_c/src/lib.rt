@@ -10,6 +10,10 @@ ghost use Rattle.cache_state.specs.Reaction.{of_cache, CacheReacted};
 ghost use Rattle.cache_receive.specs.Receive.{received};
 ghost use Rattle.bench_server.specs.Calls.{given_value};
 ghost use Rattle.bench_cache.specs.Calls.{outcome_of};
+ghost use Rattle.cache_ask.specs.declared.Whole.{Whole as IsWhole};
+ghost use Rattle.cache_ask.specs.declared.EntryHeld.{EntryHeld as Holds};
+ghost use Rattle.cache_ask.specs.declared.Ended.{Ended as Ends};
+ghost use Rattle.cache_ask.specs.declared.Abandoned.{Abandoned as Abandons};
 ghost use Rattle.cache_ask.specs.Ask.{AnswersWhole, AnswersEntry, AnswersOutcome, AnswersUnknown, text_shown};
 ghost use Rattle.bench_cache.specs.Asked.{whole_last, entry_last, ended_last, abandoned_last};
 
