@@ -1,9 +1,8 @@
 // Octets in hex digits, capital letters.
 ghost use Rattle.std.specs.Prelude.{◌≡◌, ◌≤◌, ◌<◌, length};
-ghost use Rattle.io.specs.Counts.{IsPrefixLen};
-ghost use Rattle.tlv_vectors.specs.Hex.{hex_digit, hex_value};
+ghost use Rattle.tlv_vectors.specs.Hex.{IsPrefixLen, hex_digit, hex_value};
 
-use super::show::write;
+use std::io;
 
 // The digit of a number below 16.
 fn digit(n: u8) -> u8
@@ -56,24 +55,25 @@ pub fn octets(line: &[u8], out: &mut [u8]) -> usize
     n
 }
 
-pub fn write_octet(x: u8) {
-    write(&[digit(x / 16), digit(x % 16)]);
+pub fn write_octet(rt: &impl Print, x: u8) -> io::Result<()> {
+    rt.write_all(&[digit(x / 16), digit(x % 16)])
 }
 
 // The low 16 bits of a number.
-pub fn write_low16(n: u64) {
-    write_octet((n / 256 % 256) as u8);
-    write_octet((n % 256) as u8);
+pub fn write_low16(rt: &impl Print, n: u64) -> io::Result<()> {
+    write_octet(rt, (n / 256 % 256) as u8)?;
+    write_octet(rt, (n % 256) as u8)
 }
 
 // Octets with single spaces between them.
-pub fn write_octets(b: &[u8]) {
+pub fn write_octets(rt: &impl Print, b: &[u8]) -> io::Result<()> {
     let mut i = 0;
     while i < b.len() {
         if 0 < i {
-            write(b" ");
+            rt.print(" ")?;
         }
-        write_octet(b[i]);
+        write_octet(rt, b[i])?;
         i += 1;
     }
+    Ok(())
 }

@@ -6,11 +6,13 @@
 #![tactic(auto)]
 
 ghost use Rattle.std.specs.Prelude.{◌≡◌, ◌≤◌, length};
+ghost use Rattle.std.specs.Io.{ReadsAtMost};
 ghost use Rattle.base_bounds.specs.Bounds.{depth_limit};
 ghost use Rattle.tlv_reader.specs.Walk.{element_at, ends_at};
 
-use libc::STDIN_FILENO;
 use rewrite::Put;
+use std::io;
+use std::io::Read;
 use tlv_reader::{Cursor, Walk};
 
 mod hex; // hex.rt: octets in hex digits
@@ -19,22 +21,41 @@ mod show; // show.rt: an element in words
 
 const MAX_LINE: usize = 256;
 
-fn main() {
-    let mut input = io::buffer();
-    let n = io::read_full(STDIN_FILENO, &mut input);
-    examples(&input[..n]);
+const MAX_INPUT: usize = 4_096;
+
+fn main(rt: HostRuntime) -> io::Result<()> {
+    let mut input = [0u8; MAX_INPUT];
+    let mut stdin = rt.stdin();
+    let n = fill(&mut stdin, &mut input)?;
+    examples(&rt, &input[..n])
 }
 
-fn examples(s: &[u8]) {
+// Reads until the buffer is full or the input ends; answers how many bytes came.
+fn fill(input: &mut impl Read, buf: &mut [u8]) -> io::Result<usize>
+    ensures { ReadsAtMost result buf.new }
+{
+    let mut done = 0;
+    while done < buf.len() {
+        let n = input.read(&mut buf[done..])?;
+        if n == 0 {
+            break;
+        }
+        done += n;
+    }
+    Ok(done)
+}
+
+fn examples(rt: &impl Print, s: &[u8]) -> io::Result<()> {
     let mut at = 0;
     while at < s.len() {
         let end = line_end(s, at);
-        example(&s[at..end]);
+        example(rt, &s[at..end])?;
         if end == s.len() {
-            return;
+            return Ok(());
         }
         at = end + 1;
     }
+    Ok(())
 }
 
 // Where the line that starts here ends: at its line feed, or with the input.
@@ -52,31 +73,29 @@ fn line_end(s: &[u8], at: usize) -> usize
     i
 }
 
-fn example(line: &[u8]) {
+fn example(rt: &impl Print, line: &[u8]) -> io::Result<()> {
     if line.len() == 0 {
-        return;
+        return Ok(());
     }
     if line[0] == b'#' {
-        return;
+        return Ok(());
     }
     if MAX_LINE < line.len() {
-        show::write(b"too long\n");
-        return;
+        return rt.print("too long\n");
     }
     let mut octets = [0u8; MAX_LINE];
     let n = hex::octets(line, &mut octets);
-    answer(&octets[..n]);
+    answer(rt, &octets[..n])
 }
 
-fn answer(s: &[u8]) {
+fn answer(rt: &impl Print, s: &[u8]) -> io::Result<()> {
     if !is_element(s) {
-        show::write(b"malformed\n");
-        return;
+        return rt.print("malformed\n");
     }
-    show::elements(s);
-    show::write(b" | ");
-    written(s);
-    show::write(b"\n");
+    show::elements(rt, s)?;
+    rt.print(" | ")?;
+    written(rt, s)?;
+    rt.print("\n")
 }
 
 // Whether the octets are one element of depth at most 10 that ends where they end.
@@ -90,11 +109,10 @@ fn is_element(s: &[u8]) -> bool
     n.at == s.len()
 }
 
-fn written(s: &[u8]) {
+fn written(rt: &impl Print, s: &[u8]) -> io::Result<()> {
     let mut b = [0u8; 256];
     let Put::Next(n) = rewrite::elements(s, &mut b) else {
-        show::write(b"-");
-        return;
+        return rt.print("-");
     };
-    hex::write_octets(&b[..n]);
+    hex::write_octets(rt, &b[..n])
 }

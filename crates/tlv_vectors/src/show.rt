@@ -3,132 +3,129 @@ ghost use Rattle.tlv_reader.specs.Value.{value_of};
 ghost use Rattle.tlv_writer.specs.Element.{InPage};
 
 use super::hex;
-use libc::STDOUT_FILENO;
+use std::io;
 use tlv_reader::{Cursor, Element, Head, Value};
 
-pub fn write(text: &[u8]) {
-    io::write_all(STDOUT_FILENO, text);
-}
-
 // The elements that stand one after the other, from the first octet on.
-pub fn elements(s: &[u8]) {
+pub fn elements(rt: &impl Print, s: &[u8]) -> io::Result<()> {
     let mut at = 0;
     let mut comma = false;
     while at < s.len() {
         let here = Cursor { at };
         let Head::Found(e) = here.head(s) else {
-            return;
+            return Ok(());
         };
-        comma = element(s, e, comma);
+        comma = element(rt, s, e, comma)?;
         let next = e.next;
         at = next.at;
     }
+    Ok(())
 }
 
 // An element, of a container its opening; answers whether a comma goes before a member that follows.
-fn element(s: &[u8], e: Element, comma: bool) -> bool
+fn element(rt: &impl Print, s: &[u8], e: Element, comma: bool) -> io::Result<bool>
     requires { InPage s.now (value_of e) }
 {
     let kind = e.kind;
     if kind == tlv_reader::END {
-        write(b"}");
-        return true;
+        rt.print("}")?;
+        return Ok(true);
     }
     if comma {
-        write(b", ");
+        rt.print(", ")?;
     }
-    tag(e.form, e.tag);
+    tag(rt, e.form, e.tag)?;
     if kind < tlv_reader::STRUCTURE {
-        value(s, e.value());
-        return true;
+        value(rt, s, e.value())?;
+        return Ok(true);
     }
-    opening(kind);
-    false
+    opening(rt, kind)?;
+    Ok(false)
 }
 
-fn tag(form: u8, n: u64) {
+fn tag(rt: &impl Print, form: u8, n: u64) -> io::Result<()> {
     if form == 0 {
-        return;
+        return Ok(());
     }
     if form == 1 {
-        named(b"context ", n);
+        named(rt, "context ", n)?;
     } else if form < 4 {
-        named(b"common ", n);
+        named(rt, "common ", n)?;
     } else if form < 6 {
-        named(b"implicit ", n);
+        named(rt, "implicit ", n)?;
     } else {
-        qualified(n);
+        qualified(rt, n)?;
     }
-    write(b" ");
+    rt.print(" ")
 }
 
 // A word and a number.
-fn named(word: &[u8], n: u64) {
-    write(word);
-    io::print_decimal(STDOUT_FILENO, n);
+fn named(rt: &impl Print, word: &str, n: u64) -> io::Result<()> {
+    rt.print(word)?;
+    rt.print(n)
 }
 
 // Vendor and profile, in hex, and the tag's number.
-fn qualified(n: u64) {
-    write(b"qualified ");
-    hex::write_low16(n);
-    write(b" ");
-    hex::write_low16(n / 65536);
-    named(b" ", n / 4294967296);
+fn qualified(rt: &impl Print, n: u64) -> io::Result<()> {
+    rt.print("qualified ")?;
+    hex::write_low16(rt, n)?;
+    rt.print(" ")?;
+    hex::write_low16(rt, n / 65536)?;
+    named(rt, " ", n / 4294967296)
 }
 
-fn opening(kind: u8) {
+fn opening(rt: &impl Print, kind: u8) -> io::Result<()> {
     if kind == tlv_reader::STRUCTURE {
-        write(b"structure {");
+        rt.print("structure {")
     } else if kind == tlv_reader::ARRAY {
-        write(b"array {");
+        rt.print("array {")
     } else {
-        write(b"list {");
+        rt.print("list {")
     }
 }
 
-fn value(s: &[u8], v: Value)
+fn value(rt: &impl Print, s: &[u8], v: Value) -> io::Result<()>
     requires { InPage s.now v }
 {
     match v {
-        Value::Null => write(b"null"),
-        Value::Boolean(x) => boolean(x),
-        Value::Unsigned(n) => named(b"unsigned ", n),
-        Value::Signed(z) => signed(z),
-        Value::Float(bits) => float(bits as u64),
+        Value::Null => rt.print("null"),
+        Value::Boolean(x) => boolean(rt, x),
+        Value::Unsigned(n) => named(rt, "unsigned ", n),
+        Value::Signed(z) => signed(rt, z),
+        Value::Float(bits) => float(rt, bits as u64),
         Value::Text { start, len } => {
             let end = start + len;
-            text(&s[start..end]);
+            text(rt, &s[start..end])
         }
-        Value::Other => write(b"other"),
+        Value::Other => rt.print("other"),
     }
 }
 
-fn boolean(x: bool) {
+fn boolean(rt: &impl Print, x: bool) -> io::Result<()> {
     if x {
-        write(b"boolean true");
+        rt.print("boolean true")
     } else {
-        write(b"boolean false");
+        rt.print("boolean false")
     }
 }
 
-fn signed(z: i64) {
+fn signed(rt: &impl Print, z: i64) -> io::Result<()> {
     if z < 0 {
-        named(b"signed -", (!z) as u64 + 1);
+        named(rt, "signed -", (!z) as u64 + 1)
     } else {
-        named(b"signed ", z as u64);
+        named(rt, "signed ", z as u64)
     }
 }
 
 // A float32 by its bits.
-fn float(bits: u64) {
-    write(b"float32 ");
-    hex::write_low16(bits / 65536);
-    hex::write_low16(bits);
+fn float(rt: &impl Print, bits: u64) -> io::Result<()> {
+    rt.print("float32 ")?;
+    hex::write_low16(rt, bits / 65536)?;
+    hex::write_low16(rt, bits)
 }
 
-fn text(t: &[u8]) {
-    write(b"text \"");
-    write(t);
-    write(b"\"");
+fn text(rt: &impl Print, t: &[u8]) -> io::Result<()> {
+    rt.print("text \"")?;
+    rt.write_all(t)?;
+    rt.print("\"")
 }

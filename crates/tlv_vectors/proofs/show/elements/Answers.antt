@@ -4,8 +4,8 @@ use mathlib.Core.Path.{sym, ◌∙◌}
 use Prim.Native.Nat.{◌-◌}
 use Rattle.tlv_vectors.proofs.show.elements.Goals as goal
 
-pub element-comma-requires : goal.element-comma-requires
-element-comma-requires c = in-page c.args.s.now c.loop-at.at (sym c.head.ensures ∙ c.in-Found.is)
+pub element-requires : goal.element-requires
+element-requires g c = in-page c.args.s.now c.loop-at.at (sym c.head.ensures ∙ c.in-Found.is)
 
 pub loop-at-smaller : goal.loop-at-smaller
-loop-at-smaller c = omega (arith, onward c.args.s.now c.loop-at.at (sym c.head.ensures ∙ c.in-Found.is))
+loop-at-smaller g c = omega (arith, onward c.args.s.now c.loop-at.at (sym c.head.ensures ∙ c.in-Found.is))
