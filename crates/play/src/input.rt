@@ -1,8 +1,9 @@
 // Standard input, read in pieces behind what is left of the last one, and taken line by line.
 use super::print::wrong;
-use libc::STDIN_FILENO;
 use script_answer::OVERLONG;
 use script_lines::sizes::{clip, least};
+use std::io;
+use std::io::Read;
 
 // A line has fewer bytes than this, its end counted.
 pub const INPUT: usize = 65_536;
@@ -63,32 +64,41 @@ fn shift(input: &mut [u8], at: usize, n: usize) -> usize {
 }
 
 // One read behind the kept bytes; answers how many came.
-fn more(input: &mut [u8], kept: usize) -> usize {
+fn more(stdin: &mut impl Read, input: &mut [u8], kept: usize) -> io::Result<usize> {
     let at = clip(kept, input);
-    let got = libc::read(STDIN_FILENO, &mut input[at..]);
-    io::count(got, &input[at..])
+    stdin.read(&mut input[at..])
 }
 
 // More of the script. Where nothing comes, a line end is put behind what is left, so that the last line of a script may have none.
-fn refill(input: &mut [u8; INPUT], r: Reader) -> Reader {
+fn refill(
+    rt: &impl Eprint,
+    stdin: &mut impl Read,
+    input: &mut [u8; INPUT],
+    r: Reader,
+) -> io::Result<Reader> {
     let kept = shift(input, r.at, r.n);
     if INPUT <= kept {
-        wrong(std::num::wrapping_add_u64(r.number, 1), OVERLONG);
-        return no_line(kept, true, r.number, true);
+        wrong(rt, std::num::wrapping_add_u64(r.number, 1), OVERLONG)?;
+        return Ok(no_line(kept, true, r.number, true));
     }
-    let came = least(more(input, kept), INPUT - kept);
+    let came = least(more(stdin, input, kept)?, INPUT - kept);
     if came == 0 {
         input[kept] = b'\n';
-        return no_line(kept + 1, true, r.number, false);
+        return Ok(no_line(kept + 1, true, r.number, false));
     }
-    no_line(kept + came, false, r.number, false)
+    Ok(no_line(kept + came, false, r.number, false))
 }
 
 // The next line; an empty one, not counted, where more has to come before it is known.
-pub fn next_line(input: &mut [u8; INPUT], r: Reader) -> Reader {
+pub fn next_line(
+    rt: &impl Eprint,
+    stdin: &mut impl Read,
+    input: &mut [u8; INPUT],
+    r: Reader,
+) -> io::Result<Reader> {
     let end = end_of(input, r.at, r.n);
     if end < r.n {
-        return Reader {
+        return Ok(Reader {
             at: end + 1,
             n: r.n,
             last: r.last,
@@ -96,12 +106,12 @@ pub fn next_line(input: &mut [u8; INPUT], r: Reader) -> Reader {
             to: end,
             number: std::num::wrapping_add_u64(r.number, 1),
             over: false,
-        };
+        });
     }
     if r.last {
-        return no_line(0, true, r.number, true);
+        return Ok(no_line(0, true, r.number, true));
     }
-    refill(input, r)
+    refill(rt, stdin, input, r)
 }
 
 // The line in hand.

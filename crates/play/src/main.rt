@@ -11,12 +11,16 @@ use node_schema::WORDS;
 use script_player::ends::Player;
 use script_player::play_line;
 use script_setup::{PAGE, SETUP};
+use std::io;
+use std::io::Read;
 
 mod input; // input.rt: standard input
 mod print; // print.rt: answers, and what is wrong
 
 // The whole script. A proved loop has to end, and nothing says that the input does: so its turns are counted down from a number that no run uses up.
 fn run(
+    rt: &(impl Print + Eprint),
+    stdin: &mut impl Read,
     input: &mut [u8; INPUT],
     p: Player,
     setup: &mut [u64; SETUP],
@@ -25,28 +29,30 @@ fn run(
     edits: &mut [u8; PAGE],
     page: &mut [u8; PAGE_SIZE],
     out: &mut [u8; MAX_MESSAGE],
-) {
+) -> io::Result<()> {
     let mut player = p;
     let mut reader = input::begin();
     let mut turns = u64::MAX;
     while 0 < turns {
-        reader = input::next_line(input, reader);
+        reader = input::next_line(rt, stdin, input, reader)?;
         if reader.over {
-            return;
+            return Ok(());
         }
         let line = input::line_of(input, reader.from, reader.to);
         let done = play_line(line, player, setup, words, defaults, edits, page, out);
         let said = done.said;
-        if !print::show(said, reader.number, out) {
-            return;
+        if !print::show(rt, said, reader.number, out)? {
+            return Ok(());
         }
         let next = done.player;
         player = next;
         turns -= 1;
     }
+    Ok(())
 }
 
-fn main() {
+fn main(rt: HostRuntime) -> io::Result<()> {
+    let mut stdin = rt.stdin();
     let mut input = [0u8; INPUT];
     let mut setup = [0u64; SETUP];
     let mut words = [0u64; WORDS];
@@ -56,6 +62,8 @@ fn main() {
     let mut out = [0u8; MAX_MESSAGE];
     let p = script_player::ends::fresh();
     run(
+        &rt,
+        &mut stdin,
         &mut input,
         p,
         &mut setup,
@@ -64,5 +72,5 @@ fn main() {
         &mut edits,
         &mut page,
         &mut out,
-    );
+    )
 }

@@ -1,57 +1,56 @@
 // What the program writes: one line an answer on standard output, and what is wrong on standard error.
 use im_envelope::MAX_MESSAGE;
-use libc::{STDERR_FILENO, STDOUT_FILENO};
 use script_answer::text::{TEXT, answer_line};
 use script_answer::{LineSaid, NO_SERVER, NOT_REPLIED, NOT_SENT, OVERLONG};
 use script_lines::sizes::clip;
+use std::io;
 
-fn answer(number: u8, out: &[u8; MAX_MESSAGE], len: usize) {
+fn answer(rt: &impl Print, number: u8, out: &[u8; MAX_MESSAGE], len: usize) -> io::Result<()> {
     let mut text = [0u8; TEXT];
     let whole: &[u8] = out;
     let n = clip(len, whole);
     let end = answer_line(&mut text, number, &whole[..n]);
     let k = clip(end, &text);
-    io::write_all(STDOUT_FILENO, &text[..k]);
-}
-
-fn complain(text: &[u8]) {
-    io::write_all(STDERR_FILENO, text);
+    rt.write_all(&text[..k])
 }
 
 // What is wrong, by its number.
-fn reason(fault: u8) {
+fn reason(fault: u8) -> &'static str {
     if fault == NO_SERVER {
-        complain(b"there is no sign\n");
+        "there is no sign"
     } else if fault == NOT_SENT {
-        complain(b"the panel has sent nothing yet\n");
+        "the panel has sent nothing yet"
     } else if fault == NOT_REPLIED {
-        complain(b"the sign has sent nothing yet\n");
+        "the sign has sent nothing yet"
     } else if fault == OVERLONG {
-        complain(b"longer than 65,535 bytes\n");
+        "longer than 65,535 bytes"
     } else {
-        complain(b"it can't be read\n");
+        "it can't be read"
     }
 }
 
 // What is wrong in a line, counted from 1.
-pub fn wrong(number: u64, fault: u8) {
-    complain(b"line ");
-    io::print_decimal(STDERR_FILENO, number);
-    complain(b": ");
-    reason(fault);
+pub fn wrong(rt: &impl Eprint, number: u64, fault: u8) -> io::Result<()> {
+    let why = reason(fault);
+    eprintln!(rt; "line {number}: {why}")
 }
 
 // What a line says; answers whether the run goes on.
-pub fn show(said: LineSaid, number: u64, out: &[u8; MAX_MESSAGE]) -> bool {
+pub fn show(
+    rt: &(impl Print + Eprint),
+    said: LineSaid,
+    number: u64,
+    out: &[u8; MAX_MESSAGE],
+) -> io::Result<bool> {
     match said {
-        LineSaid::Nothing => true,
+        LineSaid::Nothing => Ok(true),
         LineSaid::Line { number, len } => {
-            answer(number, out, len);
-            true
+            answer(rt, number, out, len)?;
+            Ok(true)
         }
         LineSaid::Wrong(fault) => {
-            wrong(number, fault);
-            false
+            wrong(rt, number, fault)?;
+            Ok(false)
         }
     }
 }
