@@ -59,8 +59,8 @@ fn received<S: Called>(sign: &mut S, subject: u64, message: &[u8], room: usize) 
 
 /// The answers of the proved player, the program `play`.
 pub fn proved(steps: &[Step]) -> Vec<Printed> {
-    let program = concat!(env!("CARGO_MANIFEST_DIR"), "/../target/bin/play");
-    assert!(File::new(program).exists(), "no {program}: rt check play makes it");
+    let program = concat!(env!("CARGO_MANIFEST_DIR"), "/../crates/play/out/play");
+    assert!(File::new(program).exists(), "no {program}: rt run in crates/play makes it");
     let script: String = steps.iter().map(|step| format!("{}\n", step.text)).collect();
     let mut player = Command::new(program)
         .stdin(Stdio::piped())
