@@ -1,5 +1,5 @@
 -- Little-endian numbers of any width (RULES 4.2).
-use Rattle.std.specs.Prelude.{ℕ, zero, suc, ◌+◌, ◌*◌, ◌/◌, ◌%◌, ◌^◌, ◌<◌, List, [], ◌∷◌, length, get_or, take, drop}
+use Rattle.std.specs.Prelude.{ℕ, zero, suc, ◌+◌, ◌*◌, ◌/◌, ◌%◌, ◌<◌, List, [], ◌∷◌, length, get_or, take, drop}
 
 -- the number that a list of bytes is, the first byte the least
 unfoldable pub number_of : List ℕ → ℕ

@@ -7,19 +7,13 @@ ghost use Rattle.std.specs.Prelude.{◌≡◌, List, [], ◌∷◌, ℕ, ◌+◌
 ghost use Rattle.base_octets.specs.Number.{number_at, bytes_of};
 ghost use Rattle.base_octets.specs.Store.{store, Stored};
 
-fn wide(x: u8) -> u64
-    ensures { result ≡ x }
-{
-    x as u64
-}
-
 // The number in two bytes.
 fn pair(s: &[u8], at: usize) -> u64
     requires { at + 2 ≤ length s.now }
     ensures value { result ≡ number_at 2 s.now at }
     ensures small { result < 65536 }
 {
-    wide(s[at]) + 256 * wide(s[at + 1])
+    u64::from(s[at]) + 256 * u64::from(s[at + 1])
 }
 
 // In four.
@@ -38,7 +32,7 @@ fn short(s: &[u8], at: usize, w: usize) -> u64
     ensures small { result < 4294967296 }
 {
     if w == 1 {
-        return wide(s[at]);
+        return u64::from(s[at]);
     }
     if w == 0 {
         return 0;
@@ -47,7 +41,7 @@ fn short(s: &[u8], at: usize, w: usize) -> u64
         return pair(s, at);
     }
     if w == 3 {
-        return pair(s, at) + 65536 * wide(s[at + 2]);
+        return pair(s, at) + 65536 * u64::from(s[at + 2]);
     }
     quad(s, at)
 }
@@ -77,13 +71,11 @@ fn put_long(b: &mut [u8], at: usize, w: usize, v: u64) -> usize
     ensures { Stored b.old at (bytes_of w v) b.new result }
 {
     let mut x = v;
-    let mut i = 0;
-    while i < w {
+    for i in 0..w {
         b[at + i] = (x % 256) as u8;
-        x = x / 256;
-        i += 1;
+        x /= 256;
     }
-    at + i
+    at + w
 }
 
 // The same. Most have one, two or four bytes: without a loop they are one store.
@@ -109,12 +101,9 @@ pub fn put_bytes(b: &mut [u8], at: usize, src: &[u8]) -> usize
     requires { at + length src.now ≤ length b.old }
     ensures { Stored b.old at src.now b.new result }
 {
-    let mut i = 0;
-    while i < src.len() {
-        b[at + i] = src[i];
-        i += 1;
-    }
-    at + i
+    let end = at + src.len();
+    b[at..end].copy_from_slice(src);
+    end
 }
 
 pub fn put1(b: &mut [u8], at: usize, x: u8) -> usize

@@ -2,7 +2,7 @@
 use mathlib.Core.Path.{◌≡◌, refl, sym, subst, ◌∙◌}
 use mathlib.Core.Bool.{Bool, true, ◌&&◌}
 use mathlib.Core.List.{List, [], ◌∷◌}
-use Prim.Native.Nat.{ℕ, zero, suc, ◌+◌, ◌≤◌, ◌<◌}
+use Prim.Native.Nat.{max, ℕ, zero, suc, ◌+◌, ◌≤◌, ◌<◌}
 use native.Mathlib.Numerals.{add-one}
 use native.Mathlib.Omega.{arith}
 use borrow.Author.Tests.{ltb-true, lt-ltb, le-ltb}
@@ -47,11 +47,10 @@ pub below-part : (k n start : ℕ) (s : List ℕ) → all_below k s ≡ true →
 below-part k n start s b = below-first k n (drop start s) (below_rest k start s b)
 
 -- the greater of two bytes decides for both
-greater : (k m b : ℕ) (x : Bool) → m ≤ b → (ltb m k && (ltb b k && x)) ≡ (ltb b k && x)
-greater k m b x h = split b k (λ l. rw (lt-ltb m k (omega arith))) (λ l. rw (le-ltb b k l) (and-false (ltb m k)))
-
-kept : (k m b : ℕ) (x : Bool) → b ≤ m → (ltb m k && (ltb b k && x)) ≡ (ltb m k && x)
-kept k m b x h = split m k (λ l. rw (lt-ltb b k (omega arith))) (λ l. rw (le-ltb m k l))
+greater : (k m b : ℕ) (x : Bool) → (ltb m k && (ltb b k && x)) ≡ (ltb (max m b) k && x)
+greater k m b x = split m k
+    (λ l. split b k (λ n. rw (lt-ltb m k l, lt-ltb b k n, lt-ltb (max m b) k (omega arith)) refl) (λ n. rw (lt-ltb m k l, le-ltb b k n, le-ltb (max m b) k (omega arith)) refl))
+    (λ l. rw (le-ltb m k l, le-ltb (max m b) k (omega arith)) refl)
 
 -- the loop: m is the greatest of the bytes before i
 abbrev pub SoFar : List ℕ → ℕ → ℕ → Type 0
@@ -65,11 +64,8 @@ module _ (s : List ℕ) (m i : ℕ) (inv : SoFar s m i) where
   unfolding all_below
   one_more h k p = inv k p ∙ rw (drop-cons s i 0, add-one)
 
-  pub rises : i < length s → m < get_or s i 0 → SoFar s (get_or s i 0) (i + 1)
-  rises h l k p = one_more h k p ∙ greater k m (get_or s i 0) (all_below k (drop (i + 1) s)) (omega arith)
-
-  pub stays : i < length s → get_or s i 0 ≤ m → SoFar s m (i + 1)
-  stays h l k p = one_more h k p ∙ kept k m (get_or s i 0) (all_below k (drop (i + 1) s)) l
+  pub wider : i < length s → SoFar s (max m (get_or s i 0)) (i + 1)
+  wider h k p = one_more h k p ∙ greater k m (get_or s i 0) (all_below k (drop (i + 1) s))
 
   pub decides : length s ≤ i → Greatest m s
   unfolding all_below

@@ -12,13 +12,8 @@ fn greatest(s: &[u8]) -> u8
     ensures { Greatest result s.now }
 {
     let mut m: u8 = 0;
-    let mut i: usize = 0;
-    while i < s.len() {
-        let b = s[i];
-        if m < b {
-            m = b;
-        }
-        i += 1;
+    for &b in s {
+        m = m.max(b);
     }
     m
 }
@@ -27,7 +22,7 @@ fn greatest(s: &[u8]) -> u8
 fn over(x: u8, k: u8) -> u8
     ensures { result ≡ x - k }
 {
-    if k < x { x - k } else { 0 }
+    x.saturating_sub(k)
 }
 
 // n if d is a byte from 80 to h, else 0.
@@ -87,14 +82,11 @@ fn few(s: &[u8]) -> bool
     let mut b: u8 = 0;
     let mut c: u8 = 0;
     let mut good = true;
-    let mut i: usize = 0;
-    while i < s.len() {
-        let d = s[i];
+    for &d in s {
         good = good & is_allowed(a, b, c, d);
         a = b;
         b = c;
         c = d;
-        i += 1;
     }
     good & !is_due(a, b, c)
 }
@@ -106,12 +98,10 @@ fn up_to_two(s: &[u8]) -> bool
     ensures { result ≡ well_formed s.now }
 {
     let mut good = is_allowed_two(0, s[0]);
-    let mut i: usize = 1;
-    while i < s.len() {
+    for i in 1..s.len() {
         good = good & is_allowed_two(s[i - 1], s[i]);
-        i += 1;
     }
-    good & (s[i - 1] < 0xC0)
+    good & (s[s.len() - 1] < 0xC0)
 }
 
 // Whether byte i may come where it stands, where sequences have at most three bytes.
@@ -129,12 +119,11 @@ fn up_to_three(s: &[u8]) -> bool
 {
     let b = s[0];
     let mut good = is_allowed_three(0, 0, b) & is_allowed_three(0, b, s[1]);
-    let mut i: usize = 2;
-    while i < s.len() {
+    for i in 2..s.len() {
         good = good & is_allowed_three_at(s, i);
-        i += 1;
     }
-    good & ((s[i - 1] < 0xC0) & (s[i - 2] < 0xE0))
+    let end = s.len();
+    good & ((s[end - 1] < 0xC0) & (s[end - 2] < 0xE0))
 }
 
 // Whether a trailing byte must come at i.
@@ -160,12 +149,10 @@ fn up_to_four(s: &[u8]) -> bool
     let a = s[0];
     let b = s[1];
     let mut good = (is_allowed(0, 0, 0, a) & is_allowed(0, 0, a, b)) & is_allowed(0, a, b, s[2]);
-    let mut i: usize = 3;
-    while i < s.len() {
+    for i in 3..s.len() {
         good = good & is_allowed_at(s, i);
-        i += 1;
     }
-    good & !is_due_at(s, i)
+    good & !is_due_at(s, s.len())
 }
 
 // Whether every byte is below 128: bytes like that are well-formed, and so is each part of them. It is for whole pages: the quarters are read side by side,
@@ -175,10 +162,8 @@ pub fn ascii(s: &[u8]) -> bool
 {
     let side = s.len() / 4;
     let mut bits: u8 = 0;
-    let mut i: usize = 0;
-    while i < side {
+    for i in 0..side {
         bits = bits | s[i] | s[side + i] | s[2 * side + i] | s[3 * side + i];
-        i += 1;
     }
     // The last bytes, where the quarters leave some.
     (bits < 0x80) & (greatest(&s[4 * side..]) < 0x80)

@@ -1,4 +1,5 @@
 -- What is found is one of those held.
+use Rattle.std.specs.Prelude.{Some, None, Option}
 use mathlib.Core.Path.{◌≡◌, refl, sym, ap, ◌∙◌}
 use Prim.Native.Nat.{ℕ, ◌+◌, ◌%◌, ◌≤◌, ◌<◌}
 use native.Mathlib.Omega.{arith}
@@ -12,8 +13,6 @@ use lib.ListN.{length, get_or}
 use Rattle.tlv_reader.specs.Octet.{pick}
 use Rattle.tlv_reader.specs.declared.Value.{Value}
 use Rattle.tlv_reader.specs.declared.Value.TheVariants as value
-use Rattle.node_schema.specs.declared.Found.{Found}
-use Rattle.node_schema.specs.declared.Found.TheVariants as found
 use Rattle.node_schema.proofs.SearchLaws as Search
 use Rattle.cache_order.specs.Order.{word_at}
 use Rattle.cache_entries.specs.declared.Cached.{Cached}
@@ -33,15 +32,15 @@ never : {A : Type 0} → ◌≡◌ {A = ℕ} 0 1 → A
 never e = absurd (omega arith)
 
 -- an entry that is found is one of those counted
-pub entry-count : (c : Cached) (endpoint cluster attribute i : ℕ) → path_at c endpoint cluster attribute ≡ found.At i → i < c.count
+pub entry-count : (c : Cached) (endpoint cluster attribute i : ℕ) → path_at c endpoint cluster attribute ≡ Some i → i < c.count
 unfolding path_at word_at
 entry-count c endpoint cluster attribute i e = go (cluster_at c (cluster_word endpoint cluster)) e
   where
-    go : (f : Found) → in_cluster c attribute f ≡ found.At i → i < c.count
-    go (found.At k) q = omega (arith, (Search.found (λ j. eqb (get_or c.keys j 0) (key_word k attribute)) c.count 0 i q).below)
-    go found.Nothing q = never (cc)
+    go : (f : (Option ℕ)) → in_cluster c attribute f ≡ Some i → i < c.count
+    go (Some k) q = omega (arith, (Search.found (λ j. eqb (get_or c.keys j 0) (key_word k attribute)) c.count 0 i q).below)
+    go None q = never (cc)
 
-pub cluster-found : (l : List ℕ) (n word k : ℕ) → n ≤ max_clusters → word_at l n word ≡ found.At k → k < max_clusters
+pub cluster-found : (l : List ℕ) (n word k : ℕ) → n ≤ max_clusters → word_at l n word ≡ Some k → k < max_clusters
 unfolding word_at
 cluster-found l n word k h e = omega (arith, (Search.found (λ i. eqb (get_or l i 0) word) n 0 k e).below)
 
@@ -52,7 +51,7 @@ module _ (page : List ℕ) (s : CacheState) (h : cache_right page s ≡ true) wh
       let r = held-right page s.held (right-held page s h) in
       record { few-entries = r.few-entries; few-clusters = r.few-clusters; cluster-order = r.cluster-order; entry-order = r.entry-order }
 
-  module _ (endpoint cluster attribute i : ℕ) (e : path_at s.held endpoint cluster attribute ≡ found.At i) where
+  module _ (endpoint cluster attribute i : ℕ) (e : path_at s.held endpoint cluster attribute ≡ Some i) where
     pub entry_found : i < max_entries
     entry_found = omega (arith, right-ordered.few-entries, entry-count s.held endpoint cluster attribute i e)
 
@@ -107,7 +106,7 @@ pub text-there : (page : List ℕ) (s : CacheState) (endpoint cluster attribute 
 unfolding entry_of
 text-there page s endpoint cluster attribute {v} {a} {n} {x} e t = go (cache_right page s) (path_at s.held endpoint cluster attribute) refl refl e
   where
-    at : (i : ℕ) → cache_right page s ≡ true → path_at s.held endpoint cluster attribute ≡ found.At i → (b : Bool) → pick b (held.Here (get_or s.held.versions i 0) (value_by (get_or s.held.kinds i 0) (get_or s.held.words i 0) (get_or s.held.lengths (get_or s.held.words i 0) 0))) held.Nothing ≡ held.Here v x → (a + n ≤ length page) × (n ≤ text_size)
+    at : (i : ℕ) → cache_right page s ≡ true → path_at s.held endpoint cluster attribute ≡ Some i → (b : Bool) → pick b (held.Here (get_or s.held.versions i 0) (value_by (get_or s.held.kinds i 0) (get_or s.held.words i 0) (get_or s.held.lengths (get_or s.held.words i 0) 0))) held.Nothing ≡ held.Here v x → (a + n ≤ length page) × (n ≤ text_size)
     at i p q true e =
         let c = s.held in
         let word : ℕ = get_or c.words i 0 in
@@ -116,9 +115,9 @@ text-there page s endpoint cluster attribute {v} {a} {n} {x} e t = go (cache_rig
         omega (arith, k.1.0, k.1.1, found-place page s p endpoint cluster attribute i q k.0, found-short page s p endpoint cluster attribute i q k.0, right-size page s p)
     at i p q false e = never (cc)
 
-    go : (b : Bool) (f : Found) → cache_right page s ≡ b → path_at s.held endpoint cluster attribute ≡ f → pick b (entry_read s.held f) held.Broken ≡ held.Here v x → (a + n ≤ length page) × (n ≤ text_size)
-    go true (found.At i) p q e = at i p q (ltb (get_or s.held.versions i 0) no_version) e
-    go true found.Nothing p q e = never (cc)
+    go : (b : Bool) (f : (Option ℕ)) → cache_right page s ≡ b → path_at s.held endpoint cluster attribute ≡ f → pick b (entry_read s.held f) held.Broken ≡ held.Here v x → (a + n ≤ length page) × (n ≤ text_size)
+    go true (Some i) p q e = at i p q (ltb (get_or s.held.versions i 0) no_version) e
+    go true None p q e = never (cc)
     go false f p q e = never (cc)
 
 -- by words that are a cache's

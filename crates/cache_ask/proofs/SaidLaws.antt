@@ -1,4 +1,5 @@
 -- What is answered says what the rules say (RULES 6.1, 7).
+use Rattle.std.specs.Prelude.{Some, None, Option}
 use mathlib.Core.Path.{◌≡◌, refl, sym, ap, ◌∙◌}
 use mathlib.Core.Bool.{Bool, true, false, not, ◌&&◌, false≢true}
 use mathlib.Core.List.{List, []}
@@ -9,11 +10,7 @@ use mir.Syntax.{w64}
 use mir.Val.{to_z}
 use Rattle.tlv_reader.specs.declared.Value.TheVariants as value
 use Rattle.tlv_reader.specs.Octet.{pick}
-use Rattle.tlv_reader.specs.Decode.{Opt}
-use Rattle.tlv_reader.specs.Decode.Opt.{just, nothing}
 use Rattle.tlv_reader.specs.Value.{Datum, datum_in}
-use Rattle.node_schema.specs.declared.Found.{Found}
-use Rattle.node_schema.specs.declared.Found.TheVariants as found
 use Rattle.cache_entries.specs.Limits.{half, no_version, null_kind, boolean_kind, unsigned_kind, signed_kind, float_kind}
 use Rattle.cache_entries.specs.Entries.{cluster_word, text_in, place_start, datum_by, entry_of, at_entry, path_at, lookup}
 use Rattle.cache_state.specs.declared.CacheState.{CacheState}
@@ -34,9 +31,9 @@ module _ (page : List ℕ) (s : CacheState) where
   unfolding Ask.whole_of
   whole-said endpoint cluster = go (cache_right page s) (Ask.coherent_of s.held (cluster_word endpoint cluster))
     where
-      go : (b : Bool) (o : Opt ℕ) → Ask.whole_said (pick b (Ask.whole_read o) whole.Broken) ≡ pick b (Ask.version_said o) (Ask.said 2 [])
-      go true nothing = refl
-      go true (just v) = refl
+      go : (b : Bool) (o : Option ℕ) → Ask.whole_said (pick b (Ask.whole_read o) whole.Broken) ≡ pick b (Ask.version_said o) (Ask.said 2 [])
+      go true None = refl
+      go true (Some v) = refl
       go false o = refl
 
   -- the value that is answered is the one that the map holds
@@ -56,13 +53,13 @@ module _ (page : List ℕ) (s : CacheState) where
   unfolding Ask.entry_of lookup
   entry-said e c a = go (cache_right page s) (path_at s.held e c a)
     where
-      at : (i : ℕ) (b : Bool) → Ask.held_said page (pick b (held.Here (get_or s.held.versions i 0) (Ask.value_by (get_or s.held.kinds i 0) (get_or s.held.words i 0) (get_or s.held.lengths (get_or s.held.words i 0) 0))) held.Nothing) ≡ Ask.entry_said (pick b (just (entry_of s.held page i)) nothing)
-      at i true = ap (λ (d : Datum). Ask.entry_said (just (record { version = get_or s.held.versions i 0; value = d }))) (value-said (get_or s.held.kinds i 0) (get_or s.held.words i 0) s.held.lengths)
+      at : (i : ℕ) (b : Bool) → Ask.held_said page (pick b (held.Here (get_or s.held.versions i 0) (Ask.value_by (get_or s.held.kinds i 0) (get_or s.held.words i 0) (get_or s.held.lengths (get_or s.held.words i 0) 0))) held.Nothing) ≡ Ask.entry_said (pick b (Some (entry_of s.held page i)) None)
+      at i true = ap (λ (d : Datum). Ask.entry_said (Some (record { version = get_or s.held.versions i 0; value = d }))) (value-said (get_or s.held.kinds i 0) (get_or s.held.words i 0) s.held.lengths)
       at i false = refl
 
-      go : (b : Bool) (f : Found) → Ask.held_said page (pick b (Ask.entry_read s.held f) held.Broken) ≡ pick b (Ask.entry_said (Ask.versioned (at_entry s.held page f))) (record { number = 2; entry = nothing })
-      go true (found.At i) = at i (ltb (get_or s.held.versions i 0) no_version)
-      go true found.Nothing = refl
+      go : (b : Bool) (f : (Option ℕ)) → Ask.held_said page (pick b (Ask.entry_read s.held f) held.Broken) ≡ pick b (Ask.entry_said (Ask.versioned (at_entry s.held page f))) (record { number = 2; entry = None })
+      go true (Some i) = at i (ltb (get_or s.held.versions i 0) no_version)
+      go true None = refl
       go false f = refl
 
   pub outcome-said : Ask.ended_said (Ask.outcome_of page s) ≡ Ask.says_outcome page s

@@ -1,15 +1,11 @@
 -- What a cache answers when it is asked. `..Said` gives the number (RULES 6.1) and the values of each case of an answer, `says..` what is to be said.
-use Rattle.std.specs.Prelude.{◌≡◌, true, not, List, [], ◌∷◌, ℕ, ◌%◌, ◌≤◌, eqb, ltb, get_or, take, drop}
+use Rattle.std.specs.Prelude.{◌≡◌, true, not, List, [], ◌∷◌, ℕ, ◌%◌, ◌≤◌, eqb, ltb, get_or, take, drop, Some, None, Option}
 use Rattle.std.specs.Int.{w64}
 use Rattle.std.proofs.Common.{to_z}
 use Rattle.tlv_reader.specs.declared.Value.{Value}
 use Rattle.tlv_reader.specs.declared.Value.TheVariants as value
 use Rattle.tlv_reader.specs.Octet.{pick}
 use Rattle.tlv_reader.specs.Value.{datum_in}
-use Rattle.tlv_reader.specs.Decode.{Opt}
-use Rattle.tlv_reader.specs.Decode.Opt.{just, nothing}
-use Rattle.node_schema.specs.declared.Found.{Found}
-use Rattle.node_schema.specs.declared.Found.TheVariants as found
 use Rattle.cache_order.specs.Order.{order_right}
 use Rattle.cache_entries.specs.declared.Cached.{Cached}
 use Rattle.cache_entries.specs.Limits.{max_entries, max_clusters, half, no_version, null_kind, boolean_kind, unsigned_kind, signed_kind, float_kind}
@@ -41,16 +37,16 @@ abbrev pub unless_broken : List ℕ → CacheState → Said → Said
 unless_broken page s x = pick (cache_right page s) x (said 2 [])
 
 -- IS A CLUSTER COHERENT, and at which version
-abbrev pub coherent_there : Cached → Found → Opt ℕ
-coherent_there c (found.At k) = coherent_at c k
-coherent_there c found.Nothing = nothing
+abbrev pub coherent_there : Cached → Option ℕ → Option ℕ
+coherent_there c (Some k) = coherent_at c k
+coherent_there c None = None
 
-unfoldable pub coherent_of : Cached → ℕ → Opt ℕ
+unfoldable pub coherent_of : Cached → ℕ → Option ℕ
 coherent_of c word = coherent_there c (cluster_at c word)
 
-abbrev pub whole_read : Opt ℕ → Whole
-whole_read nothing = whole.No
-whole_read (just v) = whole.At v
+abbrev pub whole_read : Option ℕ → Whole
+whole_read None = whole.No
+whole_read (Some v) = whole.At v
 
 unfoldable pub whole_of : List ℕ → CacheState → ℕ → ℕ → Whole
 whole_of page s endpoint cluster =
@@ -61,9 +57,9 @@ whole_said whole.Broken = said 2 []
 whole_said whole.No = said 1 []
 whole_said (whole.At v) = said 0 (v ∷ [])
 
-abbrev pub version_said : Opt ℕ → Said
-version_said nothing = said 1 []
-version_said (just v) = said 0 (v ∷ [])
+abbrev pub version_said : Option ℕ → Said
+version_said None = said 1 []
+version_said (Some v) = said 0 (v ∷ [])
 
 -- 0 and the version, or 1
 abbrev pub says_whole : List ℕ → CacheState → ℕ → ℕ → Said
@@ -79,16 +75,16 @@ value_by kind word len =
     (pick (eqb kind float_kind) (value.Float (word % half)) (value.Text (place_start word) len)))))
 
 -- one with no version, which no call of ours makes yet, is not shown: it is answered like one that is not there
-abbrev pub versioned : Opt CacheEntry → Opt CacheEntry
-versioned nothing = nothing
-versioned (just x) = pick (ltb x.version no_version) (just x) nothing
+abbrev pub versioned : Option CacheEntry → Option CacheEntry
+versioned None = None
+versioned (Some x) = pick (ltb x.version no_version) (Some x) None
 
-abbrev pub entry_read : Cached → Found → EntryHeld
-entry_read c (found.At i) =
+abbrev pub entry_read : Cached → Option ℕ → EntryHeld
+entry_read c (Some i) =
     pick (ltb (get_or c.versions i 0) no_version)
     (held.Here (get_or c.versions i 0) (value_by (get_or c.kinds i 0) (get_or c.words i 0) (get_or c.lengths (get_or c.words i 0) 0)))
     held.Nothing
-entry_read c found.Nothing = held.Nothing
+entry_read c None = held.Nothing
 
 unfoldable pub entry_of : List ℕ → CacheState → ℕ → ℕ → ℕ → EntryHeld
 entry_of page s e c a = pick (cache_right page s) (entry_read s.held (path_at s.held e c a)) held.Broken
@@ -96,19 +92,19 @@ entry_of page s e c a = pick (cache_right page s) (entry_read s.held (path_at s.
 -- 0 with version and value, or 1; of the map that the cache holds
 pub record EntrySaid : Type 0 where
   pub number : ℕ
-  pub entry : Opt CacheEntry
+  pub entry : Option CacheEntry
 
 abbrev pub held_said : List ℕ → EntryHeld → EntrySaid
-held_said page held.Broken = record { number = 2; entry = nothing }
-held_said page held.Nothing = record { number = 1; entry = nothing }
-held_said page (held.Here v x) = record { number = 0; entry = just (record { version = v; value = datum_in page x }) }
+held_said page held.Broken = record { number = 2; entry = None }
+held_said page held.Nothing = record { number = 1; entry = None }
+held_said page (held.Here v x) = record { number = 0; entry = Some (record { version = v; value = datum_in page x }) }
 
-abbrev pub entry_said : Opt CacheEntry → EntrySaid
-entry_said nothing = record { number = 1; entry = nothing }
-entry_said (just x) = record { number = 0; entry = just x }
+abbrev pub entry_said : Option CacheEntry → EntrySaid
+entry_said None = record { number = 1; entry = None }
+entry_said (Some x) = record { number = 0; entry = Some x }
 
 abbrev pub says_entry : List ℕ → CacheState → ℕ → ℕ → ℕ → EntrySaid
-says_entry page s e c a = pick (cache_right page s) (entry_said (versioned (lookup s.held page e c a))) (record { number = 2; entry = nothing })
+says_entry page s e c a = pick (cache_right page s) (entry_said (versioned (lookup s.held page e c a))) (record { number = 2; entry = None })
 
 -- its text, as the part of the page
 abbrev pub text_of_value : List ℕ → Value → List ℕ

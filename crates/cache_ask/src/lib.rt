@@ -12,12 +12,11 @@ ghost use Rattle.cache_state.specs.Words.{held_in, state_in};
 ghost use Rattle.cache_ask.specs.Ask.{whole_read, coherent_of, value_by, Ordered, AnswersWhole, AnswersEntry, text_shown, AnswersOutcome, AnswersUnknown};
 
 use cache_entries::find::{find_cluster, find_entry};
-use cache_entries::shared::{Coherent, coherent_at};
+use cache_entries::shared::coherent_at;
 use cache_entries::{CLUSTERS, ENTRIES, HALF, NO_VERSION, ORDER_SIZE, TEXT_PLACES, TEXT_SIZE};
 use cache_state::words::read_standing;
 use cache_state::{ASKED_WORDS, CacheStanding, LAST_PART, NONE, STATUS, cache_ok};
 use node_kinds::stored::signed_of;
-use node_schema::Found;
 use tlv_reader::Value;
 
 // Whether a cluster is coherent (RULES 7.11: whole), and at which version.
@@ -65,12 +64,12 @@ fn whole_of<'a>(
     requires { Bounded clusters.now keys.now versions.now order.now t.cluster_count t.count }
     ensures { (kinds words lengths : List ℕ) → result ≡ whole_read (coherent_of (held_in clusters.now keys.now versions.now kinds words order.now lengths t) word) }
 {
-    let Found::At(k) = find_cluster(clusters, order, t.cluster_count, word) else {
+    let Some(k) = find_cluster(clusters, order, t.cluster_count, word) else {
         return Whole::No;
     };
     match coherent_at(keys, versions, t.count, t.primed == 1, k) {
-        Coherent::At(version) => Whole::At(version),
-        Coherent::No => Whole::No,
+        Some(version) => Whole::At(version),
+        None => Whole::No,
     }
 }
 
@@ -108,14 +107,12 @@ fn path_at<'a>(
     endpoint: u16,
     cluster: u32,
     attribute: u32,
-) -> Found
+) -> Option<usize>
     requires { Ordered clusters.now keys.now order.now t.cluster_count t.count }
     ensures { (versions kinds words lengths : List ℕ) → result ≡ path_at (held_in clusters.now keys.now versions kinds words order.now lengths t) endpoint cluster attribute }
 {
     let word = endpoint as u64 * HALF + cluster as u64;
-    let Found::At(k) = find_cluster(clusters, order, t.cluster_count, word) else {
-        return Found::Nothing;
-    };
+    let k = find_cluster(clusters, order, t.cluster_count, word)?;
     find_entry(keys, order, t.count, k as u64 * HALF + attribute as u64)
 }
 
@@ -177,7 +174,7 @@ pub fn entry<'a>(
     ) {
         return EntryHeld::Broken;
     }
-    let Found::At(i) = path_at(clusters, keys, order, t, endpoint, cluster, attribute) else {
+    let Some(i) = path_at(clusters, keys, order, t, endpoint, cluster, attribute) else {
         return EntryHeld::Nothing;
     };
     let version = versions[i];

@@ -1,12 +1,10 @@
 -- A part of a stretch that was judged as a whole is the same part of the page.
-use mathlib.Core.Path.{◌≡◌, refl, sym, ap, ◌∙◌}
-use mathlib.Core.Bool.{Bool, true, false}
+use mathlib.Core.Path.{◌≡◌, refl, ap, ◌∙◌}
+use mathlib.Core.Bool.{true}
 use mathlib.Core.List.{List, [], ◌∷◌}
 use Prim.Native.Nat.{ℕ, zero, suc, ◌+◌, ◌≤◌}
 use native.Mathlib.Omega.{arith}
 use lib.ListN.{length, take, drop}
-use lib.Seq.{take-nil, drop-nil}
-use Rattle.tlv_reader.specs.Octet.{pick}
 use Rattle.base_utf8.specs.Bytewise.{all_below}
 use Rattle.base_utf8.specs.WellFormed.{well_formed}
 use Rattle.base_utf8.proofs.Below.{ascii-formed, below-part}

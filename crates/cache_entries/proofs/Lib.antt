@@ -10,3 +10,4 @@ pub mod PartLaws
 pub mod FormLaws
 pub mod MarkLaws
 pub mod MoveLaws
+pub mod WalkLaws

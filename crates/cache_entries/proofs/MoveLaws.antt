@@ -4,11 +4,10 @@ use mathlib.Core.Bool.{Bool, true, false, not, ◌&&◌, false≢true}
 use mathlib.Core.List.{List}
 use Prim.Native.Nat.{ℕ, ◌<◌, ◌≤◌}
 use native.Mathlib.Omega.{arith}
-use borrow.Author.Tests.{eq-eqb, eqb-true, eqb-false, lt-ltb}
+use borrow.Author.Tests.{eqb-true, eqb-false, lt-ltb}
 use lib.Dec.{eqb, ltb}
 use lib.ListN.{length, get_or, set, length-set}
 use lib.Seq.{get_or-set_same, get_or-set_other, set-get_or}
-use Rattle.tlv_reader.specs.Octet.{pick}
 use Rattle.node_schema.proofs.BoolLaws.{by-test, both}
 use Rattle.cache_entries.specs.Limits.{max_entries, text_places, text_kind}
 use Rattle.cache_entries.specs.Texts.{is_text, place_used, Marked, Own}

@@ -1,4 +1,5 @@
 -- The versions of a cluster joined in one word: it says the version that they share, if they share one.
+use Rattle.std.specs.Prelude.{None}
 use mathlib.Core.Path.{◌≡◌, refl, sym, ap, ◌∙◌}
 use mathlib.Core.Bool.{true, false}
 use mathlib.Core.List.{List, [], ◌∷◌}
@@ -8,7 +9,6 @@ use borrow.Author.Tests.{eq-eqb, ne_eqb, eqb-true, eqb-false}
 use lib.Dec.{eqb, ltb}
 use lib.ListN.{get_or}
 use Rattle.tlv_reader.specs.Octet.{pick}
-use Rattle.tlv_reader.specs.Decode.Opt.{nothing}
 use Rattle.node_schema.proofs.BoolLaws.{by-test}
 use Rattle.cache_entries.specs.declared.Cached.{Cached}
 use Rattle.cache_entries.specs.Limits.{half, no_version}
@@ -73,6 +73,6 @@ pub coherent-primed : (c : Cached) (k : ℕ) → c.primed ≡ true → coherent_
 unfolding coherent_at
 coherent-primed c k h = rw h
 
-pub coherent-unprimed : (c : Cached) (k : ℕ) → c.primed ≡ false → coherent_at c k ≡ nothing
+pub coherent-unprimed : (c : Cached) (k : ℕ) → c.primed ≡ false → coherent_at c k ≡ None
 unfolding coherent_at
 coherent-unprimed c k h = rw h

@@ -1,4 +1,5 @@
 -- The places of texts: each text has its own, and the place that is given to a text is no other's.
+use Rattle.std.specs.Prelude.{Some, None, Option}
 use mathlib.Core.Path.{◌≡◌, refl, sym, ap, ◌∙◌}
 use mathlib.Core.Bool.{Bool, true, false, not, ◌&&◌, false≢true}
 use mathlib.Core.List.{List}
@@ -8,8 +9,6 @@ use borrow.Author.Tests.{eqb-true, eq-eqb, ltb-true, ltb-false, lt-ltb}
 use lib.Dec.{eqb, ltb}
 use lib.ListN.{get_or}
 use Rattle.tlv_reader.specs.Octet.{pick}
-use Rattle.node_schema.specs.declared.Found.{Found}
-use Rattle.node_schema.specs.declared.Found.TheVariants.{At, Nothing}
 use Rattle.node_schema.specs.Search.{first}
 use Rattle.node_schema.proofs.BoolLaws.{both, left, right, by-test}
 use Rattle.node_schema.proofs.SearchLaws.{found, none}
@@ -96,11 +95,11 @@ module _ (page : List ℕ) (c : Cached) (r : RightHeld page c) (i : ℕ) (low : 
   unfolding free_place
   free plain = go (first (λ p. not (used p)) text_places 0) refl
     where
-      go : (f : Found) → first (λ p. not (used p)) text_places 0 ≡ f → Own c.kinds c.words c.count i (or_first f)
-      go (At p) e =
+      go : (f : (Option ℕ)) → first (λ p. not (used p)) text_places 0 ≡ f → Own c.kinds c.words c.count i (or_first f)
+      go (Some p) e =
           let h = found (λ p. not (used p)) text_places 0 p e in
           record { below = omega (arith, h.below); apart = λ j u ne tj q. none-there c.kinds c.words c.count p (by-test (used p) (λ t. absurd (false≢true (rw t at h.holds))) (λ f. f)) j (record { below = u; text = tj; place = q }) }
-      go Nothing e =
+      go None e =
           absurd (all-used (λ p l. by-test (used p) (λ t. t) (λ f. absurd (false≢true (sym (rw f at (none (λ p. not (used p)) text_places 0 p e (omega arith) (omega arith))))))) plain)
 
   pub place-own : Own c.kinds c.words c.count i (text_place c i)

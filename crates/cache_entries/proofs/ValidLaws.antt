@@ -11,7 +11,7 @@ use Rattle.node_schema.proofs.BoolLaws.{both, left, right, by-test}
 use Rattle.node_schema.proofs.CheckLaws.{every-at}
 use Rattle.cache_order.specs.Order.{order_right}
 use Rattle.cache_entries.specs.declared.Cached.{Cached}
-use Rattle.cache_entries.specs.Limits.{max_entries, max_clusters, text_places, text_size, page_size, order_size, half, no_version}
+use Rattle.cache_entries.specs.Limits.{max_entries, max_clusters, text_places, text_size, page_size, half, no_version}
 use Rattle.cache_entries.specs.Entries.{cluster_order, text_in}
 use Rattle.cache_entries.specs.Texts.{is_text, place_used}
 use Rattle.cache_entries.specs.Valid.{word_right, entry_right, entry_right_at, entries_right, text_right, text_right_at, texts_right, clusters_right, held_right, RightHeld}

@@ -1,11 +1,7 @@
 -- When a cluster is whole (RULES 7.11). Whole is called coherent here, filled primed.
-use Rattle.std.specs.Prelude.{◌≡◌, Bool, true, false, ◌&&◌, List, [], ◌∷◌, ℕ, zero, suc, ◌+◌, ◌/◌, ◌≤◌, ◌<◌, eqb, ltb, get_or}
+use Rattle.std.specs.Prelude.{◌≡◌, Bool, true, ◌&&◌, List, [], ◌∷◌, ℕ, zero, suc, ◌+◌, ◌/◌, ◌≤◌, ◌<◌, eqb, ltb, get_or, Some, None, Option}
 use Rattle.tlv_reader.specs.Octet.{pick}
-use Rattle.tlv_reader.specs.Decode.{Opt}
-use Rattle.tlv_reader.specs.Decode.Opt.{just, nothing}
 use Rattle.cache_entries.specs.declared.Cached.{Cached}
-use Rattle.cache_entries.specs.declared.shared.Coherent.{Coherent}
-use Rattle.cache_entries.specs.declared.shared.Coherent.TheVariants.{At, No}
 use Rattle.cache_entries.specs.Limits.{half, no_version}
 
 -- the versions of the entries of the cluster that stands at k, of the n entries from i on
@@ -23,17 +19,13 @@ all_are v [] = true
 all_are v (x ∷ l) = eqb x v && all_are v l
 
 -- one version, which all share; an entry may have none
-abbrev pub shared : List ℕ → Opt ℕ
-shared [] = nothing
-shared (v ∷ l) = pick (ltb v no_version && all_are v l) (just v) nothing
+abbrev pub shared : List ℕ → Option ℕ
+shared [] = None
+shared (v ∷ l) = pick (ltb v no_version && all_are v l) (Some v) None
 
 -- the version at which the cluster that stands at k is coherent, if it is
-unfoldable pub coherent_at : Cached → ℕ → Opt ℕ
-coherent_at c k = pick c.primed (shared (versions_of c k)) nothing
-
-abbrev pub coherent_read : Opt ℕ → Coherent
-coherent_read nothing = No
-coherent_read (just v) = At v
+unfoldable pub coherent_at : Cached → ℕ → Option ℕ
+coherent_at c k = pick c.primed (shared (versions_of c k)) None
 
 -- ---- THE SAME IN WORDS, of the n entries from i on
 
@@ -42,8 +34,8 @@ abbrev pub Of : Cached → ℕ → ℕ → Type 0
 Of c k i = get_or c.keys i 0 / half ≡ k
 
 -- one of them at least is
-abbrev pub Some : Cached → ℕ → ℕ → ℕ → Type 0
-Some c k n i = (j : ℕ) × (i ≤ j) × (j < n + i) × Of c k j
+abbrev pub Any : Cached → ℕ → ℕ → ℕ → Type 0
+Any c k n i = (j : ℕ) × (i ≤ j) × (j < n + i) × Of c k j
 
 -- all of them that are have version v
 abbrev pub All : Cached → ℕ → ℕ → ℕ → ℕ → Type 0
@@ -64,5 +56,5 @@ joined_all so [] = so
 joined_all so (v ∷ l) = joined_all (joined so v) l
 
 -- the version that a word says
-abbrev pub shared_in : ℕ → Opt ℕ
-shared_in so = pick (ltb so no_version) (just so) nothing
+abbrev pub shared_in : ℕ → Option ℕ
+shared_in so = pick (ltb so no_version) (Some so) None

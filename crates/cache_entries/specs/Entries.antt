@@ -1,13 +1,9 @@
 -- What a cache holds (RULES 7.8): a finite map from path to version and value, read off the arrays that it is lent.
-use Rattle.std.specs.Prelude.{Bool, not, List, ℕ, ◌+◌, ◌*◌, ◌%◌, eqb, get_or, take, drop}
+use Rattle.std.specs.Prelude.{Bool, not, List, ℕ, ◌+◌, ◌*◌, ◌%◌, eqb, get_or, take, drop, Some, None, Option}
 use Rattle.std.specs.Int.{w64}
 use Rattle.std.proofs.Common.{to_z}
 use Rattle.tlv_reader.specs.Octet.{pick}
-use Rattle.tlv_reader.specs.Decode.{Opt}
-use Rattle.tlv_reader.specs.Decode.Opt.{just, nothing}
 use Rattle.tlv_reader.specs.Value.{Datum, null, boolean, unsigned, signed, float, text}
-use Rattle.node_schema.specs.declared.Found.{Found}
-use Rattle.node_schema.specs.declared.Found.TheVariants.{At, Nothing}
 use Rattle.cache_order.specs.Order.{word_at}
 use Rattle.cache_entries.specs.declared.Cached.{Cached}
 use Rattle.cache_entries.specs.Limits.{max_entries, half, text_size, null_kind, boolean_kind, unsigned_kind, signed_kind, float_kind}
@@ -36,10 +32,10 @@ abbrev pub key_word : ℕ → ℕ → ℕ
 key_word k attribute = k * half + attribute
 
 -- where a cluster stands among those that have entries, and where an entry stands
-abbrev pub cluster_at : Cached → ℕ → Found
+abbrev pub cluster_at : Cached → ℕ → Option ℕ
 cluster_at c word = word_at c.clusters c.cluster_count word
 
-abbrev pub entry_at : Cached → ℕ → Found
+abbrev pub entry_at : Cached → ℕ → Option ℕ
 entry_at c key = word_at c.keys c.count key
 
 -- the rising orders by which both are found: of the entries, and behind it of the clusters
@@ -73,17 +69,17 @@ entry_of c page i =
       value = datum_by (get_or c.kinds i 0) (get_or c.words i 0) (text_in page c.lengths (get_or c.words i 0));
     }
 
-abbrev pub at_entry : Cached → List ℕ → Found → Opt CacheEntry
-at_entry c page (At i) = just (entry_of c page i)
-at_entry c page Nothing = nothing
+abbrev pub at_entry : Cached → List ℕ → Option ℕ → Option CacheEntry
+at_entry c page (Some i) = Some (entry_of c page i)
+at_entry c page None = None
 
-abbrev pub in_cluster : Cached → ℕ → Found → Found
-in_cluster c attribute (At k) = entry_at c (key_word k attribute)
-in_cluster c attribute Nothing = Nothing
+abbrev pub in_cluster : Cached → ℕ → Option ℕ → Option ℕ
+in_cluster c attribute (Some k) = entry_at c (key_word k attribute)
+in_cluster c attribute None = None
 
-unfoldable pub path_at : Cached → ℕ → ℕ → ℕ → Found
+unfoldable pub path_at : Cached → ℕ → ℕ → ℕ → Option ℕ
 path_at c endpoint cluster attribute = in_cluster c attribute (cluster_at c (cluster_word endpoint cluster))
 
 -- THE MAP: what the cache has for a path
-unfoldable pub lookup : Cached → List ℕ → ℕ → ℕ → ℕ → Opt CacheEntry
+unfoldable pub lookup : Cached → List ℕ → ℕ → ℕ → ℕ → Option CacheEntry
 lookup c page endpoint cluster attribute = at_entry c page (path_at c endpoint cluster attribute)

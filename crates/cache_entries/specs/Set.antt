@@ -1,24 +1,20 @@
 -- Setting an entry: path, version and value (RULES 7.8); refusal 7 (RULES 6.1).
-use Rattle.std.specs.Prelude.{Bool, List, ◌++◌, ℕ, ◌+◌, eqb, ltb, set, take}
+use Rattle.std.specs.Prelude.{List, ◌++◌, ℕ, ◌+◌, eqb, ltb, set, take, Some, None, Option}
 use Rattle.tlv_reader.specs.Octet.{pick}
-use Rattle.node_schema.specs.declared.Found.{Found}
-use Rattle.node_schema.specs.declared.Found.TheVariants.{At, Nothing}
 use Rattle.cache_order.specs.Order.{place_in, inserted}
 use Rattle.cache_entries.specs.declared.Cached.{Cached}
-use Rattle.cache_entries.specs.declared.set.Placed.{Placed}
-use Rattle.cache_entries.specs.declared.set.Placed.TheVariants.{Here, Full}
 use Rattle.cache_entries.specs.Limits.{max_entries, max_clusters, text_kind}
 use Rattle.cache_entries.specs.Entries.{cluster_at, entry_at, cluster_order}
 
 -- where something goes: where it stands, else after the last, if there is room
-abbrev pub place_for : ℕ → ℕ → Found → Placed
-place_for count limit (At i) = Here i
-place_for count limit Nothing = pick (ltb count limit) (Here count) Full
+abbrev pub place_for : ℕ → ℕ → Option ℕ → Option ℕ
+place_for count limit (Some i) = Some i
+place_for count limit None = pick (ltb count limit) (Some count) None
 
-unfoldable pub cluster_place : Cached → ℕ → Placed
+unfoldable pub cluster_place : Cached → ℕ → Option ℕ
 cluster_place c word = place_for c.cluster_count max_clusters (cluster_at c word)
 
-unfoldable pub entry_place : Cached → ℕ → Placed
+unfoldable pub entry_place : Cached → ℕ → Option ℕ
 entry_place c key = place_for c.count max_entries (entry_at c key)
 
 -- one more where it stands just after the last

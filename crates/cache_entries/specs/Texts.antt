@@ -1,8 +1,6 @@
 -- The places of texts: a text has a place of its own in the page, given when an entry becomes a text, free again when it becomes something else.
-use Rattle.std.specs.Prelude.{Bool, true, false, not, ◌&&◌, ◌||◌, List, ◌≡◌, ℕ, zero, suc, ◌<◌, eqb, ltb, length, get_or}
+use Rattle.std.specs.Prelude.{Bool, true, false, not, ◌&&◌, ◌||◌, List, ◌≡◌, ℕ, zero, suc, ◌<◌, eqb, ltb, length, get_or, Some, None, Option}
 use Rattle.tlv_reader.specs.Octet.{pick}
-use Rattle.node_schema.specs.declared.Found.{Found}
-use Rattle.node_schema.specs.declared.Found.TheVariants.{At, Nothing}
 use Rattle.node_schema.specs.Search.{first}
 use Rattle.cache_entries.specs.declared.Cached.{Cached}
 use Rattle.cache_entries.specs.Limits.{text_places, text_kind}
@@ -16,12 +14,12 @@ place_used kinds words zero p = false
 place_used kinds words (suc n) p = (is_text kinds n && eqb (get_or words n 0) p) || place_used kinds words n p
 
 -- the first place that no text of the first n entries has
-unfoldable pub free_place : List ℕ → List ℕ → ℕ → Found
+unfoldable pub free_place : List ℕ → List ℕ → ℕ → Option ℕ
 free_place kinds words n = first (λ p. not (place_used kinds words n p)) text_places 0
 
-abbrev pub or_first : Found → ℕ
-or_first (At p) = p
-or_first Nothing = 0
+abbrev pub or_first : Option ℕ → ℕ
+or_first (Some p) = p
+or_first None = 0
 
 -- where the text of entry i goes: its own place if it is a text, else one that is free; there are as many as entries
 unfoldable pub place_given : List ℕ → List ℕ → ℕ → ℕ → ℕ

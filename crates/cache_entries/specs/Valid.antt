@@ -1,7 +1,7 @@
 -- What a cache may hold (refusal 2, RULES 6.1): at most 256 entries of at most 32 clusters, no path
 -- twice, each of a cluster that is there, with null or a value of one of the five kinds; a text has a place of its own, at most 200 bytes, and is UTF-8; a
 -- page of its size.
-use Rattle.std.specs.Prelude.{Bool, true, false, not, ◌&&◌, ◌≡◌, List, ℕ, zero, suc, ◌+◌, ◌/◌, ◌^◌, ◌≤◌, eqb, ltb, leb, length, get_or}
+use Rattle.std.specs.Prelude.{Bool, true, not, ◌&&◌, ◌≡◌, List, ℕ, ◌/◌, ◌^◌, ◌≤◌, eqb, ltb, leb, length, get_or}
 use Rattle.tlv_reader.specs.Octet.{pick}
 use Rattle.base_utf8.specs.Bytewise.{all_below}
 use Rattle.base_utf8.specs.WellFormed.{well_formed}

@@ -5,7 +5,6 @@ ghost use Rattle.cache_entries.specs.Limits.{max_entries, max_clusters, order_si
 ghost use Rattle.cache_entries.specs.Entries.{cluster_order};
 
 use super::{CLUSTERS, ENTRIES, ORDER_SIZE};
-use node_schema::Found;
 
 // The order of the clusters, which stands behind that of the entries.
 pub fn cluster_order(order: &[u8]) -> &[u8]
@@ -16,7 +15,12 @@ pub fn cluster_order(order: &[u8]) -> &[u8]
 }
 
 // Where an entry stands among the first n.
-pub fn find_entry(keys: &[u64; ENTRIES], order: &[u8; ORDER_SIZE], n: usize, key: u64) -> Found
+pub fn find_entry(
+    keys: &[u64; ENTRIES],
+    order: &[u8; ORDER_SIZE],
+    n: usize,
+    key: u64,
+) -> Option<usize>
     requires { (n ≤ max_entries) × (order_right keys.now order.now n ≡ true) }
     ensures { result ≡ word_at keys.now n key }
 {
@@ -29,7 +33,7 @@ pub fn find_cluster(
     order: &[u8; ORDER_SIZE],
     n: usize,
     word: u64,
-) -> Found
+) -> Option<usize>
     requires { (n ≤ max_clusters) × (order_right clusters.now (cluster_order order.now) n ≡ true) }
     ensures { result ≡ word_at clusters.now n word }
 {

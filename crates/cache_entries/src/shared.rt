@@ -2,15 +2,9 @@
 ghost use Rattle.std.specs.Prelude.{◌≡◌, Bool, true, List, ℕ, ◌≤◌, ◌<◌, ◌/◌, get_or};
 ghost use Rattle.cache_entries.specs.Limits.{max_entries, max_clusters, half, no_version};
 ghost use Rattle.cache_entries.specs.Entries.{held_of};
-ghost use Rattle.cache_entries.specs.Coherent.{unseen, joined, joined_all, versions_from, shared_in, coherent_at, coherent_read};
+ghost use Rattle.cache_entries.specs.Coherent.{unseen, joined, joined_all, versions_from, shared_in, coherent_at};
 
 use super::{CLUSTERS, ENTRIES, HALF, NO_VERSION};
-
-#[derive(Clone, Copy)]
-pub enum Coherent {
-    At(u32),
-    No,
-}
 
 // No version was seen.
 pub const UNSEEN: u64 = NO_VERSION + 1;
@@ -26,13 +20,13 @@ fn joined(so: u64, version: u64) -> u64
 }
 
 // The version that a word says.
-pub fn shared_in(so: u64) -> Coherent
-    ensures { result ≡ coherent_read (shared_in so) }
+pub fn shared_in(so: u64) -> Option<u32>
+    ensures { result ≡ shared_in so }
 {
     if so < NO_VERSION {
-        return Coherent::At(so as u32);
+        return Some(so as u32);
     }
-    Coherent::No
+    None
 }
 
 // What the versions of the cluster that stands at k come to, of the first n entries.
@@ -41,13 +35,9 @@ pub fn joined_at(keys: &[u64; ENTRIES], versions: &[u64; ENTRIES], n: usize, k: 
     ensures { result ≡ joined_all unseen (versions_from keys.now versions.now k n 0) }
 {
     let mut so = UNSEEN;
-    let mut i = 0;
-    while i < n {
-        if keys[i] / HALF != k as u64 {
-            i += 1;
-        } else {
+    for i in 0..n {
+        if keys[i] / HALF == k as u64 {
             so = joined(so, versions[i]);
-            i += 1;
         }
     }
     so
@@ -60,12 +50,12 @@ pub fn coherent_at(
     n: usize,
     primed: bool,
     k: usize,
-) -> Coherent
+) -> Option<u32>
     requires { (n ≤ max_entries) × ((i : ℕ) → i < n → get_or versions.now i 0 ≤ no_version) }
-    ensures { (clusters kinds words order lengths : List ℕ) (m : ℕ) → result ≡ coherent_read (coherent_at (held_of clusters keys.now versions.now kinds words order lengths m n primed) k) }
+    ensures { (clusters kinds words order lengths : List ℕ) (m : ℕ) → result ≡ coherent_at (held_of clusters keys.now versions.now kinds words order lengths m n primed) k }
 {
     if !primed {
-        return Coherent::No;
+        return None;
     }
     shared_in(joined_at(keys, versions, n, k))
 }
@@ -81,11 +71,9 @@ pub fn join_all(
     ensures { (k : ℕ) → k < max_clusters → get_or shares.new k 0 ≡ joined_all unseen (versions_from keys.now versions.now k n 0) }
 {
     *shares = [UNSEEN; CLUSTERS];
-    let mut i = 0;
-    while i < n {
+    for i in 0..n {
         let k = (keys[i] / HALF) as usize;
         let so = shares[k];
         shares[k] = joined(so, versions[i]);
-        i += 1;
     }
 }

@@ -19,18 +19,10 @@ pub fn mark_places(
     ensures { Marked kinds.now words.now n marks.new }
 {
     *marks = [0u8; TEXT_PLACES];
-    let mut i = 0;
-    while i < n {
-        if kinds[i] == TEXT {
-            if words[i] < TEXT_PLACES as u64 {
-                let p = words[i] as usize;
-                marks[p] = 1;
-                i += 1;
-            } else {
-                i += 1;
-            }
-        } else {
-            i += 1;
+    for i in 0..n {
+        if kinds[i] == TEXT && words[i] < TEXT_PLACES as u64 {
+            let p = words[i] as usize;
+            marks[p] = 1;
         }
     }
 }
@@ -39,14 +31,7 @@ pub fn mark_places(
 fn free_place(marks: &[u8; TEXT_PLACES]) -> usize
     ensures { result ≡ or_first (first (λ p. eqb (get_or marks.now p 0) 0) text_places 0) }
 {
-    let mut p = 0;
-    while p < TEXT_PLACES {
-        if marks[p] == 0 {
-            return p;
-        }
-        p += 1;
-    }
-    0
+    marks.iter().position(|mark| *mark == 0).unwrap_or(0)
 }
 
 // Whether entry i is one of the first n, and a text.

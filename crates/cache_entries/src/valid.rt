@@ -51,14 +51,7 @@ fn clusters_ok(clusters: &[u64; CLUSTERS], n: usize) -> bool
     requires { n ≤ max_clusters }
     ensures { result ≡ clusters_right clusters.now n }
 {
-    let mut i = 0;
-    while i < n {
-        if 281_474_976_710_656 <= clusters[i] {
-            return false;
-        }
-        i += 1;
-    }
-    true
+    clusters[..n].iter().all(|word| *word < 281_474_976_710_656)
 }
 
 fn entries_ok(
@@ -72,12 +65,10 @@ fn entries_ok(
     requires { n ≤ max_entries }
     ensures { (clusters order lengths : List ℕ) (primed : Bool) → result ≡ entries_right (held_of clusters keys.now versions.now kinds.now words.now order lengths k n primed) }
 {
-    let mut i = 0;
-    while i < n {
+    for i in 0..n {
         if !entry_ok(k, keys[i], versions[i], kinds[i], words[i]) {
             return false;
         }
-        i += 1;
     }
     true
 }
@@ -111,12 +102,10 @@ fn count_texts(kinds: &[u8; ENTRIES], n: usize) -> usize
     ensures { result ≤ n }
 {
     let mut count: u16 = 0;
-    let mut i = 0;
-    while i < n {
-        if kinds[i] == TEXT {
+    for kind in &kinds[..n] {
+        if *kind == TEXT {
             count += 1;
         }
-        i += 1;
     }
     count as usize
 }
@@ -171,8 +160,7 @@ fn texts_ok(
     let whole = &page[0..end];
     let form = form_of(whole);
     let mut marks = [0u8; TEXT_PLACES];
-    let mut i = 0;
-    while i < n {
+    for i in 0..n {
         if kinds[i] == TEXT {
             if TEXT_PLACES as u64 <= words[i] {
                 return false;
@@ -185,9 +173,6 @@ fn texts_ok(
                 return false;
             }
             marks[p] = 1;
-            i += 1;
-        } else {
-            i += 1;
         }
     }
     true

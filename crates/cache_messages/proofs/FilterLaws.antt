@@ -1,4 +1,5 @@
 -- The filters written one after the other.
+use Rattle.std.specs.Prelude.{Some, None, Option}
 use mathlib.Core.Path.{◌≡◌, refl, sym, ap, ◌∙◌}
 use mathlib.Core.Bool.{Bool, true, false}
 use mathlib.Core.List.{List, [], ◌∷◌, ◌++◌, map, append-nil, append_assoc}
@@ -6,32 +7,20 @@ use Prim.Native.Nat.{ℕ, suc, ◌+◌, ◌-◌, ◌*◌, ◌≤◌, ◌<◌}
 use native.Mathlib.Omega.{arith}
 use lib.ListN.{get_or}
 use Rattle.tlv_reader.specs.Tree.{Tree}
-use Rattle.tlv_reader.specs.Decode.{Opt}
-use Rattle.tlv_reader.specs.Decode.Opt.{just, nothing}
 use Rattle.base_octets.specs.Store.{Stored, store}
 use Rattle.base_octets.proofs.StoreLaws.{then}
 use Rattle.im_requests.specs.declared.VersionFilter.{VersionFilter}
 use Rattle.im_writer.specs.Spelling.{spelling, joined}
 use Rattle.cache_order.specs.Order.{ranked}
 use Rattle.cache_entries.specs.declared.Cached.{Cached}
-use Rattle.cache_entries.specs.declared.shared.Coherent.TheVariants as coherent
 use Rattle.cache_entries.specs.Limits.{max_clusters}
 use Rattle.cache_entries.specs.Entries.{held_of, cluster_order}
-use Rattle.cache_entries.specs.Coherent.{versions_from, unseen, joined_all, shared_in, coherent_read}
+use Rattle.cache_entries.specs.Coherent.{versions_from, unseen, joined_all, shared_in}
 use Rattle.cache_messages.specs.Filters.{Bounded, version_filter_as, version_filter_if, filters_of, ranked_from, filter_tree_of}
 use Rattle.cache_messages.proofs.RisingLaws.{unprimed-none, lent-filters}
 
 never : {A : Type 0} → ◌≡◌ {A = ℕ} 0 1 → A
 never e = absurd (omega arith)
-
--- the answer of the code
-pub coherent-is : (o : Opt ℕ) {v : ℕ} → coherent_read o ≡ coherent.At v → o ≡ just v
-coherent-is nothing e = never (cc)
-coherent-is (just w) {v} e = ap just (cc)
-
-pub coherent-not : (o : Opt ℕ) → coherent_read o ≡ coherent.No → o ≡ nothing
-coherent-not nothing e = refl
-coherent-not (just w) e = never (cc)
 
 -- one tree, and none
 joined-one : (t : Tree) → spelling t ≡ joined (t ∷ [])
@@ -49,11 +38,11 @@ cache-unprimed c f = rw (unprimed-none c f) none_written
 pub cache-primed : {clusters keys versions order part o o₁ : List ℕ} {k n at p : ℕ} → Bounded clusters keys versions order k n → (primed : Bool) → primed ≡ true → (shares : List ℕ) → ((i : ℕ) → i < max_clusters → get_or shares i 0 ≡ joined_all unseen (versions_from keys versions i n 0)) → part ≡ cluster_order order → Stored o at (joined (map filter_tree_of (ranked_from clusters part shares k 0))) o₁ p → (kinds words lengths : List ℕ) → Stored o at (joined (map filter_tree_of (filters_of (held_of clusters keys versions kinds words order lengths k n primed)))) o₁ p
 cache-primed b primed t shares h q s kinds words lengths = rw (lent-filters b kinds words lengths primed t shares h, ← q) s
 
-module _ (word : ℕ) (said : Opt ℕ) {o : List ℕ} {at : ℕ} where
-  pub filter-written : {o₁ : List ℕ} {p : ℕ} (v : ℕ) → said ≡ just v → Stored o at (spelling (filter_tree_of (version_filter_as word v))) o₁ p → Stored o at (joined (map filter_tree_of (version_filter_if word said))) o₁ p
+module _ (word : ℕ) (said : Option ℕ) {o : List ℕ} {at : ℕ} where
+  pub filter-written : {o₁ : List ℕ} {p : ℕ} (v : ℕ) → said ≡ Some v → Stored o at (spelling (filter_tree_of (version_filter_as word v))) o₁ p → Stored o at (joined (map filter_tree_of (version_filter_if word said))) o₁ p
   filter-written v e s = rw (e, ← (joined-one (filter_tree_of (version_filter_as word v)))) s
 
-  pub filter-left-out : said ≡ nothing → Stored o at (joined (map filter_tree_of (version_filter_if word said))) o at
+  pub filter-left-out : said ≡ None → Stored o at (joined (map filter_tree_of (version_filter_if word said))) o at
   filter-left-out e = rw e none_written
 
 -- trees of two lists

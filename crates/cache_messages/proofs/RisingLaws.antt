@@ -1,4 +1,5 @@
 -- Clusters in rising order: the least word above those of lower ranks is the next by the order that is kept.
+use Rattle.std.specs.Prelude.{Some, None, Option}
 use mathlib.Core.Path.{◌≡◌, refl, sym, ap, ◌∙◌}
 use mathlib.Core.Bool.{Bool, true, false}
 use mathlib.Core.List.{List, [], ◌++◌}
@@ -7,11 +8,7 @@ use native.Mathlib.Omega.{arith}
 use borrow.Author.Tests.{ltb-true, ltb-false, eqb-true, eqb-false}
 use lib.Dec.{eqb, ltb}
 use lib.ListN.{get_or}
-use Rattle.tlv_reader.specs.Decode.{Opt}
-use Rattle.tlv_reader.specs.Decode.Opt.{nothing}
 use Rattle.tlv_reader.proofs.Picks.{pick-elim}
-use Rattle.node_schema.specs.declared.Found.{Found}
-use Rattle.node_schema.specs.declared.Found.TheVariants.{At, Nothing}
 use Rattle.node_schema.proofs.BoolLaws.{by-test}
 use Rattle.im_requests.specs.declared.VersionFilter.{VersionFilter}
 use Rattle.cache_order.specs.Order.{ranked, order_right}
@@ -29,23 +26,23 @@ last-or-before k n h f g = by-test (eqb k n) (λ t. g (eqb-true k n t)) (λ t. f
 
 module _ (l : List ℕ) (bound : ℕ) where
   -- THE SEARCH finds the least word that is not below the bound
-  abbrev pub Least : ℕ → Found → Type 0
-  Least n Nothing = (k : ℕ) → k < n → get_or l k 0 < bound
-  Least n (At b) = (b < n) × (bound ≤ get_or l b 0) × ((k : ℕ) → k < n → bound ≤ get_or l k 0 → get_or l b 0 ≤ get_or l k 0)
+  abbrev pub Least : ℕ → Option ℕ → Type 0
+  Least n None = (k : ℕ) → k < n → get_or l k 0 < bound
+  Least n (Some b) = (b < n) × (bound ≤ get_or l b 0) × ((k : ℕ) → k < n → bound ≤ get_or l k 0 → get_or l b 0 ≤ get_or l k 0)
 
   word-at : {j k : ℕ} → j ≡ k → get_or l j 0 ≡ get_or l k 0
   word-at e = ap (λ (x : ℕ). get_or l x 0) e
 
-  too-low : (n : ℕ) (r : Found) → get_or l n 0 < bound → Least n r → Least (suc n) r
-  too-low n Nothing low h = λ k b. last-or-before k n b (h k) (λ e. omega (arith, low, word-at e))
-  too-low n (At b) low h =
+  too-low : (n : ℕ) (r : (Option ℕ)) → get_or l n 0 < bound → Least n r → Least (suc n) r
+  too-low n None low h = λ k b. last-or-before k n b (h k) (λ e. omega (arith, low, word-at e))
+  too-low n (Some b) low h =
       (omega (arith, h.0), h.1, λ k q f. last-or-before k n q (λ z. h.2 k z f) (λ e. absurd (omega (arith, low, f, word-at e))))
 
-  one_more : (n : ℕ) (r : Found) → bound ≤ get_or l n 0 → Least n r → Least (suc n) (lower l n r)
-  one_more n Nothing low h =
+  one_more : (n : ℕ) (r : (Option ℕ)) → bound ≤ get_or l n 0 → Least n r → Least (suc n) (lower l n r)
+  one_more n None low h =
       (omega arith, low, λ k q f. last-or-before k n q (λ z. absurd (omega (arith, f, h k z))) (λ e. omega (arith, word-at e)))
-  one_more n (At b) low h =
-      pick-elim (Least (suc n)) (ltb (get_or l n 0) (get_or l b 0)) (At n) (At b)
+  one_more n (Some b) low h =
+      pick-elim (Least (suc n)) (ltb (get_or l n 0) (get_or l b 0)) (Some n) (Some b)
       (λ t. (omega arith, low, λ k q f. last-or-before k n q (λ z. omega (arith, ltb-true (get_or l n 0) (get_or l b 0) t, h.2 k z f)) (λ e. omega (arith, word-at e))))
       (λ t. (omega (arith, h.0), h.1, λ k q f. last-or-before k n q (λ z. h.2 k z f) (λ e. omega (arith, ltb-false (get_or l n 0) (get_or l b 0) t, word-at e))))
 
@@ -73,15 +70,15 @@ module _ (words order : List ℕ) (n : ℕ) (ok : order_right words order n ≡ 
       }
 
   -- THE LAW: it is the least word that is not below the bound
-  pub rising-least : (j bound : ℕ) → j < n → Next j bound → least_by words bound n ≡ At (get_or order j 0)
+  pub rising-least : (j bound : ℕ) → j < n → Next j bound → least_by words bound n ≡ Some (get_or order j 0)
   rising-least j bound l next = go (least_by words bound n) (least words bound n)
     where
       here : get_or order j 0 < n
       here = places-at order n (order-places words order n ok) j l
 
-      go : (r : Found) → Least words bound n r → r ≡ At (get_or order j 0)
-      go Nothing h = absurd (omega (arith, h (get_or order j 0) here, next.this-rank l))
-      go (At b) h =
+      go : (r : (Option ℕ)) → Least words bound n r → r ≡ Some (get_or order j 0)
+      go None h = absurd (omega (arith, h (get_or order j 0) here, next.this-rank l))
+      go (Some b) h =
           let (a, la, q) = place-there words order n ok b h.0 in
           let word : ranked words order a ≡ get_or words b 0 = ap (λ (s : ℕ). get_or words s 0) q in
           by-test (ltb a j)
@@ -89,7 +86,7 @@ module _ (words order : List ℕ) (n : ℕ) (ok : order_right words order n ≡ 
           (λ f. by-test (ltb j a)
           (λ t. absurd (omega (arith, word, order-rises words order n ok a la j (ltb-true j a t), h.2 (get_or order j 0) here (next.this-rank l))))
           (λ g. let e : a ≡ j = omega (arith, ltb-false a j f, ltb-false j a g) in
-          ap At (sym q ∙ ap (λ (s : ℕ). get_or order s 0) e)))
+          ap Some (sym q ∙ ap (λ (s : ℕ). get_or order s 0) e)))
 
 -- so the filters are those of the clusters one after the other, where a word for each says whether it is coherent
 module _ (c : Cached) (shares : List ℕ) (ok : order_right c.clusters (cluster_order c.order) c.cluster_count ≡ true) (say : (k : ℕ) → k < c.cluster_count → shared_in (get_or shares k 0) ≡ coherent_at c k) where
@@ -103,7 +100,7 @@ module _ (c : Cached) (shares : List ℕ) (ok : order_right c.clusters (cluster_
       let l : j < c.cluster_count = omega arith in
       let word = ranked c.clusters order j in
       ap (onwards c (λ b. filters_from c m b)) (rising-least c.clusters order c.cluster_count ok j bound l next)
-      ∙ ap (λ (o : Opt ℕ). version_filter_if word o ++ filters_from c m (word + 1)) (sym (say (get_or order j 0) (places-at order c.cluster_count (order-places c.clusters order c.cluster_count ok) j l)))
+      ∙ ap (λ (o : Option ℕ). version_filter_if word o ++ filters_from c m (word + 1)) (sym (say (get_or order j 0) (places-at order c.cluster_count (order-places c.clusters order c.cluster_count ok) j l)))
       ∙ ap (λ (r : List VersionFilter). version_filter_if word (shared_in (get_or shares (get_or order j 0) 0)) ++ r) (rising-from m (j + 1) (word + 1) (omega arith) (next_more c.clusters order c.cluster_count ok j l))
 
   pub rising-filters : filters_of c ≡ ranked_from c.clusters order shares c.cluster_count 0
@@ -112,7 +109,7 @@ module _ (c : Cached) (shares : List ℕ) (ok : order_right c.clusters (cluster_
 
 -- before the cache is primed there is none
 module _ (c : Cached) (f : c.primed ≡ false) where
-  unprimed : (k : ℕ) → coherent_at c k ≡ nothing
+  unprimed : (k : ℕ) → coherent_at c k ≡ None
   unfolding coherent_at
   unprimed k = rw f refl
 
@@ -121,9 +118,9 @@ module _ (c : Cached) (f : c.primed ≡ false) where
   unprimed-from zero bound = refl
   unprimed-from (suc m) bound = on (least_by c.clusters bound c.cluster_count) (λ b. unprimed-from m b)
     where
-      on : (r : Found) → ((b : ℕ) → filters_from c m b ≡ []) → onwards c (λ b. filters_from c m b) r ≡ []
-      on Nothing rest = refl
-      on (At k) rest = rw (unprimed k) (rest (get_or c.clusters k 0 + 1))
+      on : (r : (Option ℕ)) → ((b : ℕ) → filters_from c m b ≡ []) → onwards c (λ b. filters_from c m b) r ≡ []
+      on None rest = refl
+      on (Some k) rest = rw (unprimed k) (rest (get_or c.clusters k 0 + 1))
 
   pub unprimed-none : filters_of c ≡ []
   unfolding filters_of

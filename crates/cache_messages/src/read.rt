@@ -12,7 +12,7 @@ ghost use Rattle.cache_messages.specs.Filters.{Bounded, version_filter_if, ranke
 ghost use Rattle.cache_messages.specs.Messages.{read_message};
 
 use cache_entries::find::cluster_order;
-use cache_entries::shared::{Coherent, join_all, shared_in};
+use cache_entries::shared::{join_all, shared_in};
 use cache_entries::{CLUSTERS, ENTRIES, HALF, ORDER_SIZE};
 use im_exchange::READ;
 use im_request_writer::read::{put_filter, put_filters_open, put_read_close, put_read_open};
@@ -24,14 +24,14 @@ fn put_filter_for(so: u64, word: u64, out: &mut [u8], at: usize) -> usize
     ensures { Stored out.old at (joined (map filter_tree_of (version_filter_if word (shared_in so)))) out.new result × (result ≤ at + 21) }
 {
     match shared_in(so) {
-        Coherent::At(version) => put_filter(
+        Some(version) => put_filter(
             out,
             at,
             (word / HALF % 65536) as u16,
             (word % HALF) as u32,
             version,
         ),
-        Coherent::No => at,
+        None => at,
     }
 }
 
@@ -48,11 +48,9 @@ fn put_rising(
     ensures { Stored out.old start (joined (map filter_tree_of (ranked_from clusters.now order.now shares.now n 0))) out.new result × (result ≤ start + max_clusters * 21) }
 {
     let mut at = start;
-    let mut j = 0;
-    while j < n {
+    for j in 0..n {
         let k = order[j] as usize;
         at = put_filter_for(shares[k], clusters[k], out, at);
-        j += 1;
     }
     at
 }

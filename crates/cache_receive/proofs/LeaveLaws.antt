@@ -10,7 +10,7 @@ use Rattle.cache_state.specs.declared.CacheState.{CacheState}
 use Rattle.cache_state.specs.declared.CacheStanding.{CacheStanding}
 use Rattle.cache_state.specs.declared.Outcome.{Outcome}
 use Rattle.cache_state.specs.State.{last_part, with_status}
-use Rattle.cache_state.specs.Words.{asked_size, word, standing_in, standing_words, words_right, request_of, held_in, state_with, state_in, standing_of}
+use Rattle.cache_state.specs.Words.{asked_size, standing_in, standing_words, words_right, request_of, held_in, state_with, state_in, standing_of}
 use Rattle.cache_state.specs.Reaction.{refusal, Leaves, CacheReacted}
 use Rattle.cache_state.specs.Begin.{keeping}
 use Rattle.cache_state.proofs.WordLaws.{words_right_lem, mark-same, put_as, state-back}

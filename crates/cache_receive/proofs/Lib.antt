@@ -1,4 +1,3 @@
-pub mod AnswerLaws
 pub mod OpenLaws
 pub mod LeaveLaws
 pub mod PartLaws

@@ -1,18 +1,17 @@
 -- Taking a message, case by case for the code.
+use Rattle.std.specs.Prelude.{Some, None, Option}
 use mathlib.Core.Path.{◌≡◌, refl, sym, ap, ◌∙◌}
 use mathlib.Core.Bool.{Bool, true, false, ◌&&◌}
 use mathlib.Core.List.{List}
 use Prim.Native.Nat.{ℕ, suc, ◌-◌, ◌≤◌}
 use native.Mathlib.Omega.{arith}
-use borrow.Author.Tests.{eq-eqb, ne_eqb, leb-true, ltb-false}
+use borrow.Author.Tests.{ne_eqb, leb-true, ltb-false}
 use lib.Dec.{eqb, ltb, leb}
 use lib.ListN.{length, drop, take, length-drop}
 use lib.Seq.{take_all}
 use Rattle.tlv_reader.specs.Octet.{pick}
 use Rattle.node_schema.proofs.BoolLaws.{left, by-test}
 use Rattle.im_envelope.specs.declared.Fields.{Fields}
-use Rattle.im_envelope.specs.declared.Envelope.{Envelope}
-use Rattle.im_envelope.specs.declared.Envelope.TheVariants.{Whole, Short}
 use Rattle.im_envelope.specs.Envelope.{envelope_in, envelope_length, max_message}
 use Rattle.cache_state.specs.declared.CacheState.{CacheState}
 use Rattle.cache_state.specs.State.{cache_right}
@@ -26,15 +25,15 @@ never : {A : Type 0} {n : ℕ} → suc n ≡ 0 → A
 never e = absurd (omega arith)
 
 -- an envelope has its eight octets
-long-enough : (m : List ℕ) {e : Fields} → envelope_in m ≡ Whole e → envelope_length ≤ length m
+long-enough : (m : List ℕ) {e : Fields} → envelope_in m ≡ Some e → envelope_length ≤ length m
 unfolding envelope_in
-long-enough m {e} h = by-test (ltb (length m) envelope_length) (λ t. absurd (let q : Short ≡ Whole e = rw t at h in apart q)) (λ f. ltb-false _ _ f)
+long-enough m {e} h = by-test (ltb (length m) envelope_length) (λ t. absurd (let q : None ≡ Some e = rw t at h in apart q)) (λ f. ltb-false _ _ f)
   where
-    tag : Envelope → ℕ
-    tag Short = 1
-    tag (Whole x) = 0
+    tag : Option Fields → ℕ
+    tag None = 1
+    tag (Some x) = 0
 
-    apart : Short ≡ Whole e → ⊥
+    apart : None ≡ Some e → ⊥
     apart q = never (ap tag q)
 
 -- what follows the envelope
@@ -64,12 +63,12 @@ module _ (asked page : List ℕ) (s : CacheState) (m : List ℕ) (room : ℕ) wh
       inside true false o x q e z = same e
       inside false b o x q e z = same e
 
-      go : (a b c : Bool) (v : Envelope) → n ≡ (pick (a && b) (pick c (shut 3) (opened_by s.asked m v)) (shut 2)).number → (n ≡ 0 → ⊥) → pick a (pick b (pick c (refusal 3 s page) (in_envelope page s m v)) (refusal 2 s page)) (refusal 2 s page) ≡ refusal n s page
+      go : (a b c : Bool) (v : (Option Fields)) → n ≡ (pick (a && b) (pick c (shut 3) (opened_by s.asked m v)) (shut 2)).number → (n ≡ 0 → ⊥) → pick a (pick b (pick c (refusal 3 s page) (in_envelope page s m v)) (refusal 2 s page)) (refusal 2 s page) ≡ refusal n s page
       go false b c v e z = same e
       go true false c v e z = same e
       go true true true v e z = same e
-      go true true false Short e z = same e
-      go true true false (Whole f) e z = inside (leb (length m) max_message && for_cache f.edition f.opcode) (awaited s.asked f) (record { number = 0; opcode = f.opcode }) (takes page s f.opcode (drop envelope_length m)) refl e z
+      go true true false None e z = same e
+      go true true false (Some f) e z = inside (leb (length m) max_message && for_cache f.edition f.opcode) (awaited s.asked f) (record { number = 0; opcode = f.opcode }) (takes page s f.opcode (drop envelope_length m)) refl e z
 
   -- 0: it is
   pub is_open_lem : (opened_of asked page s m room).number ≡ 0 → Open asked page s m room (opened_of asked page s m room).opcode
@@ -81,12 +80,12 @@ module _ (asked page : List ℕ) (s : CacheState) (m : List ℕ) (room : ℕ) wh
       inside true false f e = never e
       inside false b f e = never e
 
-      go : (a : Bool) → words_right asked ≡ a → (b : Bool) → cache_right page s ≡ b → (c : Bool) → ltb room max_message ≡ c → (v : Envelope) → envelope_in m ≡ v → (pick (a && b) (pick c (shut 3) (opened_by s.asked m v)) (shut 2)).number ≡ 0 → Open asked page s m room (pick (a && b) (pick c (shut 3) (opened_by s.asked m v)) (shut 2)).opcode
+      go : (a : Bool) → words_right asked ≡ a → (b : Bool) → cache_right page s ≡ b → (c : Bool) → ltb room max_message ≡ c → (v : (Option Fields)) → envelope_in m ≡ v → (pick (a && b) (pick c (shut 3) (opened_by s.asked m v)) (shut 2)).number ≡ 0 → Open asked page s m room (pick (a && b) (pick c (shut 3) (opened_by s.asked m v)) (shut 2)).opcode
       go false p b q c l v w e = never e
       go true p false q c l v w e = never e
       go true p true q true l v w e = never e
-      go true p true q false l Short w e = never e
-      go true p true q false l (Whole f) w e =
+      go true p true q false l None w e = never e
+      go true p true q false l (Some f) w e =
           let (k, a) = inside (leb (length m) max_message && for_cache f.edition f.opcode) (awaited s.asked f) f e in
           record {
             words = p;

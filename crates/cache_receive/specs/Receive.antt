@@ -1,8 +1,6 @@
 -- WHAT A CACHE MAKES OF A MESSAGE (RULES 6 and 7).
-use Rattle.std.specs.Prelude.{Bool, true, ◌&&◌, ◌||◌, List, [], ℕ, ◌+◌, eqb, ltb, leb, length, drop}
+use Rattle.std.specs.Prelude.{Bool, true, ◌&&◌, ◌||◌, List, [], ℕ, ◌+◌, eqb, ltb, leb, length, drop, Some, None, Option}
 use Rattle.tlv_reader.specs.Octet.{pick}
-use Rattle.tlv_reader.specs.Decode.{Opt}
-use Rattle.tlv_reader.specs.Decode.Opt.{just, nothing}
 use Rattle.im_blocks.specs.declared.Path.{Path}
 use Rattle.im_blocks.specs.declared.Answer.{Answer}
 use Rattle.im_blocks.specs.Path.{exact_p}
@@ -11,8 +9,6 @@ use Rattle.im_responses.specs.Report.{PartOf, part_in}
 use Rattle.im_responses.specs.Answered.{answered_in}
 use Rattle.im_writer.specs.Envelope.{cache_edition}
 use Rattle.im_envelope.specs.declared.Fields.{Fields}
-use Rattle.im_envelope.specs.declared.Envelope.{Envelope}
-use Rattle.im_envelope.specs.declared.Envelope.TheVariants.{Whole, Short}
 use Rattle.im_envelope.specs.Envelope.{envelope_in, envelope_length, max_message}
 use Rattle.im_exchange.specs.Rules.{status_opcode, report_opcode, write_response_opcode, first_reply, max_turn}
 use Rattle.cache_entries.specs.declared.Cached.{Cached}
@@ -78,9 +74,9 @@ ended_with s code =
     pick (ltb code 256) (begins-none 1 (record { held = s.held; asked = ended_as s.asked with_status code })) (begins-none 6 s)
 
 -- RULES 7.13: a status ends a request
-abbrev pub status_taken : CacheState → Opt ℕ → Silent
-status_taken s nothing = begins-none 6 s
-status_taken s (just code) = ended_with s code
+abbrev pub status_taken : CacheState → Option ℕ → Silent
+status_taken s None = begins-none 6 s
+status_taken s (Some code) = ended_with s code
 
 unfoldable pub by_status : CacheState → List ℕ → Silent
 by_status s payload = status_taken s (response_in payload)
@@ -90,9 +86,9 @@ unfoldable pub of_write : Request → Path → Bool
 of_write x p =
     exact_p p && (eqb p.endpoint x.endpoint && (eqb p.cluster x.cluster && eqb p.attribute x.attribute))
 
-abbrev pub answer_taken : CacheState → Opt Answer → Silent
-answer_taken s nothing = begins-none 6 s
-answer_taken s (just a) = pick (of_write s.asked a.path) (ended_with s a.status.code) (begins-none 6 s)
+abbrev pub answer_taken : CacheState → Option Answer → Silent
+answer_taken s None = begins-none 6 s
+answer_taken s (Some a) = pick (of_write s.asked a.path) (ended_with s a.status.code) (begins-none 6 s)
 
 unfoldable pub by_answer : CacheState → List ℕ → Silent
 by_answer s payload = answer_taken s (answered_in payload)
@@ -133,9 +129,9 @@ unfoldable pub past_turns : ℕ → ℕ → Bool
 past_turns more turn = eqb more 1 && eqb turn max_turn
 
 -- RULES 7.9: which part is the last
-abbrev pub part_taken : List ℕ → CacheState → List ℕ → Opt (PartOf ℕ) → CacheReaction
-part_taken page s payload nothing = refusal 6 s page
-part_taken page s payload (just p) =
+abbrev pub part_taken : List ℕ → CacheState → List ℕ → Option (PartOf ℕ) → CacheReaction
+part_taken page s payload None = refusal 6 s page
+part_taken page s payload (Some p) =
     pick (past_turns p.more s.asked.turn) (refusal 6 s page)
     (pick (eqb (judged_all payload (record { number = 0; held = s.held }) (blocks_in payload)).number 0)
     (pick (eqb p.more 1)
@@ -153,9 +149,9 @@ takes page s opcode payload =
     (pick (eqb opcode report_opcode) (takes_part page s payload) (unsent (by_answer s payload) page))
 
 -- refusal 4 (RULES 6.1), then 5
-abbrev pub in_envelope : List ℕ → CacheState → List ℕ → Envelope → CacheReaction
-in_envelope page s m Short = refusal 4 s page
-in_envelope page s m (Whole e) =
+abbrev pub in_envelope : List ℕ → CacheState → List ℕ → Option Fields → CacheReaction
+in_envelope page s m None = refusal 4 s page
+in_envelope page s m (Some e) =
     pick (leb (length m) max_message && for_cache e.edition e.opcode)
     (pick (awaited s.asked e) (takes page s e.opcode (drop envelope_length m)) (refusal 5 s page))
     (refusal 4 s page)

@@ -1,12 +1,10 @@
 -- A message taken, step by step as the code has it: what each step answers is one equation.
-use Rattle.std.specs.Prelude.{◌&&◌, List, ℕ, eqb, ltb, leb, length}
+use Rattle.std.specs.Prelude.{◌&&◌, List, ℕ, eqb, ltb, leb, length, Some, None, Option}
 use Rattle.tlv_reader.specs.Octet.{pick}
-use Rattle.im_envelope.specs.declared.Envelope.{Envelope}
-use Rattle.im_envelope.specs.declared.Envelope.TheVariants.{Whole, Short}
 use Rattle.im_envelope.specs.Envelope.{envelope_in, max_message}
 use Rattle.im_exchange.specs.Rules.{status_opcode}
 use Rattle.cache_entries.specs.declared.Cached.{Cached}
-use Rattle.cache_report.specs.declared.block.Judgement.{Judgement}
+use Rattle.cache_report.specs.Block.{Judgement}
 use Rattle.cache_report.specs.Words.{judged_by, held_by, page_by}
 use Rattle.cache_state.specs.declared.Request.{Request}
 use Rattle.cache_state.specs.declared.CacheState.{CacheState}
@@ -15,14 +13,15 @@ use Rattle.cache_state.specs.Words.{words_right}
 use Rattle.cache_state.specs.Reaction.{CacheReaction, Silent}
 use Rattle.cache_receive.specs.declared.Opened.{Opened}
 use Rattle.cache_receive.specs.Receive.{for_cache, awaited, by_status, by_answer, goes_on, ends}
+use Rattle.im_envelope.specs.declared.Fields.{Fields}
 
 -- why a message is not taken, or 0 and its opcode
 abbrev pub shut : ℕ → Opened
 shut n = record { number = n; opcode = 0 }
 
-abbrev pub opened_by : Request → List ℕ → Envelope → Opened
-opened_by x m Short = shut 4
-opened_by x m (Whole e) =
+abbrev pub opened_by : Request → List ℕ → Option Fields → Opened
+opened_by x m None = shut 4
+opened_by x m (Some e) =
     pick (leb (length m) max_message && for_cache e.edition e.opcode) (pick (awaited x e) (record { number = 0; opcode = e.opcode }) (shut 5)) (shut 4)
 
 unfoldable pub opened_in : Request → List ℕ → Opened

@@ -27,10 +27,10 @@ use cache_state::{
     READING, SMALL_BUFFER, STATUS, UNUSABLE, WRITING, cache_ok, is_open, refuse,
 };
 use im_blocks::Path;
-use im_envelope::{Envelope, Fields, MAX_MESSAGE, envelope_of};
+use im_envelope::{Fields, MAX_MESSAGE, envelope_of};
 use im_exchange::{FIRST_REPLY, MAX_TURN, REPORT, WRITE_RESPONSE};
-use im_requests::{StatusResponse, status_response};
-use im_responses::answer::{Answered, write_response};
+use im_requests::status_response;
+use im_responses::answer::write_response;
 use im_responses::kept::{BLOCK_WORDS, BLOCKS, report_kept};
 use im_writer::envelope::CACHE_EDITION;
 
@@ -96,7 +96,7 @@ fn shut(number: u8) -> Opened
 fn open_envelope(t: CacheStanding, message: &[u8]) -> Opened
     ensures { (kept : List ℕ) → result ≡ opened_in (request_of t kept) message.now }
 {
-    let Envelope::Whole(e) = envelope_of(message) else {
+    let Some(e) = envelope_of(message) else {
         return shut(NO_MESSAGE);
     };
     if MAX_MESSAGE < message.len() {
@@ -165,7 +165,7 @@ fn take_status(asked: &mut [u64; ASKED_WORDS], t: CacheStanding, payload: &[u8])
     requires { (t ≡ standing_in asked.old) × ((words_right asked.old ≡ true) × (length asked.old ≡ asked_size)) }
     ensures { (clusters keys versions kinds words order lengths kept page old : List ℕ) → CacheReacted (unsent (by_status (state_with clusters keys versions kinds words order lengths t kept) payload.now) page) result (state_in clusters keys versions kinds words order lengths asked.new kept) asked.old asked.new page old old }
 {
-    let StatusResponse::Code(code) = status_response(payload) else {
+    let Some(code) = status_response(payload) else {
         return refuse(UNUSABLE);
     };
     end_with(asked, t, code)
@@ -192,7 +192,7 @@ fn take_answer(asked: &mut [u64; ASKED_WORDS], t: CacheStanding, payload: &[u8])
     requires { (t ≡ standing_in asked.old) × ((words_right asked.old ≡ true) × (length asked.old ≡ asked_size)) }
     ensures { (clusters keys versions kinds words order lengths kept page old : List ℕ) → CacheReacted (unsent (by_answer (state_with clusters keys versions kinds words order lengths t kept) payload.now) page) result (state_in clusters keys versions kinds words order lengths asked.new kept) asked.old asked.new page old old }
 {
-    let Answered::One(x) = write_response(payload) else {
+    let Some(x) = write_response(payload) else {
         return refuse(UNUSABLE);
     };
     if !is_of_write(t, x.path) {
@@ -350,10 +350,9 @@ fn take_report(
     ensures { CacheReacted (takes_part page.old (state_with clusters.old keys.old versions.old kinds.old words.old order.old lengths.old t kept.old) payload.now) result (state_in clusters.new keys.new versions.new kinds.new words.new order.new lengths.new asked.new kept.new) asked.old asked.new page.new out.old out.new }
 {
     let mut blocks = [0u64; BLOCK_WORDS];
-    let p = report_kept(payload, &mut blocks);
-    if !p.good {
+    let Some(p) = report_kept(payload, &mut blocks) else {
         return refuse(UNUSABLE);
-    }
+    };
     if is_past_turns(p.more, t.turn) {
         return refuse(UNUSABLE);
     }

@@ -1,4 +1,5 @@
 -- The words that the blocks of a part are kept in say what the blocks get.
+use Rattle.std.specs.Prelude.{Ok, Err}
 use mathlib.Core.Path.{◌≡◌, refl, ap, ◌∙◌}
 use mathlib.Core.Bool.{Bool, true, false}
 use mathlib.Core.List.{List, [], ◌∷◌, map}
@@ -22,7 +23,7 @@ use Rattle.im_responses.proofs.WordLaws.{kept_block, first-tells, two-parts}
 use Rattle.cache_entries.specs.declared.Cached.{Cached}
 use Rattle.cache_entries.specs.Values.{usable_in, long_v}
 use Rattle.cache_report.specs.declared.block.NewEntry.{NewEntry}
-use Rattle.cache_report.specs.declared.block.Judgement.TheVariants.{Taken, Long, Unusable}
+use Rattle.cache_report.specs.declared.block.Unfit.TheVariants.{Long, Unusable}
 use Rattle.cache_report.specs.Block.{item_of, judgement_by, judgement_of}
 use Rattle.cache_report.specs.Entry.{held_for, page_for, number_for, worse}
 use Rattle.cache_report.specs.Part.{Judged, judgement_in, judged_all, held_all, page_all}
@@ -48,7 +49,7 @@ data-judgement s p version place = go (concrete_p p) refl (ltb version version_l
 
     go : (a : Bool) → concrete_p p ≡ a → (b : Bool) → ltb version version_limit ≡ b → let w = data_words p version place in judgement_words s (get_or w 0 0) (get_or w 1 0) (get_or w 2 0) ≡ judgement_by s p version (value_in s place)
     go true e true f =
-        rw (first-tells p version place, e, f) (ap (λ (x : NewEntry). pick (usable_in s v) (pick (long_v v) Long (Taken x)) Unusable) (item_back p version v e (ltb-true version version_limit f)))
+        rw (first-tells p version place, e, f) (ap (λ (x : NewEntry). pick (usable_in s v) (pick (long_v v) (Err Long) (Ok x)) (Err Unusable)) (item_back p version v e (ltb-true version version_limit f)))
     go true e false f = rw (first-tells p version place, e, f) refl
     go false e b f = rw (first-tells p version place, e) refl
 

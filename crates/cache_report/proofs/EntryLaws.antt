@@ -1,4 +1,6 @@
 -- Where an item goes, and what becomes of its value: a text, which lies in the page, or another.
+use Rattle.std.specs.Prelude.{Some, None, Option}
+use Rattle.std.proofs.lemmas.Option.{some_pair_parts}
 use mathlib.Core.Path.{◌≡◌, refl, sym, ap, ◌∙◌}
 use mathlib.Core.Bool.{false}
 use mathlib.Core.List.{List}
@@ -8,14 +10,11 @@ use lib.Dec.{eqb}
 use Rattle.tlv_reader.specs.declared.Value.{Value}
 use Rattle.tlv_reader.specs.declared.Value.TheVariants as value
 use Rattle.cache_entries.specs.declared.Cached.{Cached}
-use Rattle.cache_entries.specs.declared.set.Placed.{Placed}
-use Rattle.cache_entries.specs.declared.set.Placed.TheVariants as placed
 use Rattle.cache_entries.specs.Limits.{max_entries, max_clusters, text_kind}
 use Rattle.cache_entries.specs.Entries.{cluster_word, key_word}
 use Rattle.cache_entries.specs.Set.{cluster_place, entry_place}
 use Rattle.cache_entries.proofs.SetLaws.{placed_below}
 use Rattle.cache_report.specs.declared.block.NewEntry.{NewEntry}
-use Rattle.cache_report.specs.declared.position.Position.TheVariants.{At}
 use Rattle.cache_report.specs.Entry.{at_entry, entry_position, at_cluster, position_of, kind_v, text_stored}
 
 never : {A : Type 0} → ◌≡◌ {A = ℕ} 0 1 → A
@@ -23,30 +22,29 @@ never e = absurd (omega arith)
 
 -- the places that an item goes to
 pub record Goes (c : Cached) (x : NewEntry) (k i : ℕ) : Type 0 where
-  pub cluster : cluster_place c (cluster_word x.endpoint x.cluster) ≡ placed.Here k
-  pub entry : entry_place c (key_word k x.attribute) ≡ placed.Here i
+  pub cluster : cluster_place c (cluster_word x.endpoint x.cluster) ≡ Some k
+  pub entry : entry_place c (key_word k x.attribute) ≡ Some i
 
-pub position-goes : (c : Cached) (x : NewEntry) (k i : ℕ) → position_of c x ≡ At k i → Goes c x k i
+pub position-goes : (c : Cached) (x : NewEntry) (k i : ℕ) → position_of c x ≡ Some (k, i) → Goes c x k i
 unfolding position_of entry_position
 position-goes c x k i e = go (cluster_place c (cluster_word x.endpoint x.cluster)) refl e
   where
-    entry : (m : ℕ) (p : Placed) → cluster_place c (cluster_word x.endpoint x.cluster) ≡ placed.Here m → entry_place c (key_word m x.attribute) ≡ p → at_entry m p ≡ At k i → Goes c x k i
-    entry m (placed.Here j) a b q =
-        let km : m ≡ k = cc in
-        let ji : j ≡ i = cc in
-        record { cluster = a ∙ ap placed.Here km; entry = ap (λ (n : ℕ). entry_place c (key_word n x.attribute)) (sym km) ∙ b ∙ ap placed.Here ji }
-    entry m placed.Full a b q = never (cc)
+    entry : (m : ℕ) (p : (Option ℕ)) → cluster_place c (cluster_word x.endpoint x.cluster) ≡ Some m → entry_place c (key_word m x.attribute) ≡ p → at_entry m p ≡ Some (k, i) → Goes c x k i
+    entry m (Some j) a b q =
+        let (km, ji) = some_pair_parts m k j i q in
+        record { cluster = a ∙ ap Some km; entry = ap (λ (n : ℕ). entry_place c (key_word n x.attribute)) (sym km) ∙ b ∙ ap Some ji }
+    entry m None a b q = never (cc)
 
-    go : (p : Placed) → cluster_place c (cluster_word x.endpoint x.cluster) ≡ p → at_cluster c x.attribute p ≡ At k i → Goes c x k i
-    go (placed.Here m) a q = entry m (entry_place c (key_word m x.attribute)) a refl q
-    go placed.Full a q = never (cc)
+    go : (p : (Option ℕ)) → cluster_place c (cluster_word x.endpoint x.cluster) ≡ p → at_cluster c x.attribute p ≡ Some (k, i) → Goes c x k i
+    go (Some m) a q = entry m (entry_place c (key_word m x.attribute)) a refl q
+    go None a q = never (cc)
 
 -- they are within the limits
 pub record Below (k i : ℕ) : Type 0 where
   pub cluster : k < max_clusters
   pub entry : i < max_entries
 
-pub position-below : (c : Cached) → c.cluster_count ≤ max_clusters → c.count ≤ max_entries → (x : NewEntry) (k i : ℕ) → position_of c x ≡ At k i → Below k i
+pub position-below : (c : Cached) → c.cluster_count ≤ max_clusters → c.count ≤ max_entries → (x : NewEntry) (k i : ℕ) → position_of c x ≡ Some (k, i) → Below k i
 unfolding cluster_place entry_place
 position-below c few-clusters few-entries x k i e =
     let goes = position-goes c x k i e in

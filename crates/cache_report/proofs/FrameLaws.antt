@@ -1,4 +1,5 @@
 -- Where a block goes is decided by the clusters and the keys alone.
+use Rattle.std.specs.Prelude.{Some, None, Option}
 use mathlib.Core.Path.{◌≡◌, refl, sym, ap, ◌∙◌}
 use Prim.Native.Nat.{ℕ, ◌/◌, ◌%◌}
 use native.Mathlib.Omega.{arith}
@@ -6,12 +7,9 @@ use lib.ListN.{set}
 use Rattle.tlv_reader.specs.declared.Value.{Value}
 use Rattle.cache_order.specs.Order.{word_at}
 use Rattle.cache_entries.specs.declared.Cached.{Cached}
-use Rattle.cache_entries.specs.declared.set.Placed.{Placed}
-use Rattle.cache_entries.specs.declared.set.Placed.TheVariants as placed
 use Rattle.cache_entries.specs.Limits.{max_clusters, half}
 use Rattle.cache_entries.specs.Entries.{cluster_word}
 use Rattle.cache_entries.specs.Set.{place_for, count_with, cluster_place, entry_place, with_cluster, with_entry}
-use Rattle.cache_report.specs.declared.position.Position.TheVariants.{At}
 use Rattle.cache_report.specs.Entry.{at_cluster, entry_position, position_of, with_item}
 use Rattle.cache_report.specs.Words.{item_words, Frame, frame_of, key_of, in_frame, position_in, frame_at}
 
@@ -26,12 +24,12 @@ frame-position c a b v =
     go (place_for c.cluster_count max_clusters (word_at c.clusters c.cluster_count a))
     ∙ ap (λ (w : ℕ). at_cluster c (b / half) (cluster_place c w)) (sym (word_back a))
   where
-    go : (p : Placed) → in_frame (frame_of c) b p ≡ at_cluster c (b / half) p
-    go (placed.Here k) = refl
-    go placed.Full = refl
+    go : (p : (Option ℕ)) → in_frame (frame_of c) b p ≡ at_cluster c (b / half) p
+    go (Some k) = refl
+    go None = refl
 
 -- THE CLUSTERS AND KEYS with its entry set
-pub frame-next : (c : Cached) (k i a b : ℕ) (v : Value) → frame_of (with_item c k i (item_words a b v)) ≡ frame_at (frame_of c) a b (At k i)
+pub frame-next : (c : Cached) (k i a b : ℕ) (v : Value) → frame_of (with_item c k i (item_words a b v)) ≡ frame_at (frame_of c) a b (Some (k, i))
 unfolding with_item with_entry with_cluster
 frame-next c k i a b v = ap with (word_back a)
   where

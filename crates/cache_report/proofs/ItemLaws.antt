@@ -1,4 +1,5 @@
 -- An item as the code sets it: its value in words, its place in the page, its cluster and then its entry.
+use Rattle.std.specs.Prelude.{Some}
 use mathlib.Core.Path.{◌≡◌, refl, sym, ap, subst, ◌∙◌}
 use mathlib.Core.Bool.{Bool, true, false}
 use mathlib.Core.List.{List}
@@ -23,7 +24,6 @@ use Rattle.cache_entries.proofs.OrderWithLaws.{cluster-orders}
 use Rattle.cache_entries.proofs.SetLaws.{placed-next}
 use Rattle.cache_entries.proofs.TextLaws.{place-own}
 use Rattle.cache_entries.proofs.ValueLaws.{NoText}
-use Rattle.cache_report.specs.declared.position.Position.TheVariants.{At}
 use Rattle.cache_report.specs.Entry.{position_of, kind_v, word_as, with_item, text_stored}
 use Rattle.cache_report.specs.Words.{item_words, length_v}
 use Rattle.cache_report.proofs.EntryLaws.{position-goes, position-below, Form, form}
@@ -70,7 +70,7 @@ pub record Ready (c : Cached) (k i word : ℕ) : Type 0 where
   pub entry-order : order_right c.keys (with_cluster c k word).order c.count ≡ true
   pub own : Own c.kinds c.words c.count i (text_place c i)
 
-pub ready : (page : List ℕ) (c : Cached) → RightHeld page c → ColumnsSized c → (a b : ℕ) (v : Value) (k i : ℕ) → position_of c (item_words a b v) ≡ At k i → Ready c k i a
+pub ready : (page : List ℕ) (c : Cached) → RightHeld page c → ColumnsSized c → (a b : ℕ) (v : Value) (k i : ℕ) → position_of c (item_words a b v) ≡ Some (k, i) → Ready c k i a
 unfolding cluster_place entry_place with_cluster
 ready page c r w a b v k i position =
     let goes = position-goes c (item_words a b v) k i position in

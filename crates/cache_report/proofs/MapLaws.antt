@@ -1,4 +1,5 @@
 -- SETTING AN ENTRY CHANGES THAT ENTRY ALONE: what the cache has for the path of a block is what the block says, and for every other path what it had.
+use Rattle.std.specs.Prelude.{Some, None, Option}
 use mathlib.Core.Path.{◌≡◌, refl, sym, ap, ◌∙◌}
 use mathlib.Core.Bool.{true, false}
 use mathlib.Core.List.{List}
@@ -12,11 +13,8 @@ use mir.Syntax.{w64}
 use mir.ValLaws.{to_z-of_z}
 use Rattle.tlv_reader.specs.declared.Value.{Value}
 use Rattle.tlv_reader.specs.declared.Value.TheVariants as value
-use Rattle.tlv_reader.specs.Decode.Opt.{just}
 use Rattle.tlv_reader.specs.Value.{Datum, datum_in}
 use Rattle.node_kinds.specs.Stored.{word_of, Sized}
-use Rattle.node_schema.specs.declared.Found.{Found}
-use Rattle.node_schema.specs.declared.Found.TheVariants as found
 use Rattle.node_schema.proofs.BoolLaws.{by-test}
 use Rattle.cache_entries.specs.declared.Cached.{Cached}
 use Rattle.cache_entries.specs.Limits.{max_entries, max_clusters, half, null_kind, boolean_kind, unsigned_kind, signed_kind, float_kind, text_kind}
@@ -28,7 +26,6 @@ use Rattle.cache_entries.proofs.SetLaws.{word_stands, Put, put, others-found, wo
 use Rattle.cache_entries.proofs.SetLaws.Put.{old, new}
 use Rattle.cache_entries.proofs.ValidLaws.{key_below_lem, entry-word}
 use Rattle.cache_report.specs.declared.block.NewEntry.{NewEntry}
-use Rattle.cache_report.specs.declared.position.Position.TheVariants.{At}
 use Rattle.cache_entries.specs.Values.{usable_in}
 use Rattle.cache_report.specs.Entry.{position_of, kind_v, word_as, with_item, text_stored, ItemRight}
 use Rattle.cache_report.proofs.EntryLaws.{Goes, position-goes, Below, position-below}
@@ -59,7 +56,7 @@ datum-same kind word a b same h =
     (λ r. by-test (eqb kind signed_kind) (λ t. rw (p, q, r, t) refl)
     (λ s. by-test (eqb kind float_kind) (λ t. rw (p, q, r, s, t) refl) (λ t. ap (datum_by kind word) (same (rw (p, q, r, s, t) at h)))))))
 
-module _ (s page : List ℕ) (c : Cached) (x : NewEntry) (k i : ℕ) (item : ItemRight s x) (r : RightHeld page c) (w : ColumnsSized c) (position : position_of c x ≡ At k i) where
+module _ (s page : List ℕ) (c : Cached) (x : NewEntry) (k i : ℕ) (item : ItemRight s x) (r : RightHeld page c) (w : ColumnsSized c) (position : position_of c x ≡ Some (k, i)) where
   low : Below k i
   low = position-below c r.few-clusters r.few-entries x k i position
 
@@ -78,7 +75,7 @@ module _ (s page : List ℕ) (c : Cached) (x : NewEntry) (k i : ℕ) (item : Ite
   abbrev key : ℕ
   key = key_word k x.attribute
 
-  cluster-there : cluster_at next word ≡ found.At k
+  cluster-there : cluster_at next word ≡ Some k
   unfolding cluster_place with_item with_entry with_cluster
   cluster-there = word-found c.clusters c.cluster_count max_clusters word k (omega (arith, w.clusters)) goes.cluster
 
@@ -86,7 +83,7 @@ module _ (s page : List ℕ) (c : Cached) (x : NewEntry) (k i : ℕ) (item : Ite
   unfolding cluster_place with_item with_entry with_cluster
   cluster-same y apart = others-found c.clusters c.cluster_count max_clusters word k (omega (arith, w.clusters)) goes.cluster y apart
 
-  entry-there : entry_at next key ≡ found.At i
+  entry-there : entry_at next key ≡ Some i
   unfolding entry_place with_item with_entry with_cluster
   entry-there = word-found c.keys c.count max_entries key i (omega (arith, w.keys)) goes.entry
 
@@ -111,12 +108,12 @@ module _ (s page : List ℕ) (c : Cached) (x : NewEntry) (k i : ℕ) (item : Ite
       shown a n e = ap (λ (v : Value). text_in after next.lengths (word_as place v)) e ∙ text-set s page c x k i item r w position a n e
 
   -- THE PATH OF THE BLOCK
-  pub set_same : lookup (with_item c k i x) (text_stored s page (text_place c i) x.value) x.endpoint x.cluster x.attribute ≡ just (record { version = x.version; value = datum_in s x.value })
+  pub set_same : lookup (with_item c k i x) (text_stored s page (text_place c i) x.value) x.endpoint x.cluster x.attribute ≡ Some (record { version = x.version; value = datum_in s x.value })
   unfolding lookup path_at
-  set_same = ap (λ (f : Found). at_entry next after (in_cluster next x.attribute f)) cluster-there ∙ ap (at_entry next after) entry-there ∙ ap just own-entry
+  set_same = ap (λ (f : (Option ℕ)). at_entry next after (in_cluster next x.attribute f)) cluster-there ∙ ap (at_entry next after) entry-there ∙ ap Some own-entry
 
   -- another entry that is found stands elsewhere
-  elsewhere : (y j : ℕ) → (y ≡ key → ⊥) → entry_at next y ≡ found.At j → j ≡ i → ⊥
+  elsewhere : (y j : ℕ) → (y ≡ key → ⊥) → entry_at next y ≡ Some j → j ≡ i → ⊥
   elsewhere y j apart e q =
       apart (sym (word_stands next.keys next.count y j e).1 ∙ ap (λ (n : ℕ). get_or next.keys n 0) q ∙ (own_row s page c x k i item r w position).key)
 
@@ -139,21 +136,21 @@ module _ (s page : List ℕ) (c : Cached) (x : NewEntry) (k i : ℕ) (item : Ite
   key-same : (y : ℕ) → (y ≡ key → ⊥) → at_entry next after (entry_at next y) ≡ at_entry c page (entry_at c y)
   key-same y apart = ap (at_entry next after) (entry-same y apart) ∙ go (entry_at c y) refl
     where
-      go : (f : Found) → entry_at c y ≡ f → at_entry next after f ≡ at_entry c page f
-      go (found.At j) e = ap just (other-entry j (elsewhere y j apart (entry-same y apart ∙ e)) (word_stands c.keys c.count y j e).0)
-      go found.Nothing e = refl
+      go : (f : (Option ℕ)) → entry_at c y ≡ f → at_entry next after f ≡ at_entry c page f
+      go (Some j) e = ap Some (other-entry j (elsewhere y j apart (entry-same y apart ∙ e)) (word_stands c.keys c.count y j e).0)
+      go None e = refl
 
   -- no entry is of a cluster that is not there
-  none-there : (y : ℕ) → c.cluster_count ≤ y / half → entry_at c y ≡ found.Nothing
+  none-there : (y : ℕ) → c.cluster_count ≤ y / half → entry_at c y ≡ None
   none-there y l = go (entry_at c y) refl
     where
-      go : (f : Found) → entry_at c y ≡ f → entry_at c y ≡ found.Nothing
-      go found.Nothing e = e
-      go (found.At j) e =
+      go : (f : (Option ℕ)) → entry_at c y ≡ f → entry_at c y ≡ None
+      go None e = e
+      go (Some j) e =
           let (low, here) = word_stands c.keys c.count y j e in
           absurd (omega (arith, l, ap (λ (n : ℕ). n / half) here, key_below_lem c r.entries j low))
 
-  cluster-word : (y j : ℕ) → cluster_at next y ≡ found.At j → j ≡ k → y ≡ word
+  cluster-word : (y j : ℕ) → cluster_at next y ≡ Some j → j ≡ k → y ≡ word
   unfolding with_item with_entry with_cluster
   cluster-word y j e q =
       sym (word_stands (set c.clusters k word) (count_with c.cluster_count k) y j e).1 ∙ ap (λ (n : ℕ). get_or (set c.clusters k word) n 0) q ∙ get_or-set_same c.clusters k word 0 (omega (arith, low.cluster, w.clusters))
@@ -166,20 +163,20 @@ module _ (s page : List ℕ) (c : Cached) (x : NewEntry) (k i : ℕ) (item : Ite
     in-own : (a ≡ x.attribute → ⊥) → at_entry next after (in_cluster next a (cluster_at next word)) ≡ at_entry c page (in_cluster c a (cluster_at c word))
     unfolding cluster_place
     in-own h =
-        ap (λ (f : Found). at_entry next after (in_cluster next a f)) cluster-there
+        ap (λ (f : (Option ℕ)). at_entry next after (in_cluster next a f)) cluster-there
         ∙ key-same (key_word k a) (apart-keys k (λ _ e. h e))
         ∙ go (put c.clusters c.cluster_count max_clusters word k goes.cluster)
       where
         go : Put c.clusters c.cluster_count max_clusters word k → at_entry c page (entry_at c (key_word k a)) ≡ at_entry c page (in_cluster c a (cluster_at c word))
-        go (old e l same count) = sym (ap (λ (f : Found). at_entry c page (in_cluster c a f)) e)
-        go (new e q l count) = ap (at_entry c page) (none-there (key_word k a) (omega (arith, q, fa))) ∙ sym (ap (λ (f : Found). at_entry c page (in_cluster c a f)) e)
+        go (old e l same count) = sym (ap (λ (f : (Option ℕ)). at_entry c page (in_cluster c a f)) e)
+        go (new e q l count) = ap (at_entry c page) (none-there (key_word k a) (omega (arith, q, fa))) ∙ sym (ap (λ (f : (Option ℕ)). at_entry c page (in_cluster c a f)) e)
 
     in-other : (y : ℕ) → (y ≡ word → ⊥) → at_entry next after (in_cluster next a (cluster_at next y)) ≡ at_entry c page (in_cluster c a (cluster_at c y))
-    in-other y h = ap (λ (f : Found). at_entry next after (in_cluster next a f)) (cluster-same y h) ∙ go (cluster_at c y) refl
+    in-other y h = ap (λ (f : (Option ℕ)). at_entry next after (in_cluster next a f)) (cluster-same y h) ∙ go (cluster_at c y) refl
       where
-        go : (f : Found) → cluster_at c y ≡ f → at_entry next after (in_cluster next a f) ≡ at_entry c page (in_cluster c a f)
-        go (found.At j) e = key-same (key_word j a) (apart-keys j (λ q _. h (cluster-word y j (cluster-same y h ∙ e) q)))
-        go found.Nothing e = refl
+        go : (f : (Option ℕ)) → cluster_at c y ≡ f → at_entry next after (in_cluster next a f) ≡ at_entry c page (in_cluster c a f)
+        go (Some j) e = key-same (key_word j a) (apart-keys j (λ q _. h (cluster-word y j (cluster-same y h ∙ e) q)))
+        go None e = refl
 
   -- EVERY OTHER PATH
   pub set_other : (e l a : ℕ) → e < 2 ^ 16 → l < 2 ^ 32 → a < 2 ^ 32 → (e ≡ x.endpoint → l ≡ x.cluster → a ≡ x.attribute → ⊥) → lookup (with_item c k i x) (text_stored s page (text_place c i) x.value) e l a ≡ lookup c page e l a

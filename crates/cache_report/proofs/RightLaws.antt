@@ -1,4 +1,5 @@
 -- A CACHE THAT KEEPS THE RULES STILL KEEPS THEM AFTER A BLOCK, whatever the block is.
+use Rattle.std.specs.Prelude.{Some, None, Option, Ok, Err}
 use mathlib.Core.Path.{◌≡◌, refl, sym, ap, subst, ◌∙◌}
 use mathlib.Core.Bool.{Bool, true, false, ◌&&◌, false≢true}
 use mathlib.Core.List.{List, [], ◌∷◌}
@@ -33,13 +34,10 @@ use Rattle.cache_entries.proofs.ValidLaws.{below, cluster-below, key_below_lem, 
 use Rattle.cache_entries.proofs.OrderWithLaws.{Orders, cluster-orders, entry-orders}
 use Rattle.cache_entries.proofs.TextLaws.{TextAt, unused, texts-apart, place-own}
 use Rattle.cache_report.specs.declared.block.NewEntry.{NewEntry}
-use Rattle.cache_report.specs.declared.block.Judgement.{Judgement}
-use Rattle.cache_report.specs.declared.block.Judgement.TheVariants.{Taken, Long, Unusable}
-use Rattle.cache_report.specs.declared.position.Position.{Position}
-use Rattle.cache_report.specs.declared.position.Position.TheVariants.{At, Full}
+use Rattle.cache_report.specs.declared.block.Unfit.TheVariants.{Long, Unusable}
 use Rattle.cache_entries.specs.Values.{usable_in, inside_usable, long_v}
 use Rattle.im_responses.specs.Kept.{concrete_p}
-use Rattle.cache_report.specs.Block.{item_of, judgement_by, judgement_of}
+use Rattle.cache_report.specs.Block.{Judgement, item_of, judgement_by, judgement_of}
 use Rattle.cache_report.specs.Entry.{position_of, kind_v, word_as, with_item, held_at, held_for, text_stored, page_at, page_for, ItemRight, Good}
 use Rattle.cache_report.specs.Part.{judgement_in, held_all, page_all}
 use Rattle.im_responses.proofs.KeptLaws.{concrete-widths}
@@ -50,7 +48,7 @@ use Rattle.cache_report.proofs.EntryLaws.Form.{text, plain}
 never : {A : Type 0} → ◌≡◌ {A = ℕ} 0 1 → A
 never e = absurd (omega arith)
 
-pub item-right : (s : List ℕ) (r : Report) (x : NewEntry) → judgement_of s r ≡ Taken x → ItemRight s x
+pub item-right : (s : List ℕ) (r : Report) (x : NewEntry) → judgement_of s r ≡ Ok x → ItemRight s x
 unfolding judgement_of judgement_by
 item-right s (report.Refused a) x e = never (cc)
 item-right s (report.Shown d) x e = go (concrete_p d.path) (ltb d.version no_version) (usable_in s v) (long_v v) refl refl refl refl e
@@ -58,7 +56,7 @@ item-right s (report.Shown d) x e = go (concrete_p d.path) (ltb d.version no_ver
     v : Value
     v = value_in s d.place
 
-    go : (a b u l : Bool) → concrete_p d.path ≡ a → ltb d.version no_version ≡ b → usable_in s v ≡ u → long_v v ≡ l → pick (a && (b && u)) (pick l Long (Taken (item_of d.path d.version v))) Unusable ≡ Taken x → ItemRight s x
+    go : (a b u l : Bool) → concrete_p d.path ≡ a → ltb d.version no_version ≡ b → usable_in s v ≡ u → long_v v ≡ l → pick (a && (b && u)) (pick l (Err Long) (Ok (item_of d.path d.version v))) (Err Unusable) ≡ Ok x → ItemRight s x
     go true true true false pa pb pu pl e =
         let same : item_of d.path d.version v ≡ x = cc in
         let w = concrete-widths d.path pa in
@@ -97,7 +95,7 @@ pub record Row (c : Cached) (j k v t b : ℕ) : Type 0 where
   pub kind : get_or c.kinds j 0 ≡ t
   pub word : get_or c.words j 0 ≡ b
 
-module _ (s page : List ℕ) (c : Cached) (x : NewEntry) (k i : ℕ) (item : ItemRight s x) (r : RightHeld page c) (w : ColumnsSized c) (position : position_of c x ≡ At k i) where
+module _ (s page : List ℕ) (c : Cached) (x : NewEntry) (k i : ℕ) (item : ItemRight s x) (r : RightHeld page c) (w : ColumnsSized c) (position : position_of c x ≡ Some (k, i)) where
   low : Below k i
   low = position-below c r.few-clusters r.few-entries x k i position
 
@@ -336,19 +334,19 @@ pub block-right : (s page : List ℕ) (c : Cached) → Good page c → (b : Repo
 unfolding held_for page_for
 block-right s page c g b = go (judgement_of s b) refl
   where
-    there : (x : NewEntry) → judgement_of s b ≡ Taken x → (p : Position) → position_of c x ≡ p → Good (page_at s c page x p) (held_at c x p)
-    there x e (At k i) q =
+    there : (x : NewEntry) → judgement_of s b ≡ Ok x → (p : (Option (ℕ × ℕ))) → position_of c x ≡ p → Good (page_at s c page x p) (held_at c x p)
+    there x e (Some (k, i)) q =
         let item = item-right s b x e in
         record { right = set-right s page c x k i item g.right g.whole q; whole = set-whole s page c x k i item g.right g.whole q }
-    there x e Full q = g
+    there x e None q = g
 
     go : (f : Judgement) → judgement_of s b ≡ f → Good (page_for s c page f) (held_for c f)
-    go (Taken x) e = taken (there x e (position_of c x) refl)
+    go (Ok x) e = taken (there x e (position_of c x) refl)
       where
-        taken : Good (page_at s c page x (position_of c x)) (held_at c x (position_of c x)) → Good (page_for s c page (Taken x)) (held_for c (Taken x))
+        taken : Good (page_at s c page x (position_of c x)) (held_at c x (position_of c x)) → Good (page_for s c page (Ok x)) (held_for c (Ok x))
         taken h = h
-    go Long e = g
-    go Unusable e = g
+    go (Err Long) e = g
+    go (Err Unusable) e = g
 
 -- ALL BLOCKS of a part
 pub part_right : (s page : List ℕ) (c : Cached) → Good page c → (l : List (ReportOf ℕ)) → Good (page_all s c page l) (held_all s c l)

@@ -1,4 +1,5 @@
 -- THE BLOCKS OF A PART TAKEN one after the other, each where its place was found before.
+use Rattle.std.specs.Prelude.{Some, None, Option, Ok, Err}
 use mathlib.Core.Path.{◌≡◌, refl, sym, ap, subst, ◌∙◌}
 use mathlib.Core.Bool.{Bool, true, false, ◌&&◌, false≢true}
 use mathlib.Core.List.{List, ◌∷◌}
@@ -17,10 +18,8 @@ use Rattle.cache_entries.specs.declared.Cached.{Cached}
 use Rattle.cache_entries.specs.Limits.{max_entries}
 use Rattle.cache_entries.specs.Texts.{text_place}
 use Rattle.cache_entries.specs.Values.{usable_in, long_v}
-use Rattle.cache_report.specs.declared.block.Judgement.{Judgement}
-use Rattle.cache_report.specs.declared.block.Judgement.TheVariants.{Taken, Long, Unusable}
-use Rattle.cache_report.specs.declared.position.Position.{Position}
-use Rattle.cache_report.specs.declared.position.Position.TheVariants.{At, Full}
+use Rattle.cache_report.specs.Block.{Judgement}
+use Rattle.cache_report.specs.declared.block.Unfit.TheVariants.{Long, Unusable}
 use Rattle.cache_report.specs.Entry.{position_of, with_item, held_at, held_for, text_stored, page_at, page_for, worse, ItemRight, Good}
 use Rattle.cache_report.specs.Words.{item_words, judgement_words, judgement_at, judgements_from, alone, alone_all, held_by, page_by, Frame, frame_of, position_in, frame_at, frame_next, has_room, room_from, position_word, positions_from}
 use Rattle.cache_report.proofs.EntryLaws.{position-below}
@@ -41,16 +40,16 @@ worse-none a b h =
 
 pub first-none : (f : Judgement) (b : ℕ) → worse (alone f) b ≡ 0 → alone f ≡ 0
 unfolding worse
-first-none (Taken x) b h = refl
-first-none Long b h = by-test (eqb b 6) (λ t. never (let z : 6 ≡ 0 = rw t at h in omega (arith, z))) (λ f. never (let z : 7 ≡ 0 = rw f at h in omega (arith, z)))
-first-none Unusable b h = never (let z : 6 ≡ 0 = h in omega (arith, z))
+first-none (Ok x) b h = refl
+first-none (Err Long) b h = by-test (eqb b 6) (λ t. never (let z : 6 ≡ 0 = rw t at h in omega (arith, z))) (λ f. never (let z : 7 ≡ 0 = rw f at h in omega (arith, z)))
+first-none (Err Unusable) b h = never (let z : 6 ≡ 0 = h in omega (arith, z))
 
 -- a block that gets 0 is taken
 pub record Shown (s : List ℕ) (a b p : ℕ) : Type 0 where
   pub first : a < unshown
   pub usable : usable_in s (value_in s p) ≡ true
   pub short : long_v (value_in s p) ≡ false
-  pub judgement : judgement_words s a b p ≡ Taken (item_words a b (value_in s p))
+  pub judgement : judgement_words s a b p ≡ Ok (item_words a b (value_in s p))
 
 pub shown : (s : List ℕ) (a b p : ℕ) → alone (judgement_words s a b p) ≡ 0 → Shown s a b p
 unfolding judgement_words
@@ -59,7 +58,7 @@ shown s a b p = go (ltb a unshown) (usable_in s v) (long_v v) refl refl refl
     v : Value
     v = value_in s p
 
-    go : (x y z : Bool) → ltb a unshown ≡ x → usable_in s v ≡ y → long_v v ≡ z → alone (pick (ltb a unshown && usable_in s v) (pick (long_v v) Long (Taken (item_words a b v))) Unusable) ≡ 0 → Shown s a b p
+    go : (x y z : Bool) → ltb a unshown ≡ x → usable_in s v ≡ y → long_v v ≡ z → alone (pick (ltb a unshown && usable_in s v) (pick (long_v v) (Err Long) (Ok (item_words a b v))) (Err Unusable)) ≡ 0 → Shown s a b p
     go true true false e f g h = record { first = ltb-true _ _ e; usable = f; short = g; judgement = rw (e, f, g) refl }
     go true true true e f g h = never (let z : 7 ≡ 0 = rw (e, f, g) at h in omega (arith, z))
     go true false z e f g h = never (let z : 6 ≡ 0 = rw (e, f) at h in omega (arith, z))
@@ -79,7 +78,7 @@ pub record Next (s : List ℕ) (c : Cached) (k i a b : ℕ) (v : Value) : Type 0
   pub first : a < unshown
   pub usable : usable_in s v ≡ true
   pub short : long_v v ≡ false
-  pub position : position_of c (item_words a b v) ≡ At k i
+  pub position : position_of c (item_words a b v) ≡ Some (k, i)
 
 module _ (s words positions : List ℕ) (n : ℕ) where
   pub taking-begins : (c : Cached) (page : List ℕ) → Good page c → alone_all (judgements_from s words n 0) ≡ 0 → room_from words (frame_of c) n 0 ≡ true → ((j : ℕ) → j < n → get_or positions j 0 ≡ get_or (positions_from words (frame_of c) n 0) j 0) → Taking s words positions n c page c page 0
@@ -113,7 +112,7 @@ module _ (s words positions : List ℕ) (n : ℕ) where
       abbrev after : List Judgement
       after = rest s words n (j + 1)
 
-      abbrev position : Position
+      abbrev position : Option (ℕ × ℕ)
       position = position_in (frame_of c) first second
 
       abbrev k : ℕ
@@ -141,22 +140,22 @@ module _ (s words positions : List ℕ) (n : ℕ) where
       found_here m u = t.found m u ∙ ap (λ (r : ℕ). get_or (positions_from words (frame_of c) r j) m 0) left_over
 
       -- its place is the one that was found
-      position_here : position ≡ At k i
+      position_here : position ≡ Some (k, i)
       position_here = go position refl
         where
           word : get_or positions j 0 ≡ position_word position
           word = ap (λ (m : ℕ). get_or positions m 0) (omega arith) ∙ found_here 0 (omega (arith, l))
 
-          go : (p : Position) → position ≡ p → position ≡ At k i
-          go (At m q) e =
+          go : (p : (Option (ℕ × ℕ))) → position ≡ p → position ≡ Some (k, i)
+          go (Some (m, q)) e =
               let low = position-below c t.good.right.few-clusters t.good.right.few-entries (item_words first second v) m q (sym (frame-position c first second v) ∙ e) in
               let at : get_or positions j 0 ≡ m * max_entries + q = word ∙ ap position_word e in
               let em : m ≡ k = omega (arith, at, low.entry) in
               let eq : q ≡ i = omega (arith, at, low.entry) in
-              e ∙ (λ z. At (em z) (eq z))
-          go Full e = absurd (false≢true (ap has_room (sym e) ∙ left _ _ room-here))
+              e ∙ (λ z. Some ((em z), (eq z)))
+          go None e = absurd (false≢true (ap has_room (sym e) ∙ left _ _ room-here))
 
-      item-position : position_of c (item_words first second v) ≡ At k i
+      item-position : position_of c (item_words first second v) ≡ Some (k, i)
       item-position = sym (frame-position c first second v) ∙ position_here
 
       pub next : (a : ℕ) (w : Value) → a ≡ first → w ≡ v → Next s c k i a second w

@@ -1,18 +1,15 @@
 -- A part is checked as a whole before any block sets its entry (RULES 7.7, 7.8).
-use Rattle.std.specs.Prelude.{List, [], ◌∷◌, ℕ}
-use Rattle.tlv_reader.specs.Decode.{Opt}
-use Rattle.tlv_reader.specs.Decode.Opt.{just, nothing}
+use Rattle.std.specs.Prelude.{List, [], ◌∷◌, ℕ, Some, None, Option}
 use Rattle.im_blocks.specs.Data.{ReportOf, report_struct}
 use Rattle.im_responses.specs.Report.{PartOf, part_in}
 use Rattle.cache_entries.specs.declared.Cached.{Cached}
-use Rattle.cache_report.specs.declared.block.Judgement.{Judgement}
-use Rattle.cache_report.specs.Block.{judgement_of}
+use Rattle.cache_report.specs.Block.{Judgement, judgement_of}
 use Rattle.cache_report.specs.Entry.{number_for, held_for, worse, page_for}
 
 -- the blocks of a payload that is a part
-abbrev pub blocks_of : Opt (PartOf ℕ) → List (ReportOf ℕ)
-blocks_of nothing = []
-blocks_of (just p) = p.blocks
+abbrev pub blocks_of : Option (PartOf ℕ) → List (ReportOf ℕ)
+blocks_of None = []
+blocks_of (Some p) = p.blocks
 
 unfoldable pub blocks_in : List ℕ → List (ReportOf ℕ)
 blocks_in s = blocks_of (part_in s)

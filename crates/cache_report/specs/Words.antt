@@ -1,24 +1,18 @@
 -- A part as the code has it: each block in three words (interaction_report, specs/Kept), and the places that they are given.
-use Rattle.std.specs.Prelude.{Bool, true, false, not, ◌&&◌, List, [], ◌∷◌, ℕ, zero, suc, ◌+◌, ◌-◌, ◌*◌, ◌/◌, ◌%◌, ltb, set}
+use Rattle.std.specs.Prelude.{Bool, true, false, not, ◌&&◌, List, [], ◌∷◌, ℕ, zero, suc, ◌+◌, ◌*◌, ◌/◌, ◌%◌, ltb, set, Some, None, Option, Ok, Err}
 use Rattle.tlv_reader.specs.declared.Value.{Value}
 use Rattle.tlv_reader.specs.declared.Value.TheVariants as value
 use Rattle.tlv_reader.specs.Octet.{pick}
 use Rattle.tlv_reader.specs.Value.{value_in}
-use Rattle.node_schema.specs.declared.Found.{Found}
-use Rattle.node_schema.specs.declared.Found.TheVariants as found
 use Rattle.cache_order.specs.Order.{word_at}
 use Rattle.im_responses.specs.Kept.{unshown, block_word}
 use Rattle.cache_entries.specs.declared.Cached.{Cached}
-use Rattle.cache_entries.specs.declared.set.Placed.{Placed}
-use Rattle.cache_entries.specs.declared.set.Placed.TheVariants as placed
 use Rattle.cache_entries.specs.Limits.{max_entries, max_clusters, half}
 use Rattle.cache_entries.specs.Entries.{key_word}
 use Rattle.cache_entries.specs.Set.{place_for, count_with}
 use Rattle.cache_report.specs.declared.block.NewEntry.{NewEntry}
-use Rattle.cache_report.specs.declared.block.Judgement.{Judgement}
-use Rattle.cache_report.specs.declared.block.Judgement.TheVariants.{Taken, Long, Unusable}
-use Rattle.cache_report.specs.declared.position.Position.{Position}
-use Rattle.cache_report.specs.declared.position.Position.TheVariants.{At, Full}
+use Rattle.cache_report.specs.Block.{Judgement}
+use Rattle.cache_report.specs.declared.block.Unfit.TheVariants.{Long, Unusable}
 use Rattle.cache_entries.specs.Values.{usable_in, long_v}
 use Rattle.cache_report.specs.Entry.{at_entry, held_for, number_for, page_for, worse}
 use Rattle.cache_report.specs.Part.{Judged}
@@ -40,7 +34,7 @@ length_v value.Other = 0
 -- what a block gets by itself
 unfoldable pub judgement_words : List ℕ → ℕ → ℕ → ℕ → Judgement
 judgement_words s a b p =
-    pick (ltb a unshown && usable_in s (value_in s p)) (pick (long_v (value_in s p)) Long (Taken (item_words a b (value_in s p)))) Unusable
+    pick (ltb a unshown && usable_in s (value_in s p)) (pick (long_v (value_in s p)) (Err Long) (Ok (item_words a b (value_in s p)))) (Err Unusable)
 
 abbrev pub judgement_at : List ℕ → List ℕ → ℕ → Judgement
 judgement_at s words j = judgement_words s (block_word words j 0) (block_word words j 1) (block_word words j 2)
@@ -52,9 +46,9 @@ judgements_from s words (suc n) j = judgement_at s words j ∷ judgements_from s
 
 -- 6, 7 or 0 of each, and of all: 6 before 7
 abbrev pub alone : Judgement → ℕ
-alone (Taken x) = 0
-alone Long = 7
-alone Unusable = 6
+alone (Ok x) = 0
+alone (Err Long) = 7
+alone (Err Unusable) = 6
 
 unfoldable pub alone_all : List Judgement → ℕ
 alone_all [] = 0
@@ -86,29 +80,29 @@ frame_of c = record { clusters = c.clusters; count_of_clusters = c.cluster_count
 abbrev pub key_of : ℕ → ℕ → ℕ
 key_of k b = key_word k (b / half)
 
-abbrev pub in_frame : Frame → ℕ → Placed → Position
-in_frame f b (placed.Here k) = at_entry k (place_for f.count max_entries (word_at f.keys f.count (key_of k b)))
-in_frame f b placed.Full = Full
+abbrev pub in_frame : Frame → ℕ → Option ℕ → Option (ℕ × ℕ)
+in_frame f b (Some k) = at_entry k (place_for f.count max_entries (word_at f.keys f.count (key_of k b)))
+in_frame f b None = None
 
-unfoldable pub position_in : Frame → ℕ → ℕ → Position
+unfoldable pub position_in : Frame → ℕ → ℕ → Option (ℕ × ℕ)
 position_in f a b = in_frame f b (place_for f.count_of_clusters max_clusters (word_at f.clusters f.count_of_clusters a))
 
-abbrev pub frame_at : Frame → ℕ → ℕ → Position → Frame
-frame_at f a b (At k i) = record {
+abbrev pub frame_at : Frame → ℕ → ℕ → Option (ℕ × ℕ) → Frame
+frame_at f a b (Some (k, i)) = record {
   clusters = set f.clusters k a;
   count_of_clusters = count_with f.count_of_clusters k;
   keys = set f.keys i (key_of k b);
   count = count_with f.count i;
 }
-frame_at f a b Full = f
+frame_at f a b None = f
 
 abbrev pub frame_next : List ℕ → Frame → ℕ → Frame
 frame_next words f j = frame_at f (block_word words j 0) (block_word words j 1) (position_in f (block_word words j 0) (block_word words j 1))
 
 -- whether there is room for the n blocks from j on
-abbrev pub has_room : Position → Bool
-has_room (At k i) = true
-has_room Full = false
+abbrev pub has_room : Option (ℕ × ℕ) → Bool
+has_room (Some (k, i)) = true
+has_room None = false
 
 unfoldable pub room_from : List ℕ → Frame → ℕ → ℕ → Bool
 room_from words f zero j = true
@@ -116,9 +110,9 @@ room_from words f (suc n) j =
     has_room (position_in f (block_word words j 0) (block_word words j 1)) && room_from words (frame_next words f j) n (j + 1)
 
 -- their places, a word for each
-abbrev pub position_word : Position → ℕ
-position_word (At k i) = k * max_entries + i
-position_word Full = 0
+abbrev pub position_word : Option (ℕ × ℕ) → ℕ
+position_word (Some (k, i)) = k * max_entries + i
+position_word None = 0
 
 unfoldable pub positions_from : List ℕ → Frame → ℕ → ℕ → List ℕ
 positions_from words f zero j = []
@@ -126,18 +120,18 @@ positions_from words f (suc n) j =
     position_word (position_in f (block_word words j 0) (block_word words j 1)) ∷ positions_from words (frame_next words f j) n (j + 1)
 
 -- where a word stands among the n that are held, or behind them among the m new ones
-abbrev pub behind : ℕ → Found → Found
-behind n (found.At j) = found.At (n + j)
-behind n found.Nothing = found.Nothing
+abbrev pub behind : ℕ → Option ℕ → Option ℕ
+behind n (Some j) = Some (n + j)
+behind n None = None
 
-abbrev pub or_else : Found → Found → Found
-or_else (found.At i) g = found.At i
-or_else found.Nothing g = g
+abbrev pub or_else : Option ℕ → Option ℕ → Option ℕ
+or_else (Some i) g = Some i
+or_else None g = g
 
-unfoldable pub found_in : List ℕ → ℕ → List ℕ → ℕ → ℕ → Found
+unfoldable pub found_in : List ℕ → ℕ → List ℕ → ℕ → ℕ → Option ℕ
 found_in held n new m x = or_else (word_at held n x) (behind n (word_at new m x))
 
 -- whether a place is that of a new word
-abbrev pub is_new : ℕ → Placed → Bool
-is_new n (placed.Here i) = not (ltb i n)
-is_new n placed.Full = false
+abbrev pub is_new : ℕ → Option ℕ → Bool
+is_new n (Some i) = not (ltb i n)
+is_new n None = false

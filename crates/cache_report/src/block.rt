@@ -18,9 +18,9 @@ pub struct NewEntry {
     pub value: Value,
 }
 
+// Why a block sets none. The contracts speak of `Result<NewEntry, Unfit>`.
 #[derive(Clone, Copy)]
-pub enum Judgement {
-    Taken(NewEntry),
+pub enum Unfit {
     // A text over the limit: 7.
     Long,
     // 6.
@@ -47,17 +47,13 @@ pub fn judge_alone(s: &[u8], blocks: &[u64; BLOCK_WORDS], n: usize) -> u8
     ensures { result ≡ alone_all (judgements_from s.now blocks.now n 0) }
 {
     let mut number: u8 = 0;
-    let mut j = 0;
-    while j < n {
+    for j in 0..n {
         let one = alone(s, blocks[3 * j], blocks[3 * j + 2]);
         if one == UNUSABLE {
             return UNUSABLE;
         }
         if one == NO_ROOM {
             number = NO_ROOM;
-            j += 1;
-        } else {
-            j += 1;
         }
     }
     number

@@ -4,7 +4,7 @@
 #![tactic(auto)]
 
 pub mod block; // block.rt: what a block gets by itself
-pub mod position; // spot.rt: where each block goes
+pub mod position; // position.rt: where each block goes
 pub mod set; // set.rt: an entry set
 pub mod part; // part.rt: all blocks of a part
 

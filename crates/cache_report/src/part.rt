@@ -73,8 +73,7 @@ pub fn take_part(
     let mut marks = [0u8; TEXT_PLACES];
     mark_places(kinds, words, counts.entries, &mut marks);
     let mut so = counts;
-    let mut j = 0;
-    while j < count {
+    for j in 0..count {
         let position = positions[j] as usize;
         let v = value_in(s, blocks[3 * j + 2] as usize);
         so = set_block(
@@ -95,7 +94,6 @@ pub fn take_part(
             blocks[3 * j + 1],
             v,
         );
-        j += 1;
     }
     so
 }

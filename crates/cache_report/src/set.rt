@@ -5,7 +5,6 @@ ghost use Rattle.cache_entries.specs.Entries.{held_of};
 ghost use Rattle.cache_entries.specs.Values.{usable_in, long_v};
 ghost use Rattle.cache_entries.specs.Texts.{text_place, Marked};
 ghost use Rattle.cache_entries.specs.Valid.{held_right, ColumnsSized};
-ghost use Rattle.cache_report.specs.declared.position.Position.TheVariants.{At};
 ghost use Rattle.cache_report.specs.Entry.{position_of, kind_v, word_as, with_item, text_stored};
 ghost use Rattle.cache_report.specs.Words.{item_words, length_v};
 
@@ -88,7 +87,7 @@ pub fn set_block(
     second: u64,
     v: Value,
 ) -> Counts
-    requires { ((primed : Bool) → held_right page.old (held_of clusters.old keys.old versions.old kinds.old words.old order.old lengths.old counts.clusters counts.entries primed) ≡ true) × (((primed : Bool) → ColumnsSized (held_of clusters.old keys.old versions.old kinds.old words.old order.old lengths.old counts.clusters counts.entries primed)) × (Marked kinds.old words.old counts.entries marks.old × ((first < 281474976710656) × ((usable_in s.now v ≡ true) × ((long_v v ≡ false) × ((primed : Bool) → position_of (held_of clusters.old keys.old versions.old kinds.old words.old order.old lengths.old counts.clusters counts.entries primed) (item_words first second v) ≡ At p i)))))) }
+    requires { ((primed : Bool) → held_right page.old (held_of clusters.old keys.old versions.old kinds.old words.old order.old lengths.old counts.clusters counts.entries primed) ≡ true) × (((primed : Bool) → ColumnsSized (held_of clusters.old keys.old versions.old kinds.old words.old order.old lengths.old counts.clusters counts.entries primed)) × (Marked kinds.old words.old counts.entries marks.old × ((first < 281474976710656) × ((usable_in s.now v ≡ true) × ((long_v v ≡ false) × ((primed : Bool) → position_of (held_of clusters.old keys.old versions.old kinds.old words.old order.old lengths.old counts.clusters counts.entries primed) (item_words first second v) ≡ Some (p, i))))))) }
     ensures { ((primed : Bool) → held_of clusters.new keys.new versions.new kinds.new words.new order.new lengths.new result.clusters result.entries primed ≡ with_item (held_of clusters.old keys.old versions.old kinds.old words.old order.old lengths.old counts.clusters counts.entries primed) p i (item_words first second v)) × ((page.new ≡ text_stored s.now page.old (text_place (held_of clusters.old keys.old versions.old kinds.old words.old order.old lengths.old counts.clusters counts.entries false) i) v) × (Marked kinds.new words.new result.entries marks.new × (second < 2 ^ 64))) }
 {
     let kind = kind_of(v);

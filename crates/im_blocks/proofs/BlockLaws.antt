@@ -1,5 +1,6 @@
 -- THE LAWS of paths, filters and statuses: what is read in the bytes is the meaning of the tree that they spell; and, for the code,
 -- what the readers' answers say.
+use Rattle.std.specs.Prelude.{None}
 use mathlib.Core.Path.{◌≡◌, refl, ap}
 use mathlib.Core.Bool.{true, false}
 use mathlib.Core.List.{List, map}
@@ -9,25 +10,14 @@ use Rattle.tlv_reader.specs.Octet.{structure, list, end_of_container}
 use Rattle.tlv_reader.specs.Tree.Tag.{anonymous}
 use Rattle.tlv_reader.specs.Tree.Tree.{container}
 use Rattle.tlv_reader.specs.Tree.Trees.{none}
-use Rattle.tlv_reader.specs.declared.Cursor.{Cursor}
-use Rattle.tlv_reader.specs.Walk.{Got, bind_g}
-use Rattle.tlv_reader.specs.Walk.Got.{got, bad}
+use Rattle.tlv_reader.specs.Walk.{bind_g}
 use Rattle.tlv_reader.specs.Decode.{place, tree_at}
-use Rattle.tlv_reader.specs.Decode.Opt.{nothing}
 use Rattle.im_members.specs.Fields.{slot_in, inside_t}
 use Rattle.im_members.proofs.MeaningLaws.{schema-law}
 use Rattle.im_members.proofs.ArrayLaws.{number-here, flag-here, wide-here, required-here}
-use Rattle.im_blocks.specs.declared.Path.{Path}
-use Rattle.im_blocks.specs.declared.ClusterPath.{ClusterPath}
-use Rattle.im_blocks.specs.declared.Status.{Status}
-use Rattle.im_blocks.specs.declared.Answer.{Answer}
-use Rattle.im_blocks.specs.declared.PathRead.TheVariants as path
-use Rattle.im_blocks.specs.declared.ClusterRead.TheVariants as cluster
-use Rattle.im_blocks.specs.declared.StatusRead.TheVariants as status
-use Rattle.im_blocks.specs.declared.AnswerRead.TheVariants as answer
-use Rattle.im_blocks.specs.Path.{checked, sound_path, path_tags, path_from, path_at, path_read, path_of, path_t}
-use Rattle.im_blocks.specs.Filter.{sound_cluster, cluster_tags, cluster_from, cluster_at, cluster_read, cluster_of, cluster_t, pair_tags, filter_from, filter_at, filter_slots, filter_t}
-use Rattle.im_blocks.specs.Status.{sound_status, status_from, status_at, status_read, status_of, status_t, answer_from, answer_at, answer_read, answer_of, answer_t}
+use Rattle.im_blocks.specs.Path.{checked, sound_path, path_tags, path_from, path_at, path_of, path_t}
+use Rattle.im_blocks.specs.Filter.{sound_cluster, cluster_tags, cluster_from, cluster_at, cluster_of, cluster_t, pair_tags, filter_from, filter_at, filter_slots, filter_t}
+use Rattle.im_blocks.specs.Status.{sound_status, status_from, status_at, status_of, status_t, answer_from, answer_at, answer_of, answer_t}
 
 -- ---- the laws
 
@@ -68,15 +58,15 @@ unfolding status_at status_t
 status-law d s at = schema-law structure (omega arith) (omega arith) pair_tags d s (status_from s) status_of (status-from (d - 1) s) at
 
 -- no schema takes the tree that stands for none
-pub no-path : path_t (container anonymous end_of_container none) ≡ nothing
+pub no-path : path_t (container anonymous end_of_container none) ≡ None
 unfolding path_t inside_t
 no-path = refl
 
-pub no-cluster : cluster_t (container anonymous end_of_container none) ≡ nothing
+pub no-cluster : cluster_t (container anonymous end_of_container none) ≡ None
 unfolding cluster_t inside_t
 no-cluster = refl
 
-pub no-status : status_t (container anonymous end_of_container none) ≡ nothing
+pub no-status : status_t (container anonymous end_of_container none) ≡ None
 unfolding status_t inside_t
 no-status = refl
 
@@ -90,7 +80,7 @@ unfolding answer_at answer_t answer_from answer_of
 answer-law d s at = schema-law structure (omega arith) (omega arith) pair_tags d s (answer_from (d - 1) s) answer_of
     (λ xs. rw (required-here (d - 1) s (path_at (d - 1) s) path_t (path-law (d - 1) s) no-path xs 0, required-here (d - 1) s (status_at (d - 1) s) status_t (status-law (d - 1) s) no-status xs 1) refl) at
 
-pub no_answer : answer_t (container anonymous end_of_container none) ≡ nothing
+pub no_answer : answer_t (container anonymous end_of_container none) ≡ None
 unfolding answer_t inside_t
 no_answer = refl
 
@@ -98,47 +88,3 @@ no_answer = refl
 
 pub never : {A : Type 0} → ◌≡◌ {A = ℕ} 0 1 → A
 never e = absurd (omega arith)
-
-pub path-lacks : (g : Got Path) → path_read g ≡ path.BadPath → g ≡ bad
-path-lacks bad e = refl
-path-lacks (got p n) e = never (cc)
-
-pub path-has : (g : Got Path) {p : Path} {n : Cursor} → path_read g ≡ path.Path p n → g ≡ got p n.at
-path-has bad e = never (cc)
-path-has (got q m) {p} {n} e =
-    let f : q ≡ p = cc in
-    let k : m ≡ n.at = cc in
-    rw (f, k) refl
-
-pub cluster-lacks : (g : Got ClusterPath) → cluster_read g ≡ cluster.BadCluster → g ≡ bad
-cluster-lacks bad e = refl
-cluster-lacks (got p n) e = never (cc)
-
-pub cluster-has : (g : Got ClusterPath) {p : ClusterPath} {n : Cursor} → cluster_read g ≡ cluster.ClusterPath p n → g ≡ got p n.at
-cluster-has bad e = never (cc)
-cluster-has (got q m) {p} {n} e =
-    let f : q ≡ p = cc in
-    let k : m ≡ n.at = cc in
-    rw (f, k) refl
-
-pub status-lacks : (g : Got Status) → status_read g ≡ status.BadStatus → g ≡ bad
-status-lacks bad e = refl
-status-lacks (got p n) e = never (cc)
-
-pub status-has : (g : Got Status) {p : Status} {n : Cursor} → status_read g ≡ status.Status p n → g ≡ got p n.at
-status-has bad e = never (cc)
-status-has (got q m) {p} {n} e =
-    let f : q ≡ p = cc in
-    let k : m ≡ n.at = cc in
-    rw (f, k) refl
-
-pub answer-lacks : (g : Got Answer) → answer_read g ≡ answer.BadAnswer → g ≡ bad
-answer-lacks bad e = refl
-answer-lacks (got p n) e = never (cc)
-
-pub answer-has : (g : Got Answer) {p : Answer} {n : Cursor} → answer_read g ≡ answer.Answer p n → g ≡ got p n.at
-answer-has bad e = never (cc)
-answer-has (got q m) {p} {n} e =
-    let f : q ≡ p = cc in
-    let k : m ≡ n.at = cc in
-    rw (f, k) refl

@@ -1,4 +1,5 @@
 -- What the code of each reader goes on with: its frame, and each way that it may be refused.
+use Rattle.std.specs.Prelude.{Some, None, Option}
 use mathlib.Core.Path.{◌≡◌, refl, sym, ap, ◌∙◌}
 use mathlib.Core.Bool.{Bool, true, false}
 use mathlib.Core.List.{List}
@@ -8,8 +9,7 @@ use lib.ListN.{get_or}
 use lib.Dec.{eqb}
 use Rattle.tlv_reader.specs.Octet.{pick}
 use Rattle.tlv_reader.specs.Walk.{Got}
-use Rattle.tlv_reader.specs.Decode.{Opt, bind_o}
-use Rattle.tlv_reader.specs.Decode.Opt.{just, nothing}
+use Rattle.tlv_reader.specs.Decode.{bind_o}
 use Rattle.im_members.specs.Scalar.{ABSENT, WRONG, number_in, flag_in, wide_in}
 use Rattle.im_members.specs.Array.{required_in}
 use Rattle.im_blocks.specs.declared.Path.{Path}
@@ -22,10 +22,10 @@ use Rattle.im_blocks.specs.Status.{sound_status, status_from, status_at, answer_
 use Rattle.im_blocks.specs.Data.{DataOf, any_in, data_from, data_at, shown, refused, maybe_in, report_from}
 
 -- what was checked
-pub checked-no : {A : Type 0} (sound : A → Bool) (x : A) → sound x ≡ false → checked sound x ≡ nothing
+pub checked-no : {A : Type 0} (sound : A → Bool) (x : A) → sound x ≡ false → checked sound x ≡ None
 checked-no sound x e = simp e
 
-pub checked-yes : {A : Type 0} (sound : A → Bool) (x : A) → sound x ≡ true → checked sound x ≡ just x
+pub checked-yes : {A : Type 0} (sound : A → Bool) (x : A) → sound x ≡ true → checked sound x ≡ Some x
 checked-yes sound x e = simp e
 
 -- ---- flat schemas: what was gathered is what the schema makes of the places
@@ -45,96 +45,96 @@ module _ (s : List ℕ) (xs : List ℕ) where
 
 -- ---- nested schemas, by what their members read as
 
-bind-none : {A B : Type 0} (o : Opt A) → ◌≡◌ {A = Opt B} (bind_o o (λ x. nothing)) nothing
-bind-none nothing = refl
-bind-none (just x) = refl
+bind-none : {A B : Type 0} (o : Option A) → ◌≡◌ {A = Option B} (bind_o o (λ x. None)) None
+bind-none None = refl
+bind-none (Some x) = refl
 
 module _ (d : ℕ) (s : List ℕ) (xs : List ℕ) where
-  pub filter-lacks : required_in (cluster_at d s) (get_or xs 0 0) ≡ nothing → filter_from d s xs ≡ nothing
+  pub filter-lacks : required_in (cluster_at d s) (get_or xs 0 0) ≡ None → filter_from d s xs ≡ None
   unfolding filter_from
   filter-lacks e = simp e
 
-  pub filter-has : {p : ClusterPath} {v : ℕ} → required_in (cluster_at d s) (get_or xs 0 0) ≡ just p → v ≡ number_in 4294967295 false s (get_or xs 1 0) → filter_from d s xs ≡ filter_of p v
+  pub filter-has : {p : ClusterPath} {v : ℕ} → required_in (cluster_at d s) (get_or xs 0 0) ≡ Some p → v ≡ number_in 4294967295 false s (get_or xs 1 0) → filter_from d s xs ≡ filter_of p v
   unfolding filter_from
   filter-has {p} e f = simp e (ap (filter_of p) (sym f))
 
-  pub answer-lacks-path : required_in (path_at d s) (get_or xs 0 0) ≡ nothing → answer_from d s xs ≡ nothing
+  pub answer-lacks-path : required_in (path_at d s) (get_or xs 0 0) ≡ None → answer_from d s xs ≡ None
   unfolding answer_from
   answer-lacks-path e = simp e
 
-  pub answer-lacks-status : required_in (status_at d s) (get_or xs 1 0) ≡ nothing → answer_from d s xs ≡ nothing
+  pub answer-lacks-status : required_in (status_at d s) (get_or xs 1 0) ≡ None → answer_from d s xs ≡ None
   unfolding answer_from
   answer-lacks-status e = simp e (bind-none (required_in (path_at d s) (get_or xs 0 0)))
 
-  pub answer-has : {p : Path} {x : Status} → required_in (path_at d s) (get_or xs 0 0) ≡ just p → required_in (status_at d s) (get_or xs 1 0) ≡ just x → answer_from d s xs ≡ just (record { path = p; status = x })
+  pub answer-has : {p : Path} {x : Status} → required_in (path_at d s) (get_or xs 0 0) ≡ Some p → required_in (status_at d s) (get_or xs 1 0) ≡ Some x → answer_from d s xs ≡ Some (record { path = p; status = x })
   unfolding answer_from
   answer-has e f = simp (e, f)
 
-  pub data-lacks-path : required_in (path_at d s) (get_or xs 1 0) ≡ nothing → data_from d s xs ≡ nothing
+  pub data-lacks-path : required_in (path_at d s) (get_or xs 1 0) ≡ None → data_from d s xs ≡ None
   unfolding data_from
   data-lacks-path e = simp e
 
-  pub data-lacks-data : get_or xs 2 0 ≡ 0 → data_from d s xs ≡ nothing
+  pub data-lacks-data : get_or xs 2 0 ≡ 0 → data_from d s xs ≡ None
   unfolding data_from any_in
   data-lacks-data e = simp (eq-eqb _ _ e) (bind-none (required_in (path_at d s) (get_or xs 1 0)))
 
-  data-either : (v : ℕ) → v ≡ WRONG → (p : Opt Path) (x : Opt ℕ) → ◌≡◌ {A = Opt (DataOf ℕ)} (bind_o p (λ q. bind_o x (λ y. pick (eqb v WRONG) nothing (just (record { version = v; path = q; element = y }))))) nothing
-  data-either v e nothing x = refl
-  data-either v e (just q) nothing = refl
-  data-either v e (just q) (just y) = rw (eq-eqb v WRONG e) refl
+  data-either : (v : ℕ) → v ≡ WRONG → (p : Option Path) (x : Option ℕ) → ◌≡◌ {A = Option (DataOf ℕ)} (bind_o p (λ q. bind_o x (λ y. pick (eqb v WRONG) None (Some (record { version = v; path = q; element = y }))))) None
+  data-either v e None x = refl
+  data-either v e (Some q) None = refl
+  data-either v e (Some q) (Some y) = rw (eq-eqb v WRONG e) refl
 
-  pub data-wrong : {v : ℕ} → v ≡ number_in 4294967295 false s (get_or xs 0 0) → v ≡ WRONG → data_from d s xs ≡ nothing
+  pub data-wrong : {v : ℕ} → v ≡ number_in 4294967295 false s (get_or xs 0 0) → v ≡ WRONG → data_from d s xs ≡ None
   unfolding data_from
   data-wrong e w = data-either (number_in 4294967295 false s (get_or xs 0 0)) (sym e ∙ w) (required_in (path_at d s) (get_or xs 1 0)) (any_in (get_or xs 2 0))
 
-  pub data-has : {p : Path} {v : ℕ} → required_in (path_at d s) (get_or xs 1 0) ≡ just p → (get_or xs 2 0 ≡ 0 → ⊥) → v ≡ number_in 4294967295 false s (get_or xs 0 0) → (v ≡ WRONG → ⊥) → data_from d s xs ≡ just (record { version = v; path = p; element = get_or xs 2 0 - 1 })
+  pub data-has : {p : Path} {v : ℕ} → required_in (path_at d s) (get_or xs 1 0) ≡ Some p → (get_or xs 2 0 ≡ 0 → ⊥) → v ≡ number_in 4294967295 false s (get_or xs 0 0) → (v ≡ WRONG → ⊥) → data_from d s xs ≡ Some (record { version = v; path = p; element = get_or xs 2 0 - 1 })
   unfolding data_from any_in
   data-has e n f w = rw (e, ne_eqb (get_or xs 2 0) 0 n, ← f, ne_eqb _ WRONG w) refl
 
 -- ---- reports
 
 module _ (d : ℕ) (s : List ℕ) (xs : List ℕ) where
-  maybe-none : {A : Type 0} (read : ℕ → Got A) (p : ℕ) → p ≡ 0 → maybe_in read p ≡ nothing
+  maybe-none : {A : Type 0} (read : ℕ → Got A) (p : ℕ) → p ≡ 0 → maybe_in read p ≡ None
   unfolding maybe_in
   maybe-none read p e = simp (eq-eqb p 0 e)
 
-  maybe-some : {A : Type 0} (read : ℕ → Got A) (p : ℕ) → (p ≡ 0 → ⊥) → {o : Opt A} → required_in read p ≡ o → maybe_in read p ≡ just o
+  maybe-some : {A : Type 0} (read : ℕ → Got A) (p : ℕ) → (p ≡ 0 → ⊥) → {o : Option A} → required_in read p ≡ o → maybe_in read p ≡ Some o
   unfolding maybe_in
   maybe-some read p n e = simp (ne_eqb p 0 n, e)
 
-  pub report-neither : get_or xs 0 0 ≡ 0 → get_or xs 1 0 ≡ 0 → report_from d s xs ≡ nothing
+  pub report-neither : get_or xs 0 0 ≡ 0 → get_or xs 1 0 ≡ 0 → report_from d s xs ≡ None
   unfolding report_from
   report-neither e f = rw (maybe-none (answer_at d s) (get_or xs 0 0) e, maybe-none (data_at d s) (get_or xs 1 0) f) refl
 
-  pub report-data : get_or xs 0 0 ≡ 0 → (get_or xs 1 0 ≡ 0 → ⊥) → {o : Opt (DataOf ℕ)} → required_in (data_at d s) (get_or xs 1 0) ≡ o → report_from d s xs ≡ bind_o o (λ x. just (shown x))
+  pub report-data : get_or xs 0 0 ≡ 0 → (get_or xs 1 0 ≡ 0 → ⊥) → {o : Option (DataOf ℕ)} → required_in (data_at d s) (get_or xs 1 0) ≡ o → report_from d s xs ≡ bind_o o (λ x. Some (shown x))
   unfolding report_from
   report-data e n f = rw (maybe-none (answer_at d s) (get_or xs 0 0) e, maybe-some (data_at d s) (get_or xs 1 0) n f) refl
 
-  pub report-both : (get_or xs 0 0 ≡ 0 → ⊥) → (get_or xs 1 0 ≡ 0 → ⊥) → report_from d s xs ≡ nothing
+  pub report-both : (get_or xs 0 0 ≡ 0 → ⊥) → (get_or xs 1 0 ≡ 0 → ⊥) → report_from d s xs ≡ None
   unfolding report_from
   report-both n m = rw (maybe-some (answer_at d s) (get_or xs 0 0) n refl, maybe-some (data_at d s) (get_or xs 1 0) m refl) refl
 
-  pub report-status : (get_or xs 0 0 ≡ 0 → ⊥) → get_or xs 1 0 ≡ 0 → {o : Opt Answer} → required_in (answer_at d s) (get_or xs 0 0) ≡ o → report_from d s xs ≡ bind_o o (λ x. just (refused x))
+  pub report-status : (get_or xs 0 0 ≡ 0 → ⊥) → get_or xs 1 0 ≡ 0 → {o : Option Answer} → required_in (answer_at d s) (get_or xs 0 0) ≡ o → report_from d s xs ≡ bind_o o (λ x. Some (refused x))
   unfolding report_from
   report-status n e f = rw (maybe-some (answer_at d s) (get_or xs 0 0) n f, maybe-none (data_at d s) (get_or xs 1 0) e) refl
 
-  pub report-no-answer : (get_or xs 0 0 ≡ 0 → ⊥) → required_in (answer_at d s) (get_or xs 0 0) ≡ nothing → report_from d s xs ≡ nothing
+  pub report-no-answer : (get_or xs 0 0 ≡ 0 → ⊥) → required_in (answer_at d s) (get_or xs 0 0) ≡ None → report_from d s xs ≡ None
   report-no-answer n f = go (eqb (get_or xs 1 0) 0) refl
     where
-      go : (b : Bool) → eqb (get_or xs 1 0) 0 ≡ b → report_from d s xs ≡ nothing
+      go : (b : Bool) → eqb (get_or xs 1 0) 0 ≡ b → report_from d s xs ≡ None
       go true e = report-status n (eqb-true (get_or xs 1 0) 0 e) f
       go false e = report-both n (eqb-false (get_or xs 1 0) 0 e)
 
-  pub report-no-data : (get_or xs 1 0 ≡ 0 → ⊥) → required_in (data_at d s) (get_or xs 1 0) ≡ nothing → report_from d s xs ≡ nothing
+  pub report-no-data : (get_or xs 1 0 ≡ 0 → ⊥) → required_in (data_at d s) (get_or xs 1 0) ≡ None → report_from d s xs ≡ None
   report-no-data n f = go (eqb (get_or xs 0 0) 0) refl
     where
-      go : (b : Bool) → eqb (get_or xs 0 0) 0 ≡ b → report_from d s xs ≡ nothing
+      go : (b : Bool) → eqb (get_or xs 0 0) 0 ≡ b → report_from d s xs ≡ None
       go true e = report-data (eqb-true (get_or xs 0 0) 0 e) n f
       go false e = report-both (eqb-false (get_or xs 0 0) 0 e) n
 
 -- a filter's version is required
-pub filter-over : (p : ClusterPath) (v : ℕ) → ABSENT ≤ v → filter_of p v ≡ nothing
+pub filter-over : (p : ClusterPath) (v : ℕ) → ABSENT ≤ v → filter_of p v ≡ None
 filter-over p v l = rw (le-ltb v ABSENT l) refl
 
-pub filter-under : (p : ClusterPath) (v : ℕ) → v < ABSENT → filter_of p v ≡ just (record { path = p; version = v })
+pub filter-under : (p : ClusterPath) (v : ℕ) → v < ABSENT → filter_of p v ≡ Some (record { path = p; version = v })
 filter-under p v l = rw (lt-ltb v ABSENT l) refl

@@ -1,4 +1,5 @@
 -- HOW MANY BYTES a block takes: the listed members of a container lie in it, one beside the other, each with its head and its end.
+use Rattle.std.specs.Prelude.{Some, None, Option}
 use mathlib.Core.Path.{◌≡◌, refl, sym, ap, subst, ◌∙◌}
 use mathlib.Core.Bool.{Bool, true, false}
 use mathlib.Core.List.{List, [], ◌∷◌}
@@ -9,14 +10,11 @@ use lib.ListN.{length, get_or, set, replicate}
 use lib.Dec.{ltb, eqb}
 use Rattle.base_octets.specs.Number.{number_at}
 use Rattle.tlv_reader.specs.declared.Element.{Element}
-use Rattle.tlv_reader.specs.declared.Head.{Head}
-use Rattle.tlv_reader.specs.declared.Head.TheVariants.{Found, Malformed}
 use Rattle.tlv_reader.specs.Octet.{pick, tag_width, number_width, is_string, structure, list, end_of_container}
 use Rattle.tlv_reader.specs.Head.{head_at, closed_at, formed_at}
 use Rattle.tlv_reader.specs.Walk.{Got, bind_g, allowed_in, fold_by, fold_at, headed, element_by, element_end}
 use Rattle.tlv_reader.specs.Walk.Got.{got, bad}
-use Rattle.tlv_reader.specs.Decode.{Opt, bind_o, place}
-use Rattle.tlv_reader.specs.Decode.Opt.{just, nothing}
+use Rattle.tlv_reader.specs.Decode.{bind_o, place}
 use Rattle.tlv_reader.proofs.Picks.{pick-elim, choose-elim}
 use Rattle.tlv_reader.proofs.FoldLaws.{Ahead, fold-ahead}
 use Rattle.tlv_reader.proofs.WalkLaws.{end-forward}
@@ -36,23 +34,23 @@ use Rattle.im_blocks.proofs.OnLaws.{path-reads, status-reads, answer-reads, data
 
 -- ---- a head takes one byte and its tag
 
-abbrev Tagged : ℕ → Head → Type 0
-Tagged at Malformed = Unit {0}
-Tagged at (Found e) = at + 1 + tag_width e.form ≤ e.next.at
+abbrev Tagged : ℕ → Option Element → Type 0
+Tagged at None = Unit {0}
+Tagged at (Some e) = at + 1 + tag_width e.form ≤ e.next.at
 
 head-tagged : (s : List ℕ) (at : ℕ) → Tagged at (head_at s at)
 unfolding head_at closed_at
 head-tagged s at =
-    let P : Head → Type 0 = Tagged at in
+    let P : Option Element → Type 0 = Tagged at in
     let form = get_or s at 0 / 32 in
     let kind = get_or s at 0 % 32 in
     let tw = tag_width form in
     let nw = number_width kind in
-    pick-elim P (ltb at (length s)) (formed_at s at form kind) Malformed
-    (λ _. pick-elim P (ltb end_of_container kind) Malformed _ (λ _. tt)
-    (λ _. pick-elim P (pick (eqb kind end_of_container) (ltb 0 form) false) Malformed _ (λ _. tt)
-    (λ _. pick-elim P (ltb (length s - (at + 1)) (tw + nw)) Malformed _ (λ _. tt)
-    (λ _. pick-elim P (is_string kind) _ _ (λ _. pick-elim P (ltb (length s - (at + 1 + tw + nw)) (number_at nw s (at + 1 + tw))) Malformed _ (λ _. tt) (λ _. omega arith)) (λ _. omega arith)))))
+    pick-elim P (ltb at (length s)) (formed_at s at form kind) None
+    (λ _. pick-elim P (ltb end_of_container kind) None _ (λ _. tt)
+    (λ _. pick-elim P (pick (eqb kind end_of_container) (ltb 0 form) false) None _ (λ _. tt)
+    (λ _. pick-elim P (ltb (length s - (at + 1)) (tw + nw)) None _ (λ _. tt)
+    (λ _. pick-elim P (is_string kind) _ _ (λ _. pick-elim P (ltb (length s - (at + 1 + tw + nw)) (number_at nw s (at + 1 + tw))) None _ (λ _. tt) (λ _. omega arith)) (λ _. omega arith)))))
     (λ _. tt)
 
 -- an element ends where its head ends, or after that
@@ -78,7 +76,7 @@ abbrev pub Grown : {S : Type 0} → (S → ℕ) → ℕ → ℕ → Got S → Ty
 Grown m at k bad = Unit {0}
 Grown m at k (got y n) = at + m y ≤ n + k
 
-module _ {S : Type 0} (m : S → ℕ) (step : S → ℕ → Element → Got S) (s : List ℕ) (grows : (x : S) (at : ℕ) (e : Element) → head_at s at ≡ Found e → Grown m at (m x) (step x at e)) (kind : ℕ) where
+module _ {S : Type 0} (m : S → ℕ) (step : S → ℕ → Element → Got S) (s : List ℕ) (grows : (x : S) (at : ℕ) (e : Element) → head_at s at ≡ Some e → Grown m at (m x) (step x at e)) (kind : ℕ) where
   further : (at k : ℕ) (g : Got S) (f : S → ℕ → Got S) → Grown m at k g → ((y : S) (n : ℕ) → Grown m (n + 1) (m y) (f y n)) → Grown m (at + 1) k (bind_g g f)
   further at k bad f h r = tt
   further at k (got y n) f h r = go (f y n) (r y n)
@@ -87,10 +85,10 @@ module _ {S : Type 0} (m : S → ℕ) (step : S → ℕ → Element → Got S) (
       go bad q = tt
       go (got z i) q = omega (arith, h, q)
 
-  grown-by : (x : S) (at : ℕ) (rest : S → ℕ → Got S) → ((y : S) (n : ℕ) → Grown m (n + 1) (m y) (rest y n)) → (h : Head) → head_at s at ≡ h → Grown m (at + 1) (m x) (fold_by kind x (step x at) rest h)
+  grown-by : (x : S) (at : ℕ) (rest : S → ℕ → Got S) → ((y : S) (n : ℕ) → Grown m (n + 1) (m y) (rest y n)) → (h : (Option Element)) → head_at s at ≡ h → Grown m (at + 1) (m x) (fold_by kind x (step x at) rest h)
   unfolding fold_by
-  grown-by x at rest r Malformed h = tt
-  grown-by x at rest r (Found e) h =
+  grown-by x at rest r None h = tt
+  grown-by x at rest r (Some e) h =
       choose-elim (Grown m (at + 1) (m x)) (eqb e.kind end_of_container) _ _ (λ _. (let w = (within s at h).0 in omega arith))
       (λ _. choose-elim (Grown m (at + 1) (m x)) (allowed_in kind e.form) _ _ (λ _. further at (m x) (step x at e) rest (grows x at e h) r) (λ _. tt))
 
@@ -139,7 +137,7 @@ module _ (d : ℕ) (s : List ℕ) where
   unfolding weight
   weight-none = refl
 
-  weight-here : (at : ℕ) {e : Element} → head_at s at ≡ Found e → weight d s (at + 1) ≡ 2 + beyond e.next.at (element_end d s e)
+  weight-here : (at : ℕ) {e : Element} → head_at s at ≡ Some e → weight d s (at + 1) ≡ 2 + beyond e.next.at (element_end d s e)
   unfolding weight
   weight-here at h = let q : at + 1 - 1 ≡ at = omega arith in simp (ne_eqb (at + 1) 0 (λ y. omega arith), q, h)
 
@@ -147,9 +145,9 @@ module _ (d : ℕ) (s : List ℕ) where
   unfolding weight
   weight-there p n = rw (ne_eqb p 0 n) (go (head_at s (p - 1)))
     where
-      go : (h : Head) → 2 ≤ headed 2 (λ e. 2 + beyond e.next.at (element_end d s e)) h
-      go Malformed = omega arith
-      go (Found e) = omega arith
+      go : (h : (Option Element)) → 2 ≤ headed 2 (λ e. 2 + beyond e.next.at (element_end d s e)) h
+      go None = omega arith
+      go (Some e) = omega arith
 
   -- a listed member has a context tag
   listed-form : (tags : List Bool) (form tag : ℕ) → ltb (slot_of tags form tag) 10 ≡ true → form ≡ 1
@@ -160,7 +158,7 @@ module _ (d : ℕ) (s : List ℕ) where
       go true q r = eqb-true form 1 q
       go false q r = absurd (let y = ltb-true 10 10 r in omega arith)
 
-  member-grows : (tags : List Bool) (seen : List ℕ) (at : ℕ) (e : Element) → head_at s at ≡ Found e → Grown (total (weight d s)) at (total (weight d s) seen) (field_step d s tags seen at e)
+  member-grows : (tags : List Bool) (seen : List ℕ) (at : ℕ) (e : Element) → head_at s at ≡ Some e → Grown (total (weight d s)) at (total (weight d s) seen) (field_step d s tags seen at e)
   unfolding field_step put_at tag_width
   member-grows tags seen at e h = go (element_end d s e) refl
     where
@@ -190,9 +188,9 @@ module _ (d : ℕ) (s : List ℕ) where
 
 -- ---- a frame: its members are in it
 
-record Sized {A : Type 0} (d : ℕ) (s : List ℕ) (F : List ℕ → Opt A) (at : ℕ) (x : A) (n : ℕ) : Type 0 where
+record Sized {A : Type 0} (d : ℕ) (s : List ℕ) (F : List ℕ → Option A) (at : ℕ) (x : A) (n : ℕ) : Type 0 where
   pub seen : List ℕ
-  pub made : F seen ≡ just x
+  pub made : F seen ≡ Some x
   pub size : at + 1 + total (weight (d - 1) s) seen ≤ n
 
 module _ (kind d : ℕ) (s : List ℕ) (tags : List Bool) (e : Element) where
@@ -207,34 +205,34 @@ module _ (kind d : ℕ) (s : List ℕ) (tags : List Bool) (e : Element) where
       go true q true r = subst P (sym (on-deep kind d s tags e (eqb-true d 0 r))) tt
       go true q false r = subst P (sym (on_in kind d s tags e (eqb-true e.kind kind q) (eqb-false d 0 r))) (fields-size (d - 1) s kind tags e.next.at)
 
-  frame-size : {A : Type 0} (F : List ℕ → Opt A) {x : A} {n : ℕ} → frame_on kind d s tags F e ≡ got x n → Sized d s F e.next.at x n
+  frame-size : {A : Type 0} (F : List ℕ → Option A) {x : A} {n : ℕ} → frame_on kind d s tags F e ≡ got x n → Sized d s F e.next.at x n
   frame-size {A} F {x} {n} w = go (inside_on kind d s tags e) inside-size w
     where
-      put : (xs : List ℕ) (m : ℕ) (o : Opt A) → F xs ≡ o → e.next.at + 1 + total (weight (d - 1) s) xs ≤ m + 0 → place o m ≡ got x n → Sized d s F e.next.at x n
-      put xs m nothing q l z = never (cc)
-      put xs m (just y) q l z =
+      put : (xs : List ℕ) (m : ℕ) (o : Option A) → F xs ≡ o → e.next.at + 1 + total (weight (d - 1) s) xs ≤ m + 0 → place o m ≡ got x n → Sized d s F e.next.at x n
+      put xs m None q l z = never (cc)
+      put xs m (Some y) q l z =
           let f : y ≡ x = cc in
           let k : m ≡ n = cc in
-          record { seen = xs; made = q ∙ ap just f; size = omega arith }
+          record { seen = xs; made = q ∙ ap Some f; size = omega arith }
 
       go : (g : Got (List ℕ)) → Grown (total (weight (d - 1) s)) (e.next.at + 1) 0 g → bind_g g (λ seen m. place (F seen) m) ≡ got x n → Sized d s F e.next.at x n
       go bad l z = never (cc)
       go (got xs m) l z = put xs m (F xs) refl l z
 
 -- a member that its reader reads to so many bytes beyond its head
-required-size : {B : Type 0} (d : ℕ) (s : List ℕ) {read : ℕ → Got B} {on : Element → Got B} → Reads d s read on → (k : ℕ) → ((e : Element) (x : B) (n : ℕ) → on e ≡ got x n → e.next.at + k ≤ n) → (p : ℕ) {x : B} → required_in read p ≡ just x → 2 + k ≤ weight d s p
+required-size : {B : Type 0} (d : ℕ) (s : List ℕ) {read : ℕ → Got B} {on : Element → Got B} → Reads d s read on → (k : ℕ) → ((e : Element) (x : B) (n : ℕ) → on e ≡ got x n → e.next.at + k ≤ n) → (p : ℕ) {x : B} → required_in read p ≡ Some x → 2 + k ≤ weight d s p
 unfolding required_in weight
 required-size {B} d s {read} {on} reads k least p {x} w = go (eqb p 0) w
   where
-    found : (e : Element) → head_at s (p - 1) ≡ Found e → (g : Got B) → on e ≡ g → opt_of g ≡ just x → 2 + k ≤ 2 + beyond e.next.at (element_end d s e)
+    found : (e : Element) → head_at s (p - 1) ≡ Some e → (g : Got B) → on e ≡ g → opt_of g ≡ Some x → 2 + k ≤ 2 + beyond e.next.at (element_end d s e)
     found e h bad q z = never (cc)
     found e h (got y n) q z = let a = least e y n q in rw (reads.ends e y n q) (omega arith)
 
-    there : (h : Head) → head_at s (p - 1) ≡ h → opt_of (read (p - 1)) ≡ just x → 2 + k ≤ headed 2 (λ e. 2 + beyond e.next.at (element_end d s e)) h
-    there Malformed h z = never (let y : nothing ≡ just x = sym (ap opt_of (reads.none (p - 1) h)) ∙ z in cc)
-    there (Found e) h z = found e h (on e) refl (sym (ap opt_of (reads.here (p - 1) e h)) ∙ z)
+    there : (h : (Option Element)) → head_at s (p - 1) ≡ h → opt_of (read (p - 1)) ≡ Some x → 2 + k ≤ headed 2 (λ e. 2 + beyond e.next.at (element_end d s e)) h
+    there None h z = never (let y : None ≡ Some x = sym (ap opt_of (reads.none (p - 1) h)) ∙ z in cc)
+    there (Some e) h z = found e h (on e) refl (sym (ap opt_of (reads.here (p - 1) e h)) ∙ z)
 
-    go : (b : Bool) → pick b nothing (opt_of (read (p - 1))) ≡ just x → 2 + k ≤ pick b 0 (headed 2 (λ e. 2 + beyond e.next.at (element_end d s e)) (head_at s (p - 1)))
+    go : (b : Bool) → pick b None (opt_of (read (p - 1))) ≡ Some x → 2 + k ≤ pick b 0 (headed 2 (λ e. 2 + beyond e.next.at (element_end d s e)) (head_at s (p - 1)))
     go true z = never (cc)
     go false z = there (head_at s (p - 1)) refl z
 
@@ -249,24 +247,24 @@ module _ (d : ℕ) (s : List ℕ) (e : Element) where
   unfolding status_on
   status-size x n w = let z = frame-size structure d s pair_tags e (status_from s) w in omega (arith, z.size)
 
-path-weight : (d : ℕ) (s : List ℕ) (p : ℕ) {x : Path} → required_in (path_at d s) p ≡ just x → 3 ≤ weight d s p
+path-weight : (d : ℕ) (s : List ℕ) (p : ℕ) {x : Path} → required_in (path_at d s) p ≡ Some x → 3 ≤ weight d s p
 path-weight d s p w = required-size d s (path-reads d s) 1 (path-size d s) p w
 
-status-weight : (d : ℕ) (s : List ℕ) (p : ℕ) {x : Status} → required_in (status_at d s) p ≡ just x → 3 ≤ weight d s p
+status-weight : (d : ℕ) (s : List ℕ) (p : ℕ) {x : Status} → required_in (status_at d s) p ≡ Some x → 3 ≤ weight d s p
 status-weight d s p w = required-size d s (status-reads d s) 1 (status-size d s) p w
 
-any-weight : (d : ℕ) (s : List ℕ) (p : ℕ) {x : ℕ} → any_in p ≡ just x → 2 ≤ weight d s p
+any-weight : (d : ℕ) (s : List ℕ) (p : ℕ) {x : ℕ} → any_in p ≡ Some x → 2 ≤ weight d s p
 unfolding any_in
 any-weight d s p {x} w = go (eqb p 0) refl w
   where
-    go : (b : Bool) → eqb p 0 ≡ b → pick b nothing (just (p - 1)) ≡ just x → 2 ≤ weight d s p
+    go : (b : Bool) → eqb p 0 ≡ b → pick b None (Some (p - 1)) ≡ Some x → 2 ≤ weight d s p
     go true q z = never (cc)
     go false q z = weight-there d s p (eqb-false p 0 q)
 
 -- what was made of parts was made of each
-bound : {A B : Type 0} (o : Opt A) {f : A → Opt B} {y : B} → bind_o o f ≡ just y → (x : A) × (o ≡ just x) × (f x ≡ just y)
-bound nothing e = never (cc)
-bound (just x) e = (x, refl, e)
+bound : {A B : Type 0} (o : Option A) {f : A → Option B} {y : B} → bind_o o f ≡ Some y → (x : A) × (o ≡ Some x) × (f x ≡ Some y)
+bound None e = never (cc)
+bound (Some x) e = (x, refl, e)
 
 module _ (d : ℕ) (s : List ℕ) (e : Element) where
   answer-size : (x : Answer) (n : ℕ) → answer_on d s e ≡ got x n → e.next.at + 7 ≤ n
@@ -285,30 +283,30 @@ module _ (d : ℕ) (s : List ℕ) (e : Element) where
       let q = bound (any_in (get_or z.seen 2 0)) p.2 in
       omega (arith, z.size, path-weight (d - 1) s _ p.1, any-weight (d - 1) s _ q.1, total-two (weight (d - 1) s) (weight-none (d - 1) s) z.seen 1 2 (omega arith))
 
-answer-weight : (d : ℕ) (s : List ℕ) (p : ℕ) {x : Answer} → required_in (answer_at d s) p ≡ just x → 9 ≤ weight d s p
+answer-weight : (d : ℕ) (s : List ℕ) (p : ℕ) {x : Answer} → required_in (answer_at d s) p ≡ Some x → 9 ≤ weight d s p
 answer-weight d s p w = required-size d s (answer-reads d s) 7 (answer-size d s) p w
 
-data-weight : (d : ℕ) (s : List ℕ) (p : ℕ) {x : DataOf ℕ} → required_in (data_at d s) p ≡ just x → 8 ≤ weight d s p
+data-weight : (d : ℕ) (s : List ℕ) (p : ℕ) {x : DataOf ℕ} → required_in (data_at d s) p ≡ Some x → 8 ≤ weight d s p
 data-weight d s p w = required-size d s (data_reads d s) 6 (data-size d s) p w
 
 -- a member that is there is what it reads as
-there : {A : Type 0} (read : ℕ → Got A) (p : ℕ) {o : Opt A} → maybe_in read p ≡ just o → required_in read p ≡ o
+there : {A : Type 0} (read : ℕ → Got A) (p : ℕ) {o : Option A} → maybe_in read p ≡ Some o → required_in read p ≡ o
 unfolding maybe_in
 there {A} read p {o} w = go (eqb p 0) w
   where
-    go : (b : Bool) → pick b nothing (just (required_in read p)) ≡ just o → required_in read p ≡ o
+    go : (b : Bool) → pick b None (Some (required_in read p)) ≡ Some o → required_in read p ≡ o
     go true z = never (cc)
     go false z = cc
 
-report-weight : (d : ℕ) (s : List ℕ) (xs : List ℕ) {x : ReportOf ℕ} → report_from d s xs ≡ just x → 8 ≤ total (weight d s) xs
+report-weight : (d : ℕ) (s : List ℕ) (xs : List ℕ) {x : ReportOf ℕ} → report_from d s xs ≡ Some x → 8 ≤ total (weight d s) xs
 unfolding report_from
 report-weight d s xs {x} w = go (maybe_in (answer_at d s) (get_or xs 0 0)) refl (maybe_in (data_at d s) (get_or xs 1 0)) refl w
   where
-    go : (a : Opt (Opt Answer)) → maybe_in (answer_at d s) (get_or xs 0 0) ≡ a → (b : Opt (Opt (DataOf ℕ))) → maybe_in (data_at d s) (get_or xs 1 0) ≡ b → either a b ≡ just x → 8 ≤ total (weight d s) xs
-    go nothing q nothing r z = never (cc)
-    go (just a) q (just b) r z = never (cc)
-    go (just a) q nothing r z = let y = bound a z in omega (arith, answer-weight d s (get_or xs 0 0) (there (answer_at d s) (get_or xs 0 0) q ∙ y.1), total-one (weight d s) (weight-none d s) xs 0)
-    go nothing q (just b) r z = let y = bound b z in omega (arith, data-weight d s (get_or xs 1 0) (there (data_at d s) (get_or xs 1 0) r ∙ y.1), total-one (weight d s) (weight-none d s) xs 1)
+    go : (a : Option (Option Answer)) → maybe_in (answer_at d s) (get_or xs 0 0) ≡ a → (b : Option (Option (DataOf ℕ))) → maybe_in (data_at d s) (get_or xs 1 0) ≡ b → either a b ≡ Some x → 8 ≤ total (weight d s) xs
+    go None q None r z = never (cc)
+    go (Some a) q (Some b) r z = never (cc)
+    go (Some a) q None r z = let y = bound a z in omega (arith, answer-weight d s (get_or xs 0 0) (there (answer_at d s) (get_or xs 0 0) q ∙ y.1), total-one (weight d s) (weight-none d s) xs 0)
+    go None q (Some b) r z = let y = bound b z in omega (arith, data-weight d s (get_or xs 1 0) (there (data_at d s) (get_or xs 1 0) r ∙ y.1), total-one (weight d s) (weight-none d s) xs 1)
 
 -- THE LAW: a block of a report takes nine bytes and more after its head
 pub report-size : (d : ℕ) (s : List ℕ) (e : Element) (x : ReportOf ℕ) (n : ℕ) → report_on d s e ≡ got x n → e.next.at + 9 ≤ n

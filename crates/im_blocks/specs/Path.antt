@@ -1,23 +1,19 @@
 -- Attribute paths (chapter 10, 10.5.2): in bytes and in trees, and which of them RULES 6.11 refuses.
-use Rattle.std.specs.Prelude.{ℕ, List, [], ◌∷◌, Bool, true, false, not, get_or, ltb, eqb}
+use Rattle.std.specs.Prelude.{ℕ, List, [], ◌∷◌, Bool, true, false, not, get_or, ltb, eqb, Some, None, Option}
 use Rattle.tlv_reader.specs.Octet.{pick, list}
 use Rattle.tlv_reader.specs.Tree.{Tree}
 use Rattle.tlv_reader.specs.Walk.{Got, bind_g}
-use Rattle.tlv_reader.specs.Walk.Got.{got, bad}
-use Rattle.tlv_reader.specs.Decode.{Opt, bind_o, place}
-use Rattle.tlv_reader.specs.Decode.Opt.{just, nothing}
+use Rattle.tlv_reader.specs.Decode.{bind_o, place}
 use Rattle.tlv_reader.specs.declared.Element.{Element}
 use Rattle.im_members.specs.Pass.{frame_on}
 use Rattle.im_members.specs.Fields.{Slot, inside_at, inside_t}
 use Rattle.im_members.specs.Fields.Slot.{absent}
 use Rattle.im_members.specs.Scalar.{ABSENT, WRONG, number_in, flag_in, wide_in, number_t, flag_t, wide_t}
 use Rattle.im_blocks.specs.declared.Path.{Path}
-use Rattle.im_blocks.specs.declared.PathRead.{PathRead}
-use Rattle.im_blocks.specs.declared.PathRead.TheVariants as read
 
 -- something read, if a test holds of it
-abbrev pub checked : {A : Type 0} → (A → Bool) → A → Opt A
-checked sound x = pick (sound x) (just x) nothing
+abbrev pub checked : {A : Type 0} → (A → Bool) → A → Option A
+checked sound x = pick (sound x) (Some x) None
 
 -- no part of a wrong type or range
 unfoldable pub sound_path : Path → Bool
@@ -42,7 +38,7 @@ path_with flag wide number at = record {
   index = number 65535 true (at 5);
 }
 
-unfoldable pub path_from : List ℕ → List ℕ → Opt Path
+unfoldable pub path_from : List ℕ → List ℕ → Option Path
 path_from s seen = checked sound_path (path_with (flag_in s) (wide_in s) (λ m b p. number_in m b s p) (λ i. get_or seen i 0))
 
 unfoldable pub path_at : ℕ → List ℕ → ℕ → Got Path
@@ -52,15 +48,11 @@ path_at d s at = bind_g (inside_at list d s path_tags at) (λ seen n. place (pat
 unfoldable pub path_on : ℕ → List ℕ → Element → Got Path
 path_on d s e = frame_on list d s path_tags (path_from s) e
 
-abbrev pub path_read : Got Path → PathRead
-path_read bad = read.BadPath
-path_read (got p n) = read.Path p (record { at = n })
-
 -- THE MEANING of a tree as a path
-unfoldable pub path_of : List Slot → Opt Path
+unfoldable pub path_of : List Slot → Option Path
 path_of xs = checked sound_path (path_with flag_t wide_t number_t (λ i. get_or xs i absent))
 
-unfoldable pub path_t : Tree → Opt Path
+unfoldable pub path_t : Tree → Option Path
 path_t t = bind_o (inside_t list path_tags t) path_of
 
 -- RULES 6.11 b: Node, ListIndex or compression true

@@ -3,13 +3,14 @@
 #![tactic(auto)]
 
 ghost use Rattle.std.specs.Prelude.{◌≡◌};
-ghost use Rattle.im_blocks.specs.Path.{sound_path, path_on, path_read, banned, loose, askable_p, exact_p};
-ghost use Rattle.im_blocks.specs.Filter.{sound_cluster, cluster_on, cluster_read, filter_on, filter_read};
-ghost use Rattle.im_blocks.specs.Status.{sound_status, status_on, status_at, status_read, answer_on, answer_read};
+ghost use Rattle.im_blocks.specs.Path.{sound_path, path_on, banned, loose, askable_p, exact_p};
+ghost use Rattle.im_blocks.specs.Filter.{sound_cluster, cluster_on, filter_on};
+ghost use Rattle.im_blocks.specs.Status.{sound_status, status_on, status_at, answer_on};
 ghost use Rattle.im_blocks.specs.Data.{data_on, data_read, report_on, report_read};
+ghost use Rattle.tlv_reader.specs.Walk.{read_of};
 
 use im_members::{ABSENT, WRONG};
-use tlv_reader::{Cursor, Element, Head, STRUCTURE};
+use tlv_reader::{Cursor, Element, STRUCTURE};
 
 // An attribute path: each part its number, ABSENT, or (of a list index) NULL.
 #[derive(Clone, Copy)]
@@ -20,12 +21,6 @@ pub struct Path {
     pub cluster: u64,
     pub attribute: u64,
     pub index: u64,
-}
-
-#[derive(Clone, Copy)]
-pub enum PathRead {
-    Path(Path, Cursor),
-    BadPath,
 }
 
 // The tags that a schema lists.
@@ -55,8 +50,8 @@ fn sound_path(p: Path) -> bool
 }
 
 // AttributePathIB: a list with context tags 0 to 5, whose head was read.
-pub fn path_of(s: &[u8], e: Element, left: usize) -> PathRead
-    ensures { result ≡ path_read (path_on left s.now e) }
+pub fn path_of(s: &[u8], e: Element, left: usize) -> Option<(Path, Cursor)>
+    ensures { result ≡ read_of (path_on left s.now e) }
 {
     let listed = PATH;
     let stops = im_members::NO_STOP;
@@ -71,10 +66,7 @@ pub fn path_of(s: &[u8], e: Element, left: usize) -> PathRead
         &stops,
         &mut at,
         &mut codes,
-    );
-    if !m.good {
-        return PathRead::BadPath;
-    }
+    )?;
     let p = Path {
         compress: im_members::flag_by(codes[0]),
         node: im_members::wide_by(codes[1]),
@@ -84,11 +76,9 @@ pub fn path_of(s: &[u8], e: Element, left: usize) -> PathRead
         index: im_members::number_by(codes[5], 65535, true),
     };
     if !sound_path(p) {
-        return PathRead::BadPath;
+        return None;
     }
-    let end = m.head;
-    let next = end.next;
-    PathRead::Path(p, next)
+    Some((p, m.head.next))
 }
 
 // A path with compression, a node or a list index gets 80 (RULES 6.11).
@@ -154,12 +144,6 @@ pub struct ClusterPath {
     pub cluster: u64,
 }
 
-#[derive(Clone, Copy)]
-pub enum ClusterRead {
-    ClusterPath(ClusterPath, Cursor),
-    BadCluster,
-}
-
 const TRIPLE: [bool; 10] = [
     true, true, true, false, false, false, false, false, false, false,
 ];
@@ -177,8 +161,8 @@ fn sound_cluster(p: ClusterPath) -> bool
 }
 
 // ClusterPathIB: a list with context tags 0 to 2, whose head was read.
-pub fn cluster_of(s: &[u8], e: Element, left: usize) -> ClusterRead
-    ensures { result ≡ cluster_read (cluster_on left s.now e) }
+pub fn cluster_of(s: &[u8], e: Element, left: usize) -> Option<(ClusterPath, Cursor)>
+    ensures { result ≡ read_of (cluster_on left s.now e) }
 {
     let listed = TRIPLE;
     let stops = im_members::NO_STOP;
@@ -193,21 +177,16 @@ pub fn cluster_of(s: &[u8], e: Element, left: usize) -> ClusterRead
         &stops,
         &mut at,
         &mut codes,
-    );
-    if !m.good {
-        return ClusterRead::BadCluster;
-    }
+    )?;
     let p = ClusterPath {
         node: im_members::wide_by(codes[0]),
         endpoint: im_members::number_by(codes[1], 65535, false),
         cluster: im_members::number_by(codes[2], 4294967295, false),
     };
     if !sound_cluster(p) {
-        return ClusterRead::BadCluster;
+        return None;
     }
-    let end = m.head;
-    let next = end.next;
-    ClusterRead::ClusterPath(p, next)
+    Some((p, m.head.next))
 }
 
 // A data version filter.
@@ -217,49 +196,32 @@ pub struct Filter {
     pub version: u64,
 }
 
-#[derive(Clone, Copy)]
-pub enum FilterRead {
-    Filter(Filter, Cursor),
-    BadFilter,
-}
-
 const PAIR: [bool; 10] = [
     true, true, false, false, false, false, false, false, false, false,
 ];
 
 // DataVersionFilterIB: a structure with a cluster path (tag 0) and a version (tag 1), whose head was read.
-pub fn filter_of(s: &[u8], e: Element, left: usize) -> FilterRead
-    ensures { result ≡ filter_read (filter_on left s.now e) }
+pub fn filter_of(s: &[u8], e: Element, left: usize) -> Option<(Filter, Cursor)>
+    ensures { result ≡ read_of (filter_on left s.now e) }
 {
     if left == 0 {
-        return FilterRead::BadFilter;
+        return None;
     }
     let listed = PAIR;
     let stops = im_members::FIRST;
     let mut at = [0usize; 10];
     let mut codes = [0u64; 10];
-    let m = im_members::begin(s, e, left, STRUCTURE, &listed, &stops, &mut at, &mut codes);
-    if !m.good {
-        return FilterRead::BadFilter;
-    }
+    let m = im_members::begin(s, e, left, STRUCTURE, &listed, &stops, &mut at, &mut codes)?;
     if 10 <= m.slot {
-        return FilterRead::BadFilter;
+        return None;
     }
-    let inner = m.head;
-    let ClusterRead::ClusterPath(path, after) = cluster_of(s, inner, left - 1) else {
-        return FilterRead::BadFilter;
-    };
-    let z = im_members::finish(s, after, left - 1, STRUCTURE, &listed, &mut at, &mut codes);
-    if !z.good {
-        return FilterRead::BadFilter;
-    }
+    let (path, after) = cluster_of(s, m.head, left - 1)?;
+    let z = im_members::finish(s, after, left - 1, STRUCTURE, &listed, &mut at, &mut codes)?;
     let version = im_members::number_by(codes[1], 4294967295, false);
     if ABSENT <= version {
-        return FilterRead::BadFilter;
+        return None;
     }
-    let end = z.head;
-    let next = end.next;
-    FilterRead::Filter(Filter { path, version }, next)
+    Some((Filter { path, version }, z.head.next))
 }
 
 // A status: its code, and a cluster's own or ABSENT.
@@ -267,12 +229,6 @@ pub fn filter_of(s: &[u8], e: Element, left: usize) -> FilterRead
 pub struct Status {
     pub code: u64,
     pub cluster: u64,
-}
-
-#[derive(Clone, Copy)]
-pub enum StatusRead {
-    Status(Status, Cursor),
-    BadStatus,
 }
 
 fn sound_status(x: Status) -> bool
@@ -285,36 +241,29 @@ fn sound_status(x: Status) -> bool
 }
 
 // StatusIB: a structure with context tags 0 and 1, whose head was read.
-pub fn status_of(s: &[u8], e: Element, left: usize) -> StatusRead
-    ensures { result ≡ status_read (status_on left s.now e) }
+pub fn status_of(s: &[u8], e: Element, left: usize) -> Option<(Status, Cursor)>
+    ensures { result ≡ read_of (status_on left s.now e) }
 {
     let listed = PAIR;
     let stops = im_members::NO_STOP;
     let mut at = [0usize; 10];
     let mut codes = [0u64; 10];
-    let m = im_members::begin(s, e, left, STRUCTURE, &listed, &stops, &mut at, &mut codes);
-    if !m.good {
-        return StatusRead::BadStatus;
-    }
+    let m = im_members::begin(s, e, left, STRUCTURE, &listed, &stops, &mut at, &mut codes)?;
     let x = Status {
         code: im_members::number_by(codes[0], 255, false),
         cluster: im_members::number_by(codes[1], 255, false),
     };
     if !sound_status(x) {
-        return StatusRead::BadStatus;
+        return None;
     }
-    let end = m.head;
-    let next = end.next;
-    StatusRead::Status(x, next)
+    Some((x, m.head.next))
 }
 
 // The same where its head is still to be read.
-fn status_at(s: &[u8], c: Cursor, left: usize) -> StatusRead
-    ensures { result ≡ status_read (status_at left s.now c.at) }
+fn status_at(s: &[u8], c: Cursor, left: usize) -> Option<(Status, Cursor)>
+    ensures { result ≡ read_of (status_at left s.now c.at) }
 {
-    let Head::Found(e) = c.head(s) else {
-        return StatusRead::BadStatus;
-    };
+    let e = c.head(s)?;
     status_of(s, e, left)
 }
 
@@ -325,48 +274,29 @@ pub struct Answer {
     pub status: Status,
 }
 
-#[derive(Clone, Copy)]
-pub enum AnswerRead {
-    Answer(Answer, Cursor),
-    BadAnswer,
-}
-
 // AttributeStatusIB: a structure with a path (tag 0) and a status (tag 1), whose head was read.
-pub fn answer_of(s: &[u8], e: Element, left: usize) -> AnswerRead
-    ensures { result ≡ answer_read (answer_on left s.now e) }
+pub fn answer_of(s: &[u8], e: Element, left: usize) -> Option<(Answer, Cursor)>
+    ensures { result ≡ read_of (answer_on left s.now e) }
 {
     if left == 0 {
-        return AnswerRead::BadAnswer;
+        return None;
     }
     let listed = PAIR;
     let stops = im_members::FIRST;
     let mut at = [0usize; 10];
     let mut codes = [0u64; 10];
-    let m = im_members::begin(s, e, left, STRUCTURE, &listed, &stops, &mut at, &mut codes);
-    if !m.good {
-        return AnswerRead::BadAnswer;
-    }
+    let m = im_members::begin(s, e, left, STRUCTURE, &listed, &stops, &mut at, &mut codes)?;
     if 10 <= m.slot {
-        return AnswerRead::BadAnswer;
+        return None;
     }
-    let inner = m.head;
-    let PathRead::Path(path, after) = path_of(s, inner, left - 1) else {
-        return AnswerRead::BadAnswer;
-    };
-    let z = im_members::finish(s, after, left - 1, STRUCTURE, &listed, &mut at, &mut codes);
-    if !z.good {
-        return AnswerRead::BadAnswer;
-    }
+    let (path, after) = path_of(s, m.head, left - 1)?;
+    let z = im_members::finish(s, after, left - 1, STRUCTURE, &listed, &mut at, &mut codes)?;
     let q = at[1];
     if q == 0 {
-        return AnswerRead::BadAnswer;
+        return None;
     }
-    let StatusRead::Status(status, _) = status_at(s, Cursor { at: q - 1 }, left - 1) else {
-        return AnswerRead::BadAnswer;
-    };
-    let end = z.head;
-    let next = end.next;
-    AnswerRead::Answer(Answer { path, status }, next)
+    let (status, _) = status_at(s, Cursor { at: q - 1 }, left - 1)?;
+    Some((Answer { path, status }, z.head.next))
 }
 
 // An attribute's data: its version or ABSENT, its path, and where its data stands.
@@ -377,57 +307,38 @@ pub struct Data {
     pub place: usize,
 }
 
-#[derive(Clone, Copy)]
-pub enum DataRead {
-    Data(Data, Cursor),
-    BadData,
-}
-
 // AttributeDataIB: a structure with a version (tag 0, optional), a path (tag 1) and data (tag 2), whose head was read.
-pub fn data_of(s: &[u8], e: Element, left: usize) -> DataRead
+pub fn data_of(s: &[u8], e: Element, left: usize) -> Option<(Data, Cursor)>
     ensures { result ≡ data_read (data_on left s.now e) }
 {
     if left == 0 {
-        return DataRead::BadData;
+        return None;
     }
     let listed = TRIPLE;
     let stops = im_members::SECOND;
     let mut at = [0usize; 10];
     let mut codes = [0u64; 10];
-    let m = im_members::begin(s, e, left, STRUCTURE, &listed, &stops, &mut at, &mut codes);
-    if !m.good {
-        return DataRead::BadData;
-    }
+    let m = im_members::begin(s, e, left, STRUCTURE, &listed, &stops, &mut at, &mut codes)?;
     if 10 <= m.slot {
-        return DataRead::BadData;
+        return None;
     }
-    let inner = m.head;
-    let PathRead::Path(path, after) = path_of(s, inner, left - 1) else {
-        return DataRead::BadData;
-    };
-    let z = im_members::finish(s, after, left - 1, STRUCTURE, &listed, &mut at, &mut codes);
-    if !z.good {
-        return DataRead::BadData;
-    }
+    let (path, after) = path_of(s, m.head, left - 1)?;
+    let z = im_members::finish(s, after, left - 1, STRUCTURE, &listed, &mut at, &mut codes)?;
     let q = at[2];
     if q == 0 {
-        return DataRead::BadData;
+        return None;
     }
     let version = im_members::number_by(codes[0], 4294967295, false);
     if version == WRONG {
-        return DataRead::BadData;
+        return None;
     }
     let place = q - 1;
-    let end = z.head;
-    let next = end.next;
-    DataRead::Data(
-        Data {
-            version,
-            path,
-            place,
-        },
-        next,
-    )
+    let data = Data {
+        version,
+        path,
+        place,
+    };
+    Some((data, z.head.next))
 }
 
 // A block of a report: an attribute's data, or its status.
@@ -437,56 +348,32 @@ pub enum Report {
     Refused(Answer),
 }
 
-#[derive(Clone, Copy)]
-pub enum ReportRead {
-    Report(Report, Cursor),
-    BadReport,
-}
-
 // AttributeReportIB: a structure with a status (tag 0) or data (tag 1), not both, whose head was read.
-pub fn report_of(s: &[u8], e: Element, left: usize) -> ReportRead
+pub fn report_of(s: &[u8], e: Element, left: usize) -> Option<(Report, Cursor)>
     ensures { result ≡ report_read (report_on left s.now e) }
 {
     if left == 0 {
-        return ReportRead::BadReport;
+        return None;
     }
     let listed = PAIR;
     let mut at = [0usize; 10];
     let mut codes = [0u64; 10];
-    let m = im_members::begin(s, e, left, STRUCTURE, &listed, &listed, &mut at, &mut codes);
-    if !m.good {
-        return ReportRead::BadReport;
-    }
+    let m = im_members::begin(s, e, left, STRUCTURE, &listed, &listed, &mut at, &mut codes)?;
     if 10 <= m.slot {
-        return ReportRead::BadReport;
+        return None;
     }
-    let inner = m.head;
     if m.slot == 0 {
-        let AnswerRead::Answer(x, after) = answer_of(s, inner, left - 1) else {
-            return ReportRead::BadReport;
-        };
-        let z = im_members::finish(s, after, left - 1, STRUCTURE, &listed, &mut at, &mut codes);
-        if !z.good {
-            return ReportRead::BadReport;
-        }
+        let (x, after) = answer_of(s, m.head, left - 1)?;
+        let z = im_members::finish(s, after, left - 1, STRUCTURE, &listed, &mut at, &mut codes)?;
         if at[1] != 0 {
-            return ReportRead::BadReport;
+            return None;
         }
-        let end = z.head;
-        let next = end.next;
-        return ReportRead::Report(Report::Refused(x), next);
+        return Some((Report::Refused(x), z.head.next));
     }
-    let DataRead::Data(d, after) = data_of(s, inner, left - 1) else {
-        return ReportRead::BadReport;
-    };
-    let z = im_members::finish(s, after, left - 1, STRUCTURE, &listed, &mut at, &mut codes);
-    if !z.good {
-        return ReportRead::BadReport;
-    }
+    let (d, after) = data_of(s, m.head, left - 1)?;
+    let z = im_members::finish(s, after, left - 1, STRUCTURE, &listed, &mut at, &mut codes)?;
     if at[0] != 0 {
-        return ReportRead::BadReport;
+        return None;
     }
-    let end = z.head;
-    let next = end.next;
-    ReportRead::Report(Report::Shown(d), next)
+    Some((Report::Shown(d), z.head.next))
 }

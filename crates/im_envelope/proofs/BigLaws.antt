@@ -1,4 +1,5 @@
 -- Numbers with their most significant byte first, and THE LAW of the envelope: what is written is read back.
+use Rattle.std.specs.Prelude.{Some}
 use mathlib.Core.Path.{◌≡◌, sym, ap, ◌∙◌}
 use mathlib.Core.List.{List, [], ◌∷◌, ◌++◌}
 use Prim.Native.Nat.{ℕ, suc, ◌+◌, ◌*◌, ◌/◌, ◌%◌, ◌^◌, ◌<◌, ◌≤◌}
@@ -10,7 +11,6 @@ use lib.Seq.{take-suc, take_at}
 use Rattle.im_writer.specs.Envelope.{big_number, exchange_limit, envelope_word, envelope_octets}
 use Rattle.im_writer.proofs.EnvelopeLaws.{length-envelope, envelope-back}
 use Rattle.im_envelope.specs.Envelope.{envelope_length, fields_of, envelope_in}
-use Rattle.im_envelope.specs.declared.Envelope.TheVariants.{Whole}
 
 -- one byte more makes what stood before it 256 times as much
 pub big-snoc : (l : List ℕ) (b : ℕ) → big_number (l ++ (b ∷ [])) ≡ big_number l * 256 + b
@@ -33,7 +33,7 @@ pub big-below : (s : List ℕ) (i v b : ℕ) → v < 256 ^ i → b < 256 → v *
 big-below s i v b l k = rw pow-suc (omega arith)
 
 -- THE LAW
-pub envelope-read : (edition opcode exchange turn : ℕ) → edition < 16 → opcode < 16 → exchange < exchange_limit → turn < 2 ^ 16 → (q : List ℕ) → envelope_in (envelope_octets edition opcode exchange turn ++ q) ≡ Whole (record { edition = edition; opcode = opcode; exchange = exchange; turn = turn })
+pub envelope-read : (edition opcode exchange turn : ℕ) → edition < 16 → opcode < 16 → exchange < exchange_limit → turn < 2 ^ 16 → (q : List ℕ) → envelope_in (envelope_octets edition opcode exchange turn ++ q) ≡ Some (record { edition = edition; opcode = opcode; exchange = exchange; turn = turn })
 unfolding envelope_in fields_of envelope_word
 envelope-read edition opcode exchange turn fe fo fx ft q =
     let bs : List ℕ = envelope_octets edition opcode exchange turn in
@@ -46,4 +46,4 @@ envelope-read edition opcode exchange turn fe fo fx ft q =
     let e2 : w / 2 ^ 16 % exchange_limit ≡ exchange = omega arith in
     let e3 : w % 2 ^ 16 ≡ turn = omega arith in
     rw (le-ltb (length (bs ++ q)) envelope_length l, t, envelope-back edition opcode exchange turn fe fo fx ft)
-    (ap Whole (λ j. record { edition = e0 j; opcode = e1 j; exchange = e2 j; turn = e3 j }))
+    (ap Some (λ j. record { edition = e0 j; opcode = e1 j; exchange = e2 j; turn = e3 j }))

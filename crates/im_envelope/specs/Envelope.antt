@@ -1,11 +1,9 @@
 -- The envelope of a message: eight octets, most significant bit first (RULES 3.1, 3.2).
-use Rattle.std.specs.Prelude.{ℕ, ◌/◌, ◌%◌, ◌^◌, List, length, take, ltb}
+use Rattle.std.specs.Prelude.{ℕ, ◌/◌, ◌%◌, ◌^◌, List, length, take, ltb, Some, None, Option}
 use Rattle.tlv_reader.specs.Octet.{pick}
 use Rattle.im_writer.specs.Envelope as Writer
 use Rattle.im_writer.specs.Envelope.{big_number, exchange_limit}
 use Rattle.im_envelope.specs.declared.Fields.{Fields}
-use Rattle.im_envelope.specs.declared.Envelope.{Envelope}
-use Rattle.im_envelope.specs.declared.Envelope.TheVariants.{Whole, Short}
 
 -- as it is written
 abbrev pub envelope_length : ℕ
@@ -19,5 +17,5 @@ max_message = 1032
 unfoldable pub fields_of : ℕ → Fields
 fields_of w = record { edition = w / 2 ^ 60; opcode = w / 2 ^ 56 % 2 ^ 4; exchange = w / 2 ^ 16 % exchange_limit; turn = w % 2 ^ 16 }
 
-unfoldable pub envelope_in : List ℕ → Envelope
-envelope_in s = pick (ltb (length s) envelope_length) Short (Whole (fields_of (big_number (take envelope_length s))))
+unfoldable pub envelope_in : List ℕ → Option Fields
+envelope_in s = pick (ltb (length s) envelope_length) None (Some (fields_of (big_number (take envelope_length s))))

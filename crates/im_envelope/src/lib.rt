@@ -22,28 +22,14 @@ pub struct Fields {
     pub turn: u64,
 }
 
-#[derive(Clone, Copy)]
-pub enum Envelope {
-    Whole(Fields),
-    Short,
-}
-
-fn wide(x: u8) -> u64
-    ensures { result ≡ x }
-{
-    x as u64
-}
-
 // The number in the first eight bytes, the most significant first.
 fn word(s: &[u8]) -> u64
     requires { envelope_length ≤ length s.now }
     ensures { result ≡ big_number (take envelope_length s.now) }
 {
     let mut v: u64 = 0;
-    let mut i: usize = 0;
-    while i < LENGTH {
-        v = v * 256 + wide(s[i]);
-        i += 1;
+    for i in 0..LENGTH {
+        v = v * 256 + u64::from(s[i]);
     }
     v
 }
@@ -60,11 +46,11 @@ fn fields_of(w: u64) -> Fields
 }
 
 // The envelope that a message begins with.
-pub fn envelope_of(s: &[u8]) -> Envelope
+pub fn envelope_of(s: &[u8]) -> Option<Fields>
     ensures { result ≡ envelope_in s.now }
 {
     if s.len() < LENGTH {
-        return Envelope::Short;
+        return None;
     }
-    Envelope::Whole(fields_of(word(s)))
+    Some(fields_of(word(s)))
 }

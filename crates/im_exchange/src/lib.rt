@@ -62,46 +62,38 @@ pub enum Step {
 }
 
 // The action that an opcode stands for.
-pub fn action_of(opcode: u64) -> Action
-    ensures { result ≡ action_of opcode }
-{
-    if opcode == STATUS {
-        return Action::Status;
-    }
-    if opcode == READ {
-        return Action::Read;
-    }
-    if opcode == WRITE {
-        return Action::Write;
-    }
-    Action::Other
-}
+impl From<u64> for Action {
+    ghost from_gives = { λ opcode action. action ≡ action_of opcode };
 
-// Whether an action may begin an exchange.
-pub fn begins(action: Action) -> bool
-    ensures { result ≡ beginning action }
-{
-    match action {
-        Action::Status => false,
-        Action::Read => true,
-        Action::Write => true,
-        Action::Other => false,
+    #[tactic(auto, unfolding(crate::specs::Rules::action_of))]
+    fn from(opcode: u64) -> Action {
+        match opcode {
+            STATUS => Action::Status,
+            READ => Action::Read,
+            WRITE => Action::Write,
+            _ => Action::Other,
+        }
     }
 }
 
-// Whether a server takes an action.
-pub fn server_takes(action: Action) -> bool
-    ensures { result ≡ server_takes action }
-{
-    match action {
-        Action::Status => true,
-        Action::Read => true,
-        Action::Write => true,
-        Action::Other => false,
+impl Action {
+    // Whether it may begin an exchange.
+    pub fn begins(self) -> bool
+        ensures { result ≡ beginning self }
+    {
+        matches!(self, Action::Read | Action::Write)
+    }
+
+    // Whether a server takes it.
+    pub fn is_taken(self) -> bool
+        ensures { result ≡ server_takes self }
+    {
+        !matches!(self, Action::Other)
     }
 }
 
 // A read or a write request.
+#[tactic(auto, unfolding(crate::specs::Rules::on_request))]
 pub fn on_request(x: Progress, exchange: u64, turn: u64) -> Step
     ensures { result ≡ on_request x exchange turn }
 {
@@ -124,6 +116,7 @@ pub fn on_request(x: Progress, exchange: u64, turn: u64) -> Step
 }
 
 // A status for the newest reply, which promised more.
+#[tactic(auto, unfolding(crate::specs::Rules::on_promised))]
 fn on_promised(k: u64, code: u64) -> Step
     ensures { result ≡ on_promised k code }
 {
@@ -137,6 +130,7 @@ fn on_promised(k: u64, code: u64) -> Step
 }
 
 // A status for the reply before the newest.
+#[tactic(auto, unfolding(crate::specs::Rules::on_earlier))]
 fn on_earlier(k: u64, turn: u64, code: u64) -> Step
     ensures { result ≡ on_earlier k turn code }
 {
@@ -156,6 +150,7 @@ fn on_earlier(k: u64, turn: u64, code: u64) -> Step
 }
 
 // A status response with this code.
+#[tactic(auto, unfolding(crate::specs::Rules::on_status))]
 pub fn on_status(x: Progress, exchange: u64, turn: u64, code: u64) -> Step
     ensures { result ≡ on_status x exchange turn code }
 {

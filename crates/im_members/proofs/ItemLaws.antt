@@ -1,4 +1,5 @@
 -- Members of a container one after the other, by what stands at a position: for any step.
+use Rattle.std.specs.Prelude.{Some, None, Option}
 use mathlib.Core.Path.{◌≡◌, refl, ap, subst, ◌∙◌}
 use mathlib.Core.Bool.{Bool, true, false}
 use mathlib.Core.List.{List}
@@ -9,8 +10,6 @@ use lib.ListN.{length}
 use lib.Dec.{eqb}
 use Rattle.tlv_reader.specs.declared.Cursor.{Cursor}
 use Rattle.tlv_reader.specs.declared.Element.{Element}
-use Rattle.tlv_reader.specs.declared.Head.{Head}
-use Rattle.tlv_reader.specs.declared.Head.TheVariants.{Found, Malformed}
 use Rattle.tlv_reader.specs.Octet.{pick, end_of_container}
 use Rattle.tlv_reader.specs.Head.{head_at}
 use Rattle.tlv_reader.specs.Walk.{Got, allowed_in, fold_at}
@@ -24,7 +23,7 @@ never e = absurd (omega arith)
 
 -- a member: its head, which is no end, and that it may stand there
 pub record Standing (kind : ℕ) (s : List ℕ) (at : ℕ) (e : Element) : Type 0 where
-  pub here : head_at s at ≡ Found e
+  pub here : head_at s at ≡ Some e
   pub inner : e.kind ≡ end_of_container → ⊥
   pub fits : allowed_in kind e.form ≡ true
 
@@ -33,9 +32,9 @@ module _ {S : Type 0} (step : S → ℕ → Element → Got S) (s : List ℕ) (f
   unfolding item_at
   item-bad w = go (head_at s at) refl w
     where
-      go : (h : Head) → head_at s at ≡ h → item_of kind h ≡ BadItem → fold_at step (length s) s kind x at ≡ bad
-      go Malformed h w = fold-none step s forward kind x at h
-      go (Found e) h w = by (eqb e.kind end_of_container) refl (allowed_in kind e.form) refl w
+      go : (h : (Option Element)) → head_at s at ≡ h → item_of kind h ≡ BadItem → fold_at step (length s) s kind x at ≡ bad
+      go None h w = fold-none step s forward kind x at h
+      go (Some e) h w = by (eqb e.kind end_of_container) refl (allowed_in kind e.form) refl w
         where
           by : (a : Bool) → eqb e.kind end_of_container ≡ a → (b : Bool) → allowed_in kind e.form ≡ b → pick a (Ended e.next) (pick b (Member e) BadItem) ≡ BadItem → fold_at step (length s) s kind x at ≡ bad
           by true q b r w = never (cc)
@@ -46,9 +45,9 @@ module _ {S : Type 0} (step : S → ℕ → Element → Got S) (s : List ℕ) (f
   unfolding item_at
   item-end {c} w = go (head_at s at) refl w
     where
-      go : (h : Head) → head_at s at ≡ h → item_of kind h ≡ Ended c → fold_at step (length s) s kind x at ≡ got x c.at
-      go Malformed h w = never (cc)
-      go (Found e) h w = by (eqb e.kind end_of_container) refl (allowed_in kind e.form) w
+      go : (h : (Option Element)) → head_at s at ≡ h → item_of kind h ≡ Ended c → fold_at step (length s) s kind x at ≡ got x c.at
+      go None h w = never (cc)
+      go (Some e) h w = by (eqb e.kind end_of_container) refl (allowed_in kind e.form) w
         where
           by : (a : Bool) → eqb e.kind end_of_container ≡ a → (b : Bool) → pick a (Ended e.next) (pick b (Member e) BadItem) ≡ Ended c → fold_at step (length s) s kind x at ≡ got x c.at
           by true q b w = fold-ends step s forward kind x at h (eqb-true e.kind end_of_container q) ∙ (let f : e.next ≡ c = cc in ap (λ (y : Cursor). got x y.at) f)
@@ -65,9 +64,9 @@ pub standing : (kind : ℕ) (s : List ℕ) (at : ℕ) {e : Element} → item_at 
 unfolding item_at
 standing kind s at {e} w = go (head_at s at) refl w
   where
-    go : (h : Head) → head_at s at ≡ h → item_of kind h ≡ Member e → Standing kind s at e
-    go Malformed h w = never (cc)
-    go (Found f) h w = by (eqb f.kind end_of_container) refl (allowed_in kind f.form) refl w
+    go : (h : (Option Element)) → head_at s at ≡ h → item_of kind h ≡ Member e → Standing kind s at e
+    go None h w = never (cc)
+    go (Some f) h w = by (eqb f.kind end_of_container) refl (allowed_in kind f.form) refl w
       where
         by : (a : Bool) → eqb f.kind end_of_container ≡ a → (b : Bool) → allowed_in kind f.form ≡ b → pick a (Ended f.next) (pick b (Member f) BadItem) ≡ Member e → Standing kind s at e
         by true q b r w = never (cc)

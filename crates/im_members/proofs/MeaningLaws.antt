@@ -1,4 +1,5 @@
 -- THE LAWS: what is read in the bytes is the meaning of the tree that they spell.
+use Rattle.std.specs.Prelude.{Some, None, Option}
 use mathlib.Core.Path.{◌≡◌, refl, sym, ap, subst, ◌∙◌}
 use mathlib.Core.Bool.{Bool, true, false}
 use mathlib.Core.List.{List, [], ◌∷◌, ◌++◌, map}
@@ -10,8 +11,6 @@ use lib.ListN.{length, get_or, set, replicate, get_or-map}
 use lib.Dec.{ltb, eqb}
 use Rattle.base_octets.specs.Number.{Bytes}
 use Rattle.tlv_reader.specs.declared.Element.{Element}
-use Rattle.tlv_reader.specs.declared.Head.{Head}
-use Rattle.tlv_reader.specs.declared.Head.TheVariants.{Found, Malformed}
 use Rattle.tlv_reader.specs.Octet.{pick, structure, list}
 use Rattle.tlv_reader.specs.Tree.{Tag, Tree, Trees, depth, tag_of, tag_of_tree, Spells}
 use Rattle.tlv_reader.specs.Tree.Tag.{anonymous, context, common, implicit, full}
@@ -19,8 +18,7 @@ use Rattle.tlv_reader.specs.Tree.Tree.{container}
 use Rattle.tlv_reader.specs.Head.{head_at}
 use Rattle.tlv_reader.specs.Walk.{Got, map_g, bind_g, headed}
 use Rattle.tlv_reader.specs.Walk.Got.{got, bad}
-use Rattle.tlv_reader.specs.Decode.{Opt, place, bind_o, trees_from, tree_by, tree_of, trees_at, tree_at}
-use Rattle.tlv_reader.specs.Decode.Opt.{just, nothing}
+use Rattle.tlv_reader.specs.Decode.{place, bind_o, trees_from, tree_by, tree_of, trees_at, tree_at}
 use Rattle.tlv_reader.proofs.Picks.{choose-elim}
 use Rattle.tlv_reader.proofs.TreeLaws.{passed, end-of-tree, fold_law, tree-at}
 use Rattle.tlv_reader.proofs.Completeness.{tree-back}
@@ -79,12 +77,12 @@ put-law d s seen i at n t e = go (ltb i 10) (get_or seen i 0) refl
     here : (v : ℕ) → get_or seen i 0 ≡ v → get_or (map (slot_in d s) seen) i absent ≡ slot_in d s v
     here v q = get_or-map (slot_in d s) seen i 0 ∙ ap (slot_in d s) q
 
-    go : (a : Bool) (v : ℕ) → get_or seen i 0 ≡ v → map_g (map (slot_in d s)) (pick a (pick (eqb (get_or seen i 0) 0) (got (set seen i (at + 1)) n) bad) (got seen n)) ≡ place (pick a (free (get_or (map (slot_in d s) seen) i absent) (just (set (map (slot_in d s) seen) i (present t))) nothing) (just (map (slot_in d s) seen))) n
+    go : (a : Bool) (v : ℕ) → get_or seen i 0 ≡ v → map_g (map (slot_in d s)) (pick a (pick (eqb (get_or seen i 0) 0) (got (set seen i (at + 1)) n) bad) (got seen n)) ≡ place (pick a (free (get_or (map (slot_in d s) seen) i absent) (Some (set (map (slot_in d s) seen) i (present t))) None) (Some (map (slot_in d s) seen))) n
     go false v q = refl
     go true zero q = rw (here zero q) (rw q (ap (λ (l : List Slot). got l n) (map-set (slot_in d s) seen i (at + 1) ∙ ap (set (map (slot_in d s) seen) i) p)))
     go true (suc v) q = rw (here (suc v) q) (rw q (rw (ne_eqb (suc v) 0 (λ z. omega arith)) refl))
 
-step-law : (d : ℕ) (s : List ℕ) (listed : List Bool) (seen : List ℕ) (at : ℕ) (e : Element) → head_at s at ≡ Found e → map_g (map (slot_in d s)) (field_step d s listed seen at e) ≡ bind_g (tree_of d s e) (λ t n. place (field_m listed (map (slot_in d s) seen) t) n)
+step-law : (d : ℕ) (s : List ℕ) (listed : List Bool) (seen : List ℕ) (at : ℕ) (e : Element) → head_at s at ≡ Some e → map_g (map (slot_in d s)) (field_step d s listed seen at e) ≡ bind_g (tree_of d s e) (λ t n. place (field_m listed (map (slot_in d s) seen) t) n)
 unfolding field_step field_m
 step-law d s listed seen at e h = rw (end-of-tree d s e) (go (tree_of d s e) refl (tree-tag d s e))
   where
@@ -99,7 +97,7 @@ fields-law d s kind listed at = fold_law (map (slot_in d s)) (field_m listed) (f
 
 -- ---- binding
 
-bind-nothing : {A B : Type 0} (f : A → Opt B) (g : Got A) → ((a : A) → f a ≡ nothing) → bind_g g (λ a n. place (f a) n) ≡ bad
+bind-nothing : {A B : Type 0} (f : A → Option B) (g : Got A) → ((a : A) → f a ≡ None) → bind_g g (λ a n. place (f a) n) ≡ bad
 bind-nothing f bad e = refl
 bind-nothing f (got a n) e = ap (λ o. place o n) (e a)
 
@@ -107,15 +105,15 @@ bind-map : {A B C : Type 0} (f : A → B) (k : B → ℕ → Got C) (g : Got A) 
 bind-map f k bad = refl
 bind-map f k (got a n) = refl
 
-bind-same : {A B : Type 0} (f f' : A → Opt B) (g : Got A) → ((a : A) → f a ≡ f' a) → bind_g g (λ a n. place (f a) n) ≡ bind_g g (λ a n. place (f' a) n)
+bind-same : {A B : Type 0} (f f' : A → Option B) (g : Got A) → ((a : A) → f a ≡ f' a) → bind_g g (λ a n. place (f a) n) ≡ bind_g g (λ a n. place (f' a) n)
 bind-same f f' bad e = refl
 bind-same f f' (got a n) e = ap (λ o. place o n) (e a)
 
-bind-place : {A B : Type 0} (G : A → Opt B) (o : Opt A) (n : ℕ) → bind_g (place o n) (λ a k. place (G a) k) ≡ place (bind_o o G) n
-bind-place G nothing n = refl
-bind-place G (just a) n = refl
+bind-place : {A B : Type 0} (G : A → Option B) (o : Option A) (n : ℕ) → bind_g (place o n) (λ a k. place (G a) k) ≡ place (bind_o o G) n
+bind-place G None n = refl
+bind-place G (Some a) n = refl
 
-bind-bind : {A B C : Type 0} (f : A → Opt B) (G : B → Opt C) (g : Got A) → bind_g (bind_g g (λ a n. place (f a) n)) (λ b n. place (G b) n) ≡ bind_g g (λ a n. place (bind_o (f a) G) n)
+bind-bind : {A B C : Type 0} (f : A → Option B) (G : B → Option C) (g : Got A) → bind_g (bind_g g (λ a n. place (f a) n)) (λ b n. place (G b) n) ≡ bind_g g (λ a n. place (bind_o (f a) G) n)
 bind-bind f G bad = refl
 bind-bind f G (got a n) = bind-place G (f a) n
 
@@ -140,15 +138,15 @@ module _ (kind : ℕ) (lo : structure ≤ kind) (hi : kind ≤ list) (listed : L
       go true = refl
       go false = refl
 
-  headed-deep : (s : List ℕ) (h : Head) → bad ≡ bind_g (headed bad (tree_of 0 s) h) (λ t n. place (inside_t kind listed t) n)
+  headed-deep : (s : List ℕ) (h : (Option Element)) → bad ≡ bind_g (headed bad (tree_of 0 s) h) (λ t n. place (inside_t kind listed t) n)
   unfolding tree_of
-  headed-deep s Malformed = refl
-  headed-deep s (Found e) = sym (inside-bad (map (slot_in 0 s)) e) ∙ inside-by (map (slot_in 0 s)) s (λ n. bad) (λ k n. bad) (λ n. refl) e
+  headed-deep s None = refl
+  headed-deep s (Some e) = sym (inside-bad (map (slot_in 0 s)) e) ∙ inside-by (map (slot_in 0 s)) s (λ n. bad) (λ k n. bad) (λ n. refl) e
 
-  headed-in : (d : ℕ) (s : List ℕ) (h : Head) → map_g (map (slot_in d s)) (headed bad (inside_by kind (λ n. fields_at d s kind listed n)) h) ≡ bind_g (headed bad (tree_of (suc d) s) h) (λ t n. place (inside_t kind listed t) n)
+  headed-in : (d : ℕ) (s : List ℕ) (h : (Option Element)) → map_g (map (slot_in d s)) (headed bad (inside_by kind (λ n. fields_at d s kind listed n)) h) ≡ bind_g (headed bad (tree_of (suc d) s) h) (λ t n. place (inside_t kind listed t) n)
   unfolding tree_of trees_at
-  headed-in d s Malformed = refl
-  headed-in d s (Found e) = inside-by (map (slot_in d s)) s (λ n. fields_at d s kind listed n) (λ k n. trees_from (tree_of d s) (length s) s k n) (λ n. fields-law d s kind listed n) e
+  headed-in d s None = refl
+  headed-in d s (Some e) = inside-by (map (slot_in d s)) s (λ n. fields_at d s kind listed n) (λ k n. trees_from (tree_of d s) (length s) s k n) (λ n. fields-law d s kind listed n) e
 
   pub inside-law : (d : ℕ) (s : List ℕ) (at : ℕ) → map_g (map (slot_in (d - 1) s)) (inside_at kind d s listed at) ≡ bind_g (tree_at d s at) (λ t n. place (inside_t kind listed t) n)
   unfolding inside_at tree_at
@@ -156,7 +154,7 @@ module _ (kind : ℕ) (lo : structure ≤ kind) (hi : kind ≤ list) (listed : L
   inside-law (suc d) s at = let p : suc d - 1 ≡ d = omega arith in rw p (headed-in d s (head_at s at))
 
   -- THE LAW of a schema: it is enough that what it makes of the places is what it makes of the trees there
-  pub schema-law : {A : Type 0} (d : ℕ) (s : List ℕ) (F : List ℕ → Opt A) (G : List Slot → Opt A) → ((xs : List ℕ) → F xs ≡ G (map (slot_in (d - 1) s) xs)) → (at : ℕ) → bind_g (inside_at kind d s listed at) (λ xs n. place (F xs) n) ≡ bind_g (tree_at d s at) (λ t n. place (bind_o (inside_t kind listed t) G) n)
+  pub schema-law : {A : Type 0} (d : ℕ) (s : List ℕ) (F : List ℕ → Option A) (G : List Slot → Option A) → ((xs : List ℕ) → F xs ≡ G (map (slot_in (d - 1) s) xs)) → (at : ℕ) → bind_g (inside_at kind d s listed at) (λ xs n. place (F xs) n) ≡ bind_g (tree_at d s at) (λ t n. place (bind_o (inside_t kind listed t) G) n)
   schema-law d s F G e at =
       bind-same F (λ xs. G (map (slot_in (d - 1) s) xs)) (inside_at kind d s listed at) e
       ∙ sym (bind-map (map (slot_in (d - 1) s)) (λ ys n. place (G ys) n) (inside_at kind d s listed at))
@@ -170,19 +168,19 @@ at_place d s xs i = get_or-map (slot_in d s) xs i 0
 
 -- ---- for any reader that is the meaning of a tree
 
-module _ {A : Type 0} (d : ℕ) (s : List ℕ) (read : ℕ → Got A) (means : Tree → Opt A) (law : (at : ℕ) → read at ≡ bind_g (tree_at d s at) (λ t n. place (means t) n)) where
+module _ {A : Type 0} (d : ℕ) (s : List ℕ) (read : ℕ → Got A) (means : Tree → Option A) (law : (at : ℕ) → read at ≡ bind_g (tree_at d s at) (λ t n. place (means t) n)) where
   -- any legal spelling is read to its meaning
   pub reader-back : (t : Tree) (at : ℕ) (p q bs : List ℕ) → Spells t bs → depth t ≤ d → s ≡ p ++ (bs ++ q) → at ≡ length p → read at ≡ place (means t) (at + length bs)
   reader-back t at p q bs w h es ea = law at ∙ ap (λ g. bind_g g (λ u n. place (means u) n)) (tree-back t d s at p q bs w h es ea)
 
   -- what a reader accepts is a tree that the bytes spell, with that meaning
-  pub reader-sound : Bytes s → (at n : ℕ) (a : A) → read at ≡ got a n → (t : Tree) × (Spelled d s at t n) × (means t ≡ just a)
+  pub reader-sound : Bytes s → (at n : ℕ) (a : A) → read at ≡ got a n → (t : Tree) × (Spelled d s at t n) × (means t ≡ Some a)
   reader-sound hs at n a e = go (tree_at d s at) (tree-sound d s hs at) (sym (law at) ∙ e)
     where
-      put : (t : Tree) (m : ℕ) → Spelled d s at t m → (o : Opt A) → means t ≡ o → place o m ≡ got a n → (t : Tree) × (Spelled d s at t n) × (means t ≡ just a)
-      put t m w nothing q e = absurd (let z : ◌≡◌ {A = ℕ} 0 1 = cc in omega arith)
-      put t m w (just b) q e = (t, subst (λ (k : ℕ). Spelled d s at t k) (let z : m ≡ n = cc in z) w, cc)
+      put : (t : Tree) (m : ℕ) → Spelled d s at t m → (o : Option A) → means t ≡ o → place o m ≡ got a n → (t : Tree) × (Spelled d s at t n) × (means t ≡ Some a)
+      put t m w None q e = absurd (let z : ◌≡◌ {A = ℕ} 0 1 = cc in omega arith)
+      put t m w (Some b) q e = (t, subst (λ (k : ℕ). Spelled d s at t k) (let z : m ≡ n = cc in z) w, cc)
 
-      go : (g : Got Tree) → SpelledG d s at g → bind_g g (λ t m. place (means t) m) ≡ got a n → (t : Tree) × (Spelled d s at t n) × (means t ≡ just a)
+      go : (g : Got Tree) → SpelledG d s at g → bind_g g (λ t m. place (means t) m) ≡ got a n → (t : Tree) × (Spelled d s at t n) × (means t ≡ Some a)
       go bad w e = absurd (let z : ◌≡◌ {A = ℕ} 0 1 = cc in omega arith)
       go (got t m) w e = put t m w (means t) refl e

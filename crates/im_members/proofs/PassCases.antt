@@ -1,4 +1,5 @@
 -- One pass over the members of a container: the equation with no bound, case by case for the code.
+use Rattle.std.specs.Prelude.{Some, None, Option}
 use mathlib.Core.Path.{◌≡◌, refl, sym, ap, ◌∙◌}
 use mathlib.Core.Bool.{Bool, true, false}
 use mathlib.Core.List.{List}
@@ -8,9 +9,6 @@ use borrow.Author.Tests.{eq-eqb, ne_eqb, le-ltb, lt-ltb}
 use lib.ListN.{length, get_or, set, replicate}
 use Rattle.tlv_reader.specs.declared.Cursor.{Cursor}
 use Rattle.tlv_reader.specs.declared.Element.{Element}
-use Rattle.tlv_reader.specs.declared.Head.{Head}
-use Rattle.tlv_reader.specs.declared.Head.TheVariants.{Found, Malformed}
-use Rattle.tlv_reader.specs.declared.Walk.TheVariants.{Past, Broken}
 use Rattle.tlv_reader.specs.Octet.{end_of_container}
 use Rattle.tlv_reader.specs.Head.{head_at}
 use Rattle.tlv_reader.specs.Walk.{Got, allowed_in, element_end, ended}
@@ -26,10 +24,10 @@ module _ (d : ℕ) (s : List ℕ) (kind : ℕ) (listed stops : List Bool) where
   on_same at rest rest' q bad h = refl
   on_same at rest rest' q (got u n) h = q n h.0
 
-  by-same : (rest rest' : List ℕ → List ℕ → ℕ → Pass) (seen codes : List ℕ) (at : ℕ) → ((xs ks : List ℕ) (p : ℕ) → at < p → rest xs ks p ≡ rest' xs ks p) → (h : Head) → head_at s at ≡ h → pass_by d s kind listed stops rest seen codes at h ≡ pass_by d s kind listed stops rest' seen codes at h
+  by-same : (rest rest' : List ℕ → List ℕ → ℕ → Pass) (seen codes : List ℕ) (at : ℕ) → ((xs ks : List ℕ) (p : ℕ) → at < p → rest xs ks p ≡ rest' xs ks p) → (h : (Option Element)) → head_at s at ≡ h → pass_by d s kind listed stops rest seen codes at h ≡ pass_by d s kind listed stops rest' seen codes at h
   unfolding pass_by pass_member pass_listed
-  by-same rest rest' seen codes at q Malformed h = refl
-  by-same rest rest' seen codes at q (Found e) h = (let i = slot_of listed e.form e.tag in simp (walked seen codes, walked (set seen i (at + 1)) (set codes i (code_of e.kind e.number))))
+  by-same rest rest' seen codes at q None h = refl
+  by-same rest rest' seen codes at q (Some e) h = (let i = slot_of listed e.form e.tag in simp (walked seen codes, walked (set seen i (at + 1)) (set codes i (code_of e.kind e.number))))
     where
       walked : (xs ks : List ℕ) → pass_on (rest xs ks) (element_end d s e) ≡ pass_on (rest' xs ks) (element_end d s e)
       walked xs ks = on_same at (rest xs ks) (rest' xs ks) (q xs ks) (element_end d s e) (end-forward d s at e h)
@@ -51,11 +49,11 @@ module _ (d : ℕ) (s : List ℕ) (kind : ℕ) (listed stops : List Bool) where
     unfolding pass_in
     pass-unroll = pass-fuel (length s) (suc (length s)) seen codes at (omega arith) (omega arith)
 
-    pub pass-headless : head_at s at ≡ Malformed → From seen codes at ≡ no_pass
+    pub pass-headless : head_at s at ≡ None → From seen codes at ≡ no_pass
     unfolding pass_by
     pass-headless h = pass-unroll ∙ simp h
 
-    module _ {e : Element} (h : head_at s at ≡ Found e) where
+    module _ {e : Element} (h : head_at s at ≡ Some e) where
       pub pass-last : e.kind ≡ end_of_container → From seen codes at ≡ pass_at 10 e seen codes
       unfolding pass_by
       pass-last q = pass-unroll ∙ simp (h, eq-eqb _ _ q)
@@ -70,11 +68,11 @@ module _ (d : ℕ) (s : List ℕ) (kind : ℕ) (listed stops : List Bool) where
         member = pass-unroll ∙ simp (h, ne_eqb _ _ q, a, ← z)
 
         module _ (o : 10 ≤ i) where
-          pub other-broken : ended (element_end d s e) ≡ Broken → From seen codes at ≡ no_pass
+          pub other-broken : ended (element_end d s e) ≡ None → From seen codes at ≡ no_pass
           unfolding pass_member
           other-broken w = member ∙ simp (le-ltb i 10 o, broken (element_end d s e) w)
 
-          pub other-walked : {n : Cursor} → ended (element_end d s e) ≡ Past n → From seen codes at ≡ From seen codes n.at
+          pub other-walked : {n : Cursor} → ended (element_end d s e) ≡ Some n → From seen codes at ≡ From seen codes n.at
           unfolding pass_member
           other-walked w = member ∙ simp (le-ltb i 10 o, past (element_end d s e) w)
 
@@ -88,11 +86,11 @@ module _ (d : ℕ) (s : List ℕ) (kind : ℕ) (listed stops : List Bool) where
             unfolding pass_member pass_listed
             listed-stop w = member ∙ simp (lt-ltb i 10 l, eq-eqb _ _ y, w, ← k)
 
-            pub listed-broken : get_or stops i false ≡ false → ended (element_end d s e) ≡ Broken → From seen codes at ≡ no_pass
+            pub listed-broken : get_or stops i false ≡ false → ended (element_end d s e) ≡ None → From seen codes at ≡ no_pass
             unfolding pass_member pass_listed
             listed-broken w b = member ∙ simp (lt-ltb i 10 l, eq-eqb _ _ y, w, broken (element_end d s e) b)
 
-            pub listed-walked : {n : Cursor} → get_or stops i false ≡ false → ended (element_end d s e) ≡ Past n → From seen codes at ≡ From (set seen i (at + 1)) (set codes i c) n.at
+            pub listed-walked : {n : Cursor} → get_or stops i false ≡ false → ended (element_end d s e) ≡ Some n → From seen codes at ≡ From (set seen i (at + 1)) (set codes i c) n.at
             unfolding pass_member pass_listed
             listed-walked w b = member ∙ simp (lt-ltb i 10 l, eq-eqb _ _ y, w, ← k, past (element_end d s e) b)
 

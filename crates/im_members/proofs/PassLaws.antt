@@ -1,4 +1,5 @@
 -- One pass over the members of a container: the laws that join it to where the members stand.
+use Rattle.std.specs.Prelude.{Some, None, Option}
 use mathlib.Core.Path.{◌≡◌, refl, sym, ap, subst, ◌∙◌}
 use mathlib.Core.Bool.{Bool, true, false}
 use mathlib.Core.List.{List, [], ◌∷◌, map}
@@ -8,27 +9,25 @@ use borrow.Author.Tests.{eq-eqb, ne_eqb, le-ltb, lt-ltb, ltb-true, ltb-false, eq
 use lib.ListN.{length, length-set, get_or, set, replicate, get_or-replicate, get_or-map}
 use lib.Dec.{ltb, eqb}
 use Rattle.tlv_reader.specs.declared.Element.{Element}
-use Rattle.tlv_reader.specs.declared.Head.{Head}
-use Rattle.tlv_reader.specs.declared.Head.TheVariants.{Found, Malformed}
 use Rattle.tlv_reader.specs.Octet.{pick, structure, list, end_of_container}
 use Rattle.tlv_reader.specs.Head.{head_at}
 use Rattle.tlv_reader.specs.Walk.{Got, bind_g, choose, allowed_in, fold_by, fold_at, headed, element_end, members_end, ended}
 use Rattle.tlv_reader.specs.Walk.Got.{got, bad}
-use Rattle.tlv_reader.specs.Decode.{Opt, place}
-use Rattle.tlv_reader.specs.Decode.Opt.{just, nothing}
+use Rattle.tlv_reader.specs.Decode.{place}
 use Rattle.tlv_reader.proofs.FoldLaws.{Ahead, Forward, fold-breaks, fold_on}
 use Rattle.tlv_reader.proofs.HeadLaws.{Onward, head-onward, no-head}
 use Rattle.tlv_reader.proofs.WalkLaws.{end-within, end-forward}
 use Rattle.im_members.specs.Fields.{slot_of, put_at, put_end, field_step, fields_from, fields_at, inside_at}
 use Rattle.im_members.specs.Array.{opt_of, required_in, optional_in}
 use Rattle.im_members.specs.Scalar.{ABSENT, NULL, WRONG, number_of, flag_of, wide_of, number_in, flag_in, wide_in, scalar_in}
-use Rattle.im_members.specs.Pass.{Pass, no_pass, inside_on, made, frame_on, pass_at, pass_on, pass_listed, pass_member, pass_by, pass_in, pass_from, pass_of, code_of, code_in, number_by, flag_by, wide_by}
+use Rattle.im_members.specs.declared.Stop.{Stop}
+use Rattle.im_members.specs.Pass.{Pass, pass_with, no_pass, inside_on, made, frame_on, pass_at, pass_on, pass_listed, pass_member, pass_by, pass_in, pass_from, pass_of, code_of, code_in, number_by, flag_by, wide_by}
 use Rattle.im_members.proofs.ArrayLaws.{required-some, optional-some}
 use Rattle.im_members.proofs.FieldLaws.{step-forward, inside-none, no_member, last-member, barred-member, broken-member, other-member}
 
 -- ---- a member that was put before it was walked
 
-module _ (d : ℕ) (s : List ℕ) (kind : ℕ) (listed : List Bool) (seen : List ℕ) (at : ℕ) {e : Element} (h : head_at s at ≡ Found e) (q : e.kind ≡ end_of_container → ⊥) (a : allowed_in kind e.form ≡ true) {i : ℕ} (z : i ≡ slot_of listed e.form e.tag) (l : i < 10) where
+module _ (d : ℕ) (s : List ℕ) (kind : ℕ) (listed : List Bool) (seen : List ℕ) (at : ℕ) {e : Element} (h : head_at s at ≡ Some e) (q : e.kind ≡ end_of_container → ⊥) (a : allowed_in kind e.form ≡ true) {i : ℕ} (z : i ≡ slot_of listed e.form e.tag) (l : i < 10) where
   twice-step : (get_or seen i 0 ≡ 0 → ⊥) → (g : Got (Unit {0})) → put_end seen i at g ≡ bad
   unfolding put_at
   twice-step y bad = refl
@@ -53,20 +52,20 @@ map-set f [] i y = refl
 map-set f (x ∷ l) zero y = refl
 map-set f (x ∷ l) (suc i) y = ap (λ r. f x ∷ r) (map-set f l i y)
 
-pub code_here : (s : List ℕ) (at : ℕ) {e : Element} → head_at s at ≡ Found e → code_in s (at + 1) ≡ code_of e.kind e.number
+pub code_here : (s : List ℕ) (at : ℕ) {e : Element} → head_at s at ≡ Some e → code_in s (at + 1) ≡ code_of e.kind e.number
 unfolding code_in
 code_here s at h = let p : at + 1 - 1 ≡ at = omega arith in simp (ne_eqb (at + 1) 0 (λ z. omega arith), p, h)
 
-pub codes-put : (s codes seen : List ℕ) (i at : ℕ) {e : Element} {c : ℕ} → codes ≡ map (code_in s) seen → head_at s at ≡ Found e → c ≡ code_of e.kind e.number → set codes i c ≡ map (code_in s) (set seen i (at + 1))
+pub codes-put : (s codes seen : List ℕ) (i at : ℕ) {e : Element} {c : ℕ} → codes ≡ map (code_in s) seen → head_at s at ≡ Some e → c ≡ code_of e.kind e.number → set codes i c ≡ map (code_in s) (set seen i (at + 1))
 codes-put s codes seen i at {e = x} {c = v} e h z = ap (λ (l : List ℕ). set l i v) e ∙ ap (set (map (code_in s) seen) i) (z ∙ sym (code_here s at h)) ∙ sym (map-set (code_in s) seen i (at + 1))
 
-pub within : (s : List ℕ) (at : ℕ) {e : Element} → head_at s at ≡ Found e → (at < e.next.at) × (e.next.at ≤ length s)
+pub within : (s : List ℕ) (at : ℕ) {e : Element} → head_at s at ≡ Some e → (at < e.next.at) × (e.next.at ≤ length s)
 within s at h = subst (Onward at (length s)) h (head-onward s at)
 
 -- what a code stands for is what the head there says
-headed-by : (f : ℕ → ℕ) (g : Element → ℕ) → f 2 ≡ WRONG → ((e : Element) → f (code_of e.kind e.number) ≡ g e) → (h : Head) → f (headed 2 (λ e. code_of e.kind e.number) h) ≡ headed WRONG g h
-headed-by f g z q Malformed = z
-headed-by f g z q (Found e) = q e
+headed-by : (f : ℕ → ℕ) (g : Element → ℕ) → f 2 ≡ WRONG → ((e : Element) → f (code_of e.kind e.number) ≡ g e) → (h : (Option Element)) → f (headed 2 (λ e. code_of e.kind e.number) h) ≡ headed WRONG g h
+headed-by f g z q None = z
+headed-by f g z q (Some e) = q e
 
 pub code_by : (f : ℕ → ℕ) (g : Element → ℕ) → f 0 ≡ ABSENT → f 2 ≡ WRONG → ((e : Element) → f (code_of e.kind e.number) ≡ g e) → (s : List ℕ) (p : ℕ) → f (code_in s p) ≡ scalar_in g s p
 unfolding code_in
@@ -142,7 +141,7 @@ module _ (s codes xs : List ℕ) (e : codes ≡ map (code_in s) xs) (i : ℕ) wh
 
 -- ---- the container with a head
 
-pub on-head : (kind d : ℕ) (s : List ℕ) (listed : List Bool) (at : ℕ) {e : Element} → head_at s at ≡ Found e → inside_at kind d s listed at ≡ inside_on kind d s listed e
+pub on-head : (kind d : ℕ) (s : List ℕ) (listed : List Bool) (at : ℕ) {e : Element} → head_at s at ≡ Some e → inside_at kind d s listed at ≡ inside_on kind d s listed e
 unfolding inside_at inside_on
 on-head kind zero s listed at h = refl
 on-head kind (suc d) s listed at h = simp h
@@ -202,7 +201,7 @@ pub record Stops (s : List ℕ) (stops : List Bool) (r : Pass) : Type 0 where
   pub wanted : get_or stops r.slot false ≡ true
   pub place : ℕ
   pub placed : get_or r.at r.slot 0 ≡ place + 1
-  pub here : head_at s place ≡ Found r.head
+  pub here : head_at s place ≡ Some r.head
 
 -- WHAT A PASS SAYS of what is left of a container; what was seen before stays; where it is to stop, it has seen only the member where it has
 pub record Left (d : ℕ) (s : List ℕ) (kind : ℕ) (listed stops : List Bool) (before : List ℕ) (g : Got (List ℕ)) (r : Pass) : Type 0 where
@@ -222,7 +221,7 @@ module _ (d : ℕ) (s : List ℕ) (kind : ℕ) (listed stops : List Bool) (seen 
   left-last : (e : Element) (codes : List ℕ) → length seen ≡ 10 → codes ≡ map (code_in s) seen → g ≡ got seen e.next.at → Left d s kind listed stops seen g (pass_at 10 e seen codes)
   left-last e codes n k q = record { left = q ∙ sym (left_end d s kind listed (pass_at 10 e seen codes) refl (omega arith)); coded = k; ten = n; stopped = λ l. absurd (omega arith); kept = λ b i v w. w; passed = λ b i w m. refl; free = λ l. absurd (omega arith) }
 
-  left_at : (at i : ℕ) {e : Element} (codes : List ℕ) → length seen ≡ 10 → codes ≡ map (code_in s) (set seen i (at + 1)) → i < 10 → head_at s at ≡ Found e → get_or seen i 0 ≡ 0 → get_or stops i false ≡ true → g ≡ bind_g (element_end d s e) (λ u n. fields_from d s kind listed (set seen i (at + 1)) n) → Left d s kind listed stops seen g (pass_at i e (set seen i (at + 1)) codes)
+  left_at : (at i : ℕ) {e : Element} (codes : List ℕ) → length seen ≡ 10 → codes ≡ map (code_in s) (set seen i (at + 1)) → i < 10 → head_at s at ≡ Some e → get_or seen i 0 ≡ 0 → get_or stops i false ≡ true → g ≡ bind_g (element_end d s e) (λ u n. fields_from d s kind listed (set seen i (at + 1)) n) → Left d s kind listed stops seen g (pass_at i e (set seen i (at + 1)) codes)
   left_at at i {e = x} codes n k l h y w q = record {
     left = q ∙ sym (left-stop d s kind listed (pass_at i x (set seen i (at + 1)) codes) refl l);
     coded = k;
@@ -266,7 +265,7 @@ module _ (d : ℕ) (s : List ℕ) (kind : ℕ) (listed stops : List Bool) (seen 
   abbrev Here : Pass → Type 0
   Here r = Left d s kind listed stops seen (fields_from d s kind listed seen at) r
 
-  left-member : {e : Element} → head_at s at ≡ Found e → (e.kind ≡ end_of_container → ⊥) → allowed_in kind e.form ≡ true → (i : ℕ) → i ≡ slot_of listed e.form e.tag → Here (pass_member d s stops rest seen codes at e i)
+  left-member : {e : Element} → head_at s at ≡ Some e → (e.kind ≡ end_of_container → ⊥) → allowed_in kind e.form ≡ true → (i : ℕ) → i ≡ slot_of listed e.form e.tag → Here (pass_member d s stops rest seen codes at e i)
   unfolding pass_member pass_listed
   left-member {e} h q a i z = go (ltb i 10) refl (eqb (get_or seen i 0) 0) refl (get_or stops i false) refl (element_end d s e) refl
     where
@@ -287,10 +286,10 @@ module _ (d : ℕ) (s : List ℕ) (kind : ℕ) (listed stops : List Bool) (seen 
       go true l true ey false ew bad eg = left-bad d s kind listed stops seen (first l ey eg)
       go true l true ey false ew (got tt m) eg = left-put d s kind listed stops seen i (at + 1) n (eqb-true _ 0 ey) ew (first l ey eg) (on (set seen i (at + 1)) (set codes i (code_of e.kind e.number)) m (ahead eg) (simp length-set n) kept)
 
-  left_by : (h : Head) → head_at s at ≡ h → Here (pass_by d s kind listed stops rest seen codes at h)
+  left_by : (h : (Option Element)) → head_at s at ≡ h → Here (pass_by d s kind listed stops rest seen codes at h)
   unfolding pass_by
-  left_by Malformed h = left-bad d s kind listed stops seen (no_member d s kind listed seen at h)
-  left_by (Found e) h = go (eqb e.kind end_of_container) refl (allowed_in kind e.form) refl
+  left_by None h = left-bad d s kind listed stops seen (no_member d s kind listed seen at h)
+  left_by (Some e) h = go (eqb e.kind end_of_container) refl (allowed_in kind e.form) refl
     where
       go : (x : Bool) → eqb e.kind end_of_container ≡ x → (y : Bool) → allowed_in kind e.form ≡ y → Here (choose x (λ _. pass_at 10 e seen codes) (λ _. choose y (λ _. pass_member d s stops rest seen codes at e (slot_of listed e.form e.tag)) (λ _. no_pass)))
       go true x y b = left-last d s kind listed stops seen e codes n k (last-member d s kind listed seen at h (eqb-true _ _ x))
@@ -326,15 +325,15 @@ abbrev pub Under : {S : Type 0} → (S → Type 0) → Got S → Got (Unit {0}) 
 Under P bad w = Unit {0}
 Under P (got x n) w = P x × (w ≡ got tt n)
 
-module _ {S : Type 0} (P : S → Type 0) (step : S → ℕ → Element → Got S) (walk : Element → Got (Unit {0})) (s : List ℕ) (keeps : (x : S) (p : ℕ) (e : Element) → head_at s p ≡ Found e → P x → Under P (step x p e) (walk e)) (kind : ℕ) where
+module _ {S : Type 0} (P : S → Type 0) (step : S → ℕ → Element → Got S) (walk : Element → Got (Unit {0})) (s : List ℕ) (keeps : (x : S) (p : ℕ) (e : Element) → head_at s p ≡ Some e → P x → Under P (step x p e) (walk e)) (kind : ℕ) where
   under-bind : (g : Got S) (w : Got (Unit {0})) (f : S → ℕ → Got S) (f' : Unit {0} → ℕ → Got (Unit {0})) → Under P g w → ((x : S) (n : ℕ) → P x → Under P (f x n) (f' tt n)) → Under P (bind_g g f) (bind_g w f')
   under-bind bad w f f' u k = tt
   under-bind (got x n) w f f' u k = rw u.1 (k x n u.0)
 
-  under-by : (x : S) (p : ℕ) → P x → (rest : S → ℕ → Got S) (rest' : Unit {0} → ℕ → Got (Unit {0})) → ((y : S) (n : ℕ) → P y → Under P (rest y n) (rest' tt n)) → (h : Head) → head_at s p ≡ h → Under P (fold_by kind x (step x p) rest h) (fold_by kind tt walk rest' h)
+  under-by : (x : S) (p : ℕ) → P x → (rest : S → ℕ → Got S) (rest' : Unit {0} → ℕ → Got (Unit {0})) → ((y : S) (n : ℕ) → P y → Under P (rest y n) (rest' tt n)) → (h : (Option Element)) → head_at s p ≡ h → Under P (fold_by kind x (step x p) rest h) (fold_by kind tt walk rest' h)
   unfolding fold_by
-  under-by x p k rest rest' r Malformed hh = tt
-  under-by x p k rest rest' r (Found e) hh = go (eqb e.kind end_of_container) (allowed_in kind e.form)
+  under-by x p k rest rest' r None hh = tt
+  under-by x p k rest rest' r (Some e) hh = go (eqb e.kind end_of_container) (allowed_in kind e.form)
     where
       go : (a b : Bool) → Under P (choose a (λ _. got x e.next.at) (λ _. choose b (λ _. bind_g (step x p e) rest) (λ _. bad))) (choose a (λ _. got tt e.next.at) (λ _. choose b (λ _. bind_g (walk e) rest') (λ _. bad)))
       go true b = (k, refl)
@@ -397,8 +396,8 @@ fields-end d s listed kind xs at w = (subst (λ (g : Got (List ℕ)). Under Anyt
 never : {A : Type 0} {n : ℕ} {xs : List ℕ} → ◌≡◌ {A = Got (List ℕ)} bad (got xs n) → A
 never e = absurd (let z : ◌≡◌ {A = ℕ} 0 1 = cc in omega arith)
 
-module _ {A : Type 0} (kind d : ℕ) (s : List ℕ) (tags : List Bool) (F : List ℕ → Opt A) (e : Element) where
-  pub frame_here : (at : ℕ) → head_at s at ≡ Found e → bind_g (inside_at kind d s tags at) (λ seen n. place (F seen) n) ≡ frame_on kind d s tags F e
+module _ {A : Type 0} (kind d : ℕ) (s : List ℕ) (tags : List Bool) (F : List ℕ → Option A) (e : Element) where
+  pub frame_here : (at : ℕ) → head_at s at ≡ Some e → bind_g (inside_at kind d s tags at) (λ seen n. place (F seen) n) ≡ frame_on kind d s tags F e
   frame_here at h = ap (λ g. bind_g g (λ seen n. place (F seen) n)) (on-head kind d s tags at h)
 
   pub frame-ends : structure ≤ kind → kind ≤ list → {x : A} {n : ℕ} → frame_on kind d s tags F e ≡ got x n → element_end d s e ≡ got tt n
@@ -408,9 +407,9 @@ module _ {A : Type 0} (kind d : ℕ) (s : List ℕ) (tags : List Bool) (F : List
       no : {B : Type 0} → ◌≡◌ {A = Got A} bad (got x n) → B
       no z = absurd (let y : ◌≡◌ {A = ℕ} 0 1 = cc in omega arith)
 
-      put : (o : Opt A) (m : ℕ) → place o m ≡ got x n → m ≡ n
-      put (just y) m z = cc
-      put nothing m z = no z
+      put : (o : Option A) (m : ℕ) → place o m ≡ got x n → m ≡ n
+      put (Some y) m z = cc
+      put None m z = no z
 
       inner : (xs : List ℕ) (m : ℕ) → inside_on kind d s tags e ≡ got xs m → element_end d s e ≡ got tt m
       inner xs m z = at-kind (eqb e.kind kind) refl (eqb d 0) refl
@@ -428,15 +427,15 @@ module _ {A : Type 0} (kind d : ℕ) (s : List ℕ) (tags : List Bool) (F : List
       go bad z y = no y
       go (got xs m) z y = inner xs m z ∙ ap (got tt) (put (F xs) m y)
 
-module _ {A : Type 0} (F : List ℕ → Opt A) {d : ℕ} {s : List ℕ} {kind : ℕ} {tags stops : List Bool} {before : List ℕ} {t : Got (List ℕ)} {r : Pass} (L : Left d s kind tags stops before t r) where
+module _ {A : Type 0} (F : List ℕ → Option A) {d : ℕ} {s : List ℕ} {kind : ℕ} {tags stops : List Bool} {before : List ℕ} {t : Got (List ℕ)} {r : Pass} (L : Left d s kind tags stops before t r) where
   pub frame-none : r.good ≡ false → made F t ≡ bad
   frame-none g = ap (made F) (L.left ∙ left-none d s kind tags r g)
 
-  pub frame-end : r.good ≡ true → 10 ≤ r.slot → {o : Opt A} → F r.at ≡ o → made F t ≡ place o r.head.next.at
+  pub frame-end : r.good ≡ true → 10 ≤ r.slot → {o : Option A} → F r.at ≡ o → made F t ≡ place o r.head.next.at
   frame-end g l f = ap (made F) (L.left ∙ left_end d s kind tags r g l) ∙ ap (λ o. place o r.head.next.at) f
 
   -- a stop at a member that its reader refuses
-  frame_refused : (l : r.slot < 10) → ((xs : List ℕ) → get_or xs r.slot 0 ≡ (L.stopped l).place + 1 → F xs ≡ nothing) → made F t ≡ bad
+  frame_refused : (l : r.slot < 10) → ((xs : List ℕ) → get_or xs r.slot 0 ≡ (L.stopped l).place + 1 → F xs ≡ None) → made F t ≡ bad
   frame_refused l refuses = ap (made F) (L.left ∙ left-stop d s kind tags r (L.stopped l).sound l) ∙ go (element_end d s r.head)
     where
       rest : (n : ℕ) (h : Got (List ℕ)) → fields_from d s kind tags r.at n ≡ h → made F h ≡ bad
@@ -491,23 +490,27 @@ first-or-second (suc (suc j)) e n = absurd (none_true 8 j e)
 -- ---- a reader by a place and by a head: they agree, and end where the element ends
 
 pub record Reads {B : Type 0} (d : ℕ) (s : List ℕ) (read : ℕ → Got B) (on : Element → Got B) : Type 0 where
-  pub here : (at : ℕ) (e : Element) → head_at s at ≡ Found e → read at ≡ on e
-  pub none : (at : ℕ) → head_at s at ≡ Malformed → read at ≡ bad
+  pub here : (at : ℕ) (e : Element) → head_at s at ≡ Some e → read at ≡ on e
+  pub none : (at : ℕ) → head_at s at ≡ None → read at ≡ bad
   pub ends : (e : Element) (x : B) (n : ℕ) → on e ≡ got x n → element_end d s e ≡ got tt n
 
-pub frame-reads : {A : Type 0} (kind d : ℕ) (s : List ℕ) (tags : List Bool) (F : List ℕ → Opt A) → structure ≤ kind → kind ≤ list → Reads d s (λ at. bind_g (inside_at kind d s tags at) (λ seen n. place (F seen) n)) (frame_on kind d s tags F)
+pub frame-reads : {A : Type 0} (kind d : ℕ) (s : List ℕ) (tags : List Bool) (F : List ℕ → Option A) → structure ≤ kind → kind ≤ list → Reads d s (λ at. bind_g (inside_at kind d s tags at) (λ seen n. place (F seen) n)) (frame_on kind d s tags F)
 frame-reads kind d s tags F lo hi = record { here = λ at e h. frame_here kind d s tags F e at h; none = λ at h. ap (λ g. bind_g g (λ seen n. place (F seen) n)) (inside-none kind d s tags at h); ends = λ e x n w. frame-ends kind d s tags F e lo hi w }
 
-pub frame-deep : {A : Type 0} (kind d : ℕ) (s : List ℕ) (tags : List Bool) (F : List ℕ → Opt A) (e : Element) → d ≡ 0 → frame_on kind d s tags F e ≡ bad
+pub frame-deep : {A : Type 0} (kind d : ℕ) (s : List ℕ) (tags : List Bool) (F : List ℕ → Option A) (e : Element) → d ≡ 0 → frame_on kind d s tags F e ≡ bad
 frame-deep kind d s tags F e q = ap (λ g. bind_g g (λ seen n. place (F seen) n)) (on-deep kind d s tags e q)
+
+-- the pass of an answer is the pass of what it says
+pub pass-as : {o r : Option Stop} {at codes : List ℕ} {z : Pass} → o ≡ r → pass_with o at codes ≡ z → pass_with r at codes ≡ z
+pass-as {at = xs} {codes = ks} w q = ap (λ (x : Option Stop). pass_with x xs ks) (sym w) ∙ q
 
 -- ---- a member of slot i that a reader of its own reads, in one pass
 
 -- it was read so, and the pass after it is the last of its container
-pub record Finished {A B : Type 0} (s : List ℕ) (F : List ℕ → Opt A) (t : Got (List ℕ)) (read : ℕ → Got B) (i : ℕ) (x : B) (z : Pass) : Type 0 where
+pub record Finished {A B : Type 0} (s : List ℕ) (F : List ℕ → Option A) (t : Got (List ℕ)) (read : ℕ → Got B) (i : ℕ) (x : B) (z : Pass) : Type 0 where
   pub none : z.good ≡ false → made F t ≡ bad
-  pub ends : z.good ≡ true → {o : Opt A} → F z.at ≡ o → made F t ≡ place o z.head.next.at
-  pub found : z.good ≡ true → required_in read (get_or z.at i 0) ≡ just x
+  pub ends : z.good ≡ true → {o : Option A} → F z.at ≡ o → made F t ≡ place o z.head.next.at
+  pub found : z.good ≡ true → required_in read (get_or z.at i 0) ≡ Some x
   pub there : z.good ≡ true → get_or z.at i 0 ≡ 0 → ⊥
   pub coded : z.codes ≡ map (code_in s) z.at
 
@@ -533,11 +536,11 @@ module _ {B : Type 0} {d : ℕ} {s : List ℕ} {kind : ℕ} {tags stops : List B
   option : (o : B) (xs : List ℕ) → Placed xs → {h : Got B} → on r.head ≡ h → optional_in o read (get_or xs i 0) ≡ opt_of h
   option o xs k w = optional-some o read (get_or xs i 0) (there xs k) (read_here xs k w)
 
-  module _ {A : Type 0} (F : List ℕ → Opt A) (w : on r.head ≡ bad) where
-    pub nest-no-option : (o : B) → ((xs : List ℕ) → optional_in o read (get_or xs i 0) ≡ nothing → F xs ≡ nothing) → made F t ≡ bad
+  module _ {A : Type 0} (F : List ℕ → Option A) (w : on r.head ≡ bad) where
+    pub nest-no-option : (o : B) → ((xs : List ℕ) → optional_in o read (get_or xs i 0) ≡ None → F xs ≡ None) → made F t ≡ bad
     nest-no-option o lacks = frame_refused F L l (λ xs k. lacks xs (option o xs (in-slot xs k) w))
 
-    pub nest-refused : ((xs : List ℕ) → (get_or xs i 0 ≡ 0 → ⊥) → required_in read (get_or xs i 0) ≡ nothing → F xs ≡ nothing) → made F t ≡ bad
+    pub nest-refused : ((xs : List ℕ) → (get_or xs i 0 ≡ 0 → ⊥) → required_in read (get_or xs i 0) ≡ None → F xs ≡ None) → made F t ≡ bad
     nest-refused lacks = frame_refused F L l (λ xs k. lacks xs (there xs (in-slot xs k)) (found xs (in-slot xs k) w))
 
   module _ {x : B} {n : ℕ} (w : on r.head ≡ got x n) (further : List Bool) {z : Pass} (q : z ≡ pass_from d s kind tags further r.at r.codes n) where
@@ -547,21 +550,21 @@ module _ {B : Type 0} {d : ℕ} {s : List ℕ} {kind : ℕ} {tags stops : List B
     pub nest-at : z.good ≡ true → Placed z.at
     nest-at a = nest-on.kept a i (L.stopped l).place here-placed
 
-    pub nest-found : z.good ≡ true → required_in read (get_or z.at i 0) ≡ just x
+    pub nest-found : z.good ≡ true → required_in read (get_or z.at i 0) ≡ Some x
     nest-found a = found z.at (nest-at a) w
 
-    pub nest-option : (o : B) → z.good ≡ true → optional_in o read (get_or z.at i 0) ≡ just x
+    pub nest-option : (o : B) → z.good ≡ true → optional_in o read (get_or z.at i 0) ≡ Some x
     nest-option o a = option o z.at (nest-at a) w
 
     pub nest-there : z.good ≡ true → get_or z.at i 0 ≡ 0 → ⊥
     nest-there a = there z.at (nest-at a)
 
-  pub nest_last : {A : Type 0} (F : List ℕ → Opt A) {x : B} {n : ℕ} → on r.head ≡ got x n → {z : Pass} → z ≡ pass_from d s kind tags (replicate 10 false) r.at r.codes n → Finished s F t read i x z
+  pub nest_last : {A : Type 0} (F : List ℕ → Option A) {x : B} {n : ℕ} → on r.head ≡ got x n → {z : Pass} → z ≡ pass_from d s kind tags (replicate 10 false) r.at r.codes n → Finished s F t read i x z
   nest_last F w q = let N = nest-on w (replicate 10 false) q in
       record { none = frame-none F N; ends = λ g. frame-end F N g (nowhere N); found = nest-found w (replicate 10 false) q; there = nest-there w (replicate 10 false) q; coded = N.coded }
 
 -- a reader and then a test is a reader
-pub then-reads : {A B : Type 0} (d : ℕ) (s : List ℕ) {read : ℕ → Got A} {on : Element → Got A} (f : A → Opt B) → Reads d s read on → Reads d s (λ at. bind_g (read at) (λ a n. place (f a) n)) (λ e. bind_g (on e) (λ a n. place (f a) n))
+pub then-reads : {A B : Type 0} (d : ℕ) (s : List ℕ) {read : ℕ → Got A} {on : Element → Got A} (f : A → Option B) → Reads d s read on → Reads d s (λ at. bind_g (read at) (λ a n. place (f a) n)) (λ e. bind_g (on e) (λ a n. place (f a) n))
 then-reads {A} {B} d s {read} {on} f r = record {
   here = λ at e h. ap (λ g. bind_g g (λ a n. place (f a) n)) (r.here at e h);
   none = λ at h. ap (λ g. bind_g g (λ a n. place (f a) n)) (r.none at h);
@@ -571,9 +574,9 @@ then-reads {A} {B} d s {read} {on} f r = record {
     no : {C : Type 0} {x : B} {n : ℕ} → ◌≡◌ {A = Got B} bad (got x n) → C
     no z = absurd (let y : ◌≡◌ {A = ℕ} 0 1 = cc in omega arith)
 
-    put : (x : B) (n m : ℕ) (o : Opt B) → place o m ≡ got x n → m ≡ n
-    put x n m (just y) z = cc
-    put x n m nothing z = no z
+    put : (x : B) (n m : ℕ) (o : Option B) → place o m ≡ got x n → m ≡ n
+    put x n m (Some y) z = cc
+    put x n m None z = no z
 
     go : (e : Element) (x : B) (n : ℕ) (g : Got A) → on e ≡ g → bind_g g (λ a k. place (f a) k) ≡ got x n → element_end d s e ≡ got tt n
     go e x n bad z w = no w

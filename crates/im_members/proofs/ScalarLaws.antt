@@ -1,4 +1,5 @@
 -- A scalar at a place: THE LAW that it is what the tree there is.
+use Rattle.std.specs.Prelude.{Some, None, Option}
 use mathlib.Core.Path.{◌≡◌, refl, sym, ◌∙◌}
 use mathlib.Core.Bool.{Bool}
 use mathlib.Core.List.{List}
@@ -8,8 +9,6 @@ use borrow.Author.Tests.{ne_eqb, le-ltb, lt-ltb, ltb-true, ltb-false}
 use lib.ListN.{length, take, drop}
 use lib.Dec.{ltb}
 use Rattle.tlv_reader.specs.declared.Element.{Element}
-use Rattle.tlv_reader.specs.declared.Head.{Head}
-use Rattle.tlv_reader.specs.declared.Head.TheVariants.{Found, Malformed}
 use Rattle.tlv_reader.specs.Octet.{structure, list}
 use Rattle.tlv_reader.specs.Tree.{Tag, Primitive, Tree, Trees, tag_of, scalar_of, primitive_of}
 use Rattle.tlv_reader.specs.Tree.Tree.{container}
@@ -47,9 +46,9 @@ module _ (g : ℕ → ℕ → ℕ) (F : Primitive → ℕ) (agrees : Each (Agree
   of-scalar zero s e = by_scalar s (λ k n. bad) e
   of-scalar (suc d) s e = by_scalar s (λ k n. trees_from (tree_of d s) (length s) s k n) e
 
-  headed-scalar : (d : ℕ) (s : List ℕ) (h : Head) → headed WRONG (λ e. g e.kind e.number) h ≡ scalar_t F (present (or_none (headed bad (tree_of d s) h)))
-  headed-scalar d s Malformed = refl
-  headed-scalar d s (Found e) = of-scalar d s e
+  headed-scalar : (d : ℕ) (s : List ℕ) (h : (Option Element)) → headed WRONG (λ e. g e.kind e.number) h ≡ scalar_t F (present (or_none (headed bad (tree_of d s) h)))
+  headed-scalar d s None = refl
+  headed-scalar d s (Some e) = of-scalar d s e
 
   pub scalar-law : (d : ℕ) (s : List ℕ) (p : ℕ) → scalar_in (λ e. g e.kind e.number) s p ≡ scalar_t F (slot_in d s p)
   unfolding slot_in tree_at

@@ -1,5 +1,5 @@
 -- The listed members of a container: in bytes, where each stands; in trees, which each is (RULES 4.12).
-use Rattle.std.specs.Prelude.{ℕ, zero, suc, ◌+◌, List, Bool, false, length, get_or, set, replicate, ltb, eqb}
+use Rattle.std.specs.Prelude.{ℕ, zero, suc, ◌+◌, List, Bool, false, length, get_or, set, replicate, ltb, eqb, Some, None, Option}
 use Rattle.tlv_reader.specs.declared.Element.{Element}
 use Rattle.tlv_reader.specs.Octet.{pick, end_of_container}
 use Rattle.tlv_reader.specs.Tree.{Tag, Tree, Trees, tag_of_tree}
@@ -9,8 +9,7 @@ use Rattle.tlv_reader.specs.Tree.Trees.{none}
 use Rattle.tlv_reader.specs.Head.{head_at}
 use Rattle.tlv_reader.specs.Walk.{Got, fold_at, headed, element_end}
 use Rattle.tlv_reader.specs.Walk.Got.{got, bad}
-use Rattle.tlv_reader.specs.Decode.{Opt, fold_t, tree_at}
-use Rattle.tlv_reader.specs.Decode.Opt.{just, nothing}
+use Rattle.tlv_reader.specs.Decode.{fold_t, tree_at}
 
 -- the slot of a context tag: 0 to 8 have their own, 255 has the last; 10 if the tag is not listed
 unfoldable pub place_of : List Bool → ℕ → ℕ
@@ -54,8 +53,8 @@ abbrev pub free : {A : Type 0} → Slot → A → A → A
 free absent a b = a
 free (present t) a b = b
 
-unfoldable pub put_t : List Slot → ℕ → Tree → Opt (List Slot)
-put_t xs i t = pick (ltb i 10) (free (get_or xs i absent) (just (set xs i (present t))) nothing) (just xs)
+unfoldable pub put_t : List Slot → ℕ → Tree → Option (List Slot)
+put_t xs i t = pick (ltb i 10) (free (get_or xs i absent) (Some (set xs i (present t))) None) (Some xs)
 
 abbrev pub slot_t : List Bool → Tag → ℕ
 slot_t listed anonymous = 10
@@ -64,16 +63,16 @@ slot_t listed (common n) = 10
 slot_t listed (implicit n) = 10
 slot_t listed (full v p n) = 10
 
-unfoldable pub field_m : List Bool → List Slot → Tree → Opt (List Slot)
+unfoldable pub field_m : List Bool → List Slot → Tree → Option (List Slot)
 field_m listed xs t = put_t xs (slot_t listed (tag_of_tree t)) t
 
 -- THE MEANING of members by their tags
-unfoldable pub fields_t : List Bool → Trees → Opt (List Slot)
+unfoldable pub fields_t : List Bool → Trees → Option (List Slot)
 fields_t listed ts = fold_t (field_m listed) (replicate 10 absent) ts
 
-unfoldable pub inside_t : ℕ → List Bool → Tree → Opt (List Slot)
-inside_t kind listed (primitive t x) = nothing
-inside_t kind listed (container t k ts) = pick (eqb k kind) (fields_t listed ts) nothing
+unfoldable pub inside_t : ℕ → List Bool → Tree → Option (List Slot)
+inside_t kind listed (primitive t x) = None
+inside_t kind listed (container t k ts) = pick (eqb k kind) (fields_t listed ts) None
 
 -- the tree at a place; one that no schema takes where there is none
 abbrev pub or_none : Got Tree → Tree

@@ -1,14 +1,12 @@
 -- One pass over a container's members, which stops at a member that a reader of its own reads: where it stops, and what it has seen by
 -- then; and what a scalar's head says, as one number.
-use Rattle.std.specs.Prelude.{ℕ, zero, suc, ◌+◌, ◌-◌, List, Bool, true, false, length, get_or, set, replicate, ltb, eqb}
+use Rattle.std.specs.Prelude.{ℕ, zero, suc, ◌+◌, ◌-◌, List, Bool, true, false, length, get_or, set, replicate, ltb, eqb, Some, None, Option, is_some}
 use Rattle.tlv_reader.specs.declared.Element.{Element}
-use Rattle.tlv_reader.specs.declared.Head.{Head}
-use Rattle.tlv_reader.specs.declared.Head.TheVariants.{Found, Malformed}
 use Rattle.tlv_reader.specs.Octet.{pick, end_of_container}
 use Rattle.tlv_reader.specs.Head.{head_at}
 use Rattle.tlv_reader.specs.Walk.{Got, bind_g, choose, allowed_in, headed, element_end}
 use Rattle.tlv_reader.specs.Walk.Got.{got, bad}
-use Rattle.tlv_reader.specs.Decode.{Opt, place}
+use Rattle.tlv_reader.specs.Decode.{place}
 use Rattle.im_members.specs.Fields.{slot_of, fields_at, inside_by}
 use Rattle.im_members.specs.Scalar.{ABSENT, NULL, WRONG}
 use Rattle.im_members.specs.declared.Stop.{Stop}
@@ -19,11 +17,16 @@ inside_on kind zero s listed e = bad
 inside_on kind (suc d) s listed e = inside_by kind (λ n. fields_at d s kind listed n) e
 
 -- what is made of the members; a frame: of the members of the container with a head
-abbrev pub made : {A : Type 0} → (List ℕ → Opt A) → Got (List ℕ) → Got A
+abbrev pub made : {A : Type 0} → (List ℕ → Option A) → Got (List ℕ) → Got A
 made F g = bind_g g (λ seen n. place (F seen) n)
 
-abbrev pub frame_on : {A : Type 0} → ℕ → ℕ → List ℕ → List Bool → (List ℕ → Opt A) → Element → Got A
+abbrev pub frame_on : {A : Type 0} → ℕ → ℕ → List ℕ → List Bool → (List ℕ → Option A) → Element → Got A
 frame_on kind d s tags F e = made F (inside_on kind d s tags e)
+
+-- where a pass stopped; what is malformed has stopped nowhere
+abbrev pub stop_in : Option Stop → Stop
+stop_in None = record { slot = 10; head = record { form = 0; kind = 0; tag = 0; number = 0; body = 0; next = record { at = 0 } } }
+stop_in (Some r) = r
 
 -- A PASS: where it stopped, and what it has seen, in ten slots
 pub record Pass : Type 0 where
@@ -33,18 +36,12 @@ pub record Pass : Type 0 where
   pub at : List ℕ
   pub codes : List ℕ
 
-abbrev pub pass_with : Stop → List ℕ → List ℕ → Pass
-pass_with r at codes = record { good = r.good; slot = r.slot; head = r.head; at = at; codes = codes }
+abbrev pub pass_with : Option Stop → List ℕ → List ℕ → Pass
+pass_with r at codes = record { good = is_some r; slot = (stop_in r).slot; head = (stop_in r).head; at = at; codes = codes }
 
 -- no pass, and one that has seen nothing
 abbrev pub no_pass : Pass
-no_pass = record {
-  good = false;
-  slot = 10;
-  head = record { form = 0; kind = 0; tag = 0; number = 0; body = 0; next = record { at = 0 } };
-  at = replicate 10 0;
-  codes = replicate 10 0;
-}
+no_pass = pass_with None (replicate 10 0) (replicate 10 0)
 
 -- THE CODE of a scalar: 0 absent, 1 null, 2 none of these, 3 an unsigned number over 2^32 - 1, 4 false, 5 true, 6 and up an unsigned number
 unfoldable pub code_of : ℕ → ℕ → ℕ
@@ -77,9 +74,9 @@ pass_member d s stops rest seen codes at e i =
     choose (ltb i 10) (λ _. pass_listed d s stops rest seen codes at e i) (λ _. pass_on (rest seen codes) (element_end d s e))
 
 -- by what stands at a position
-unfoldable pub pass_by : ℕ → List ℕ → ℕ → List Bool → List Bool → (List ℕ → List ℕ → ℕ → Pass) → List ℕ → List ℕ → ℕ → Head → Pass
-pass_by d s kind listed stops rest seen codes at Malformed = no_pass
-pass_by d s kind listed stops rest seen codes at (Found e) =
+unfoldable pub pass_by : ℕ → List ℕ → ℕ → List Bool → List Bool → (List ℕ → List ℕ → ℕ → Pass) → List ℕ → List ℕ → ℕ → Option Element → Pass
+pass_by d s kind listed stops rest seen codes at None = no_pass
+pass_by d s kind listed stops rest seen codes at (Some e) =
     choose (eqb e.kind end_of_container) (λ _. pass_at 10 e seen codes)
     (λ _. choose (allowed_in kind e.form) (λ _. pass_member d s stops rest seen codes at e (slot_of listed e.form e.tag)) (λ _. no_pass))
 

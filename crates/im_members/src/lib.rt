@@ -7,7 +7,7 @@ ghost use Rattle.im_members.specs.Fields.{slot_of};
 ghost use Rattle.im_members.specs.Pass.{no_pass, pass_with, pass_from, pass_of, code_of, number_by, flag_by, wide_by};
 ghost use Rattle.im_members.specs.Item.{item_at};
 
-use tlv_reader::{Cursor, Element, Head, Walk};
+use tlv_reader::{Cursor, Element};
 
 // Codes of a field that is no number below 2^32.
 pub const ABSENT: u64 = 4294967296;
@@ -38,36 +38,22 @@ fn slot(listed: &[bool; 10], form: u8, tag: u64) -> usize
     10
 }
 
-// Where a pass over the members of a container stopped: whether it is well formed so far; the slot of the member where it stopped, or 10
-// at the container's end; and the head that it read last. What it has seen is lent: where each listed member stands, plus one, or 0, and
-// each one's scalar as a code. Context tags 0 to 8 have slots of their own, and 255 has the last.
+// Where a pass over the members of a container stopped: the slot of the member, or 10 at the container's end; and the head that it read
+// last. What it has seen is lent: where each listed member stands, plus one, or 0, and each one's scalar as a code. Context tags 0 to 8
+// have slots of their own, and 255 has the last.
 #[derive(Clone, Copy)]
 pub struct Stop {
-    pub good: bool,
     pub slot: usize,
     pub head: Element,
 }
 
-const NO_ELEMENT: Element = Element {
-    form: 0,
-    kind: 0,
-    tag: 0,
-    number: 0,
-    body: 0,
-    next: Cursor { at: 0 },
-};
-
 // No pass: what is read is malformed, and nothing is seen.
-pub fn refused(at: &mut [usize; 10], codes: &mut [u64; 10]) -> Stop
+pub fn refused(at: &mut [usize; 10], codes: &mut [u64; 10]) -> Option<Stop>
     ensures { pass_with result at.new codes.new ≡ no_pass }
 {
     *at = [0usize; 10];
     *codes = [0u64; 10];
-    Stop {
-        good: false,
-        slot: 10,
-        head: NO_ELEMENT,
-    }
+    None
 }
 
 // A pass that stops only at the container's end, at the member of slot 0, or at that of slot 1.
@@ -116,28 +102,24 @@ pub fn resume(
     stops: &[bool; 10],
     at: &mut [usize; 10],
     codes: &mut [u64; 10],
-) -> Stop
+) -> Option<Stop>
     ensures { pass_with result at.new codes.new ≡ pass_from left s.now kind listed.now stops.now at.old codes.old c.at }
 {
     let mut p = c.at;
     loop {
         let here = Cursor { at: p };
-        let Head::Found(e) = here.head(s) else {
+        let Some(e) = here.head(s) else {
             return refused(at, codes);
         };
         if e.kind == tlv_reader::END {
-            return Stop {
-                good: true,
-                slot: 10,
-                head: e,
-            };
+            return Some(Stop { slot: 10, head: e });
         }
         if !tlv_reader::allowed(kind, e.form) {
             return refused(at, codes);
         }
         let i = slot(listed, e.form, e.tag);
         if 10 <= i {
-            let Walk::Past(n) = tlv_reader::walk_element(s, e, left) else {
+            let Some(n) = tlv_reader::walk_element(s, e, left) else {
                 return refused(at, codes);
             };
             p = n.at;
@@ -148,13 +130,9 @@ pub fn resume(
             at[i] = p + 1;
             codes[i] = code_of(e.kind, e.number);
             if stops[i] {
-                return Stop {
-                    good: true,
-                    slot: i,
-                    head: e,
-                };
+                return Some(Stop { slot: i, head: e });
             }
-            let Walk::Past(n) = tlv_reader::walk_element(s, e, left) else {
+            let Some(n) = tlv_reader::walk_element(s, e, left) else {
                 return refused(at, codes);
             };
             p = n.at;
@@ -171,7 +149,7 @@ pub fn finish(
     listed: &[bool; 10],
     at: &mut [usize; 10],
     codes: &mut [u64; 10],
-) -> Stop
+) -> Option<Stop>
     ensures { pass_with result at.new codes.new ≡ pass_from left s.now kind listed.now (replicate 10 false) at.old codes.old c.at }
 {
     let never = NO_STOP;
@@ -188,7 +166,7 @@ pub fn begin(
     stops: &[bool; 10],
     at: &mut [usize; 10],
     codes: &mut [u64; 10],
-) -> Stop
+) -> Option<Stop>
     ensures { pass_with result at.new codes.new ≡ pass_of kind left s.now listed.now stops.now e }
 {
     let none = refused(at, codes);
@@ -267,7 +245,7 @@ pub enum MemberAt {
 pub fn item_at(s: &[u8], c: Cursor, kind: u8) -> MemberAt
     ensures { result ≡ item_at kind s.now c.at }
 {
-    let Head::Found(e) = c.head(s) else {
+    let Some(e) = c.head(s) else {
         return MemberAt::BadItem;
     };
     if e.kind == tlv_reader::END {

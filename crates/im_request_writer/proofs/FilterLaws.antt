@@ -1,4 +1,5 @@
 -- Paths, filters and entries of requests: they are ours to write, and mean what was meant; and how long a filter is.
+use Rattle.std.specs.Prelude.{Some}
 use mathlib.Core.Path.{◌≡◌, refl}
 use mathlib.Core.Bool.{Bool, true, false}
 use Prim.Native.Nat.{ℕ, ◌+◌, ◌^◌, ◌<◌, ◌≤◌}
@@ -9,7 +10,6 @@ use Rattle.tlv_reader.specs.Octet.{pick, number_width}
 use Rattle.tlv_reader.specs.Tree.{depth, stands}
 use Rattle.tlv_reader.specs.Value.{Datum}
 use Rattle.tlv_reader.specs.Decode.{fold_t}
-use Rattle.tlv_reader.specs.Decode.Opt.{just}
 use Rattle.tlv_reader.specs.Tree.Tag.{anonymous}
 use Rattle.tlv_writer.specs.Width.{least_width}
 use Rattle.tlv_writer.specs.Element.{datum_octets}
@@ -28,18 +28,18 @@ use Rattle.im_writer.proofs.BlockLaws.{data-means, versioned-means}
 use Rattle.im_request_writer.specs.Request.{wildcard_tree, cluster_tree, filter_tree, versioned, entry_tree}
 use Rattle.im_request_writer.specs.Meaning.{any_path, exact_cluster, exact_filter}
 
-pub wildcard-means : path_t wildcard_tree ≡ just any_path
+pub wildcard-means : path_t wildcard_tree ≡ Some any_path
 unfolding path_t path_of sound_path inside_t fields_t fold_t number_t flag_t wide_t wildcard_tree
 wildcard-means = refl
 
 module _ (e c version : ℕ) (fe : e < 2 ^ 16) (fc : c < 2 ^ 32) (fv : version < 2 ^ 32) where
-  pub cluster-means : cluster_t (cluster_tree e c) ≡ just (exact_cluster e c)
+  pub cluster-means : cluster_t (cluster_tree e c) ≡ Some (exact_cluster e c)
   unfolding cluster_t cluster_of sound_cluster inside_t fields_t fold_t field_m put_t place_of number_t wide_t cluster_tree
   cluster-means =
       rw (le-ltb 65535 e (omega arith), le-ltb 4294967295 c (omega arith), lt-ltb e ABSENT (omega arith), lt-ltb c ABSENT (omega arith))
       refl
 
-  pub filter-means : filter_t (filter_tree e c version) ≡ just (exact_filter e c version)
+  pub filter-means : filter_t (filter_tree e c version) ≡ Some (exact_filter e c version)
   unfolding filter_t filter_slots inside_t fields_t fold_t field_m put_t place_of required_t number_t filter_tree cluster_tree
   filter-means = rw (cluster-means, le-ltb 4294967295 version (omega arith), lt-ltb version ABSENT (omega arith)) refl
 
@@ -65,7 +65,7 @@ module _ (e c version : ℕ) (fe : e < 2 ^ 16) (fc : c < 2 ^ 32) (fv : version <
 
 -- an entry of a write, with or without a version
 module _ (e c a : ℕ) (fe : e < 2 ^ 16) (fc : c < 2 ^ 32) (fa : a < 2 ^ 32) (d : Datum) (version : ℕ) (fv : version < 2 ^ 32) where
-  pub entry-means : (given : Bool) → data_t (entry_tree given version e c a d) ≡ just (exact_data (pick given version ABSENT) e c a d)
+  pub entry-means : (given : Bool) → data_t (entry_tree given version e c a d) ≡ Some (exact_data (pick given version ABSENT) e c a d)
   unfolding entry_tree versioned
   entry-means true = versioned-means e c a fe fc fa d version fv anonymous
   entry-means false = data-means e c a fe fc fa d anonymous

@@ -1,4 +1,5 @@
 -- The entries of a write: THE LAW that what is read is the meaning of the trees there, and the loop case by case for the code.
+use Rattle.std.specs.Prelude.{Some, None, Option}
 use mathlib.Core.Path.{◌≡◌, refl, ap, ◌∙◌}
 use mathlib.Core.Bool.{Bool, true, false}
 use mathlib.Core.List.{List}
@@ -8,34 +9,27 @@ use Rattle.tlv_reader.specs.Octet.{pick}
 use Rattle.tlv_reader.specs.Tree.{Tree}
 use Rattle.tlv_reader.specs.Walk.{Got, map_g, bind_g}
 use Rattle.tlv_reader.specs.Walk.Got.{got, bad}
-use Rattle.tlv_reader.specs.Decode.{Opt, bind_o, place, tree_at}
-use Rattle.tlv_reader.specs.Decode.Opt.{just, nothing}
+use Rattle.tlv_reader.specs.Decode.{bind_o, place, tree_at}
 use Rattle.im_members.specs.Array.{map_o}
-use native.Mathlib.Omega.{arith}
-use Rattle.tlv_reader.specs.declared.Cursor.{Cursor}
-use Rattle.im_members.proofs.PassLaws.{Reads, then-reads}
-use Rattle.im_blocks.proofs.OnLaws.{data_reads}
-use Rattle.im_requests.specs.declared.write.EntryRead.TheVariants as entry
 use Rattle.im_blocks.specs.Path.{exact_p}
 use Rattle.im_blocks.specs.Data.{DataOf, data_at, data_on, data_t, data_tree}
 use Rattle.im_blocks.proofs.DataLaws.{data-law}
-use Rattle.im_requests.specs.declared.write.WriteEntry.{WriteEntry}
-use Rattle.im_requests.specs.Write.{EntryOf, entry_for, entry_if, entry_at, entry_on, entry_read, entry_t, entry_struct, entry_tree}
+use Rattle.im_requests.specs.Write.{entry_for, entry_if, entry_at, entry_on, entry_t, entry_tree}
 
 -- ---- the law of an entry
 
-map-bind : {A B C : Type 0} (β : B → C) (F : A → Opt B) (g : Got A) → map_g β (bind_g g (λ a n. place (F a) n)) ≡ bind_g g (λ a n. place (map_o β (F a)) n)
+map-bind : {A B C : Type 0} (β : B → C) (F : A → Option B) (g : Got A) → map_g β (bind_g g (λ a n. place (F a) n)) ≡ bind_g g (λ a n. place (map_o β (F a)) n)
 map-bind β F bad = refl
 map-bind β F (got a n) = go (F a)
   where
-    go : (o : Opt _) → map_g β (place o n) ≡ place (map_o β o) n
-    go nothing = refl
-    go (just b) = refl
+    go : (o : Option _) → map_g β (place o n) ≡ place (map_o β o) n
+    go None = refl
+    go (Some b) = refl
 
 through : (d : ℕ) (s : List ℕ) (x : DataOf ℕ) → map_o (entry_tree d s) (entry_if x) ≡ entry_if (data_tree d s x)
 through d s x = go (exact_p x.path)
   where
-    go : (b : Bool) → map_o (entry_tree d s) (pick b (just (entry_for x)) nothing) ≡ pick b (just (entry_for (data_tree d s x))) nothing
+    go : (b : Bool) → map_o (entry_tree d s) (pick b (Some (entry_for x)) None) ≡ pick b (Some (entry_for (data_tree d s x))) None
     go true = refl
     go false = refl
 
@@ -47,9 +41,9 @@ bind-bind : (g : Got Tree) → bind_g (bind_g g (λ t n. place (data_t t) n)) (�
 bind-bind bad = refl
 bind-bind (got t n) = go (data_t t)
   where
-    go : (o : Opt (DataOf Tree)) → bind_g (place o n) (λ x k. place (entry_if x) k) ≡ place (bind_o o entry_if) n
-    go nothing = refl
-    go (just x) = refl
+    go : (o : Option (DataOf Tree)) → bind_g (place o n) (λ x k. place (entry_if x) k) ≡ place (bind_o o entry_if) n
+    go None = refl
+    go (Some x) = refl
 
 pub entry-law : (d : ℕ) (s : List ℕ) (at : ℕ) → map_g (entry_tree (d - 1) s) (entry_at d s at) ≡ bind_g (tree_at d s at) (λ t n. place (entry_t t) n)
 unfolding entry_at entry_t
@@ -60,10 +54,6 @@ entry-law d s at =
     ∙ bind-bind (tree_at d s at)
 
 -- ---- for the code
-
-pub entry-reads : (d : ℕ) (s : List ℕ) → Reads d s (entry_at d s) (entry_on d s)
-unfolding entry_at entry_on
-entry-reads d s = then-reads d s entry_if (data_reads d s)
 
 module _ (d : ℕ) (s : List ℕ) (e : Element) where
   pub entry-bad : data_on d s e ≡ bad → entry_on d s e ≡ bad
@@ -77,23 +67,3 @@ module _ (d : ℕ) (s : List ℕ) (e : Element) where
   pub entry-got : {x : DataOf ℕ} {n : ℕ} → data_on d s e ≡ got x n → exact_p x.path ≡ true → entry_on d s e ≡ got (entry_for x) n
   unfolding entry_on
   entry-got w q = ap (λ g. bind_g g (λ x n. place (entry_if x) n)) w ∙ rw q refl
-
--- what the reader of an entry says
-never : {A : Type 0} → ◌≡◌ {A = ℕ} 0 1 → A
-never e = absurd (omega arith)
-
-pub entry-none : (g : Got (EntryOf ℕ)) → entry_read g ≡ entry.NoEntry → g ≡ bad
-entry-none bad e = refl
-entry-none (got x n) e = never (cc)
-
-pub record Read (g : Got (EntryOf ℕ)) (t : WriteEntry) (n : ℕ) : Type 0 where
-  pub value : EntryOf ℕ
-  pub is : t ≡ entry_struct value
-  pub found : g ≡ got value n
-
-pub entry-some : (g : Got (EntryOf ℕ)) {t : WriteEntry} {n : Cursor} → entry_read g ≡ entry.WriteEntry t n → Read g t n.at
-entry-some bad e = never (cc)
-entry-some (got x m) {t} {n} e =
-    let f : t ≡ entry_struct x = cc in
-    let k : m ≡ n.at = cc in
-    record { value = x; is = f; found = ap (got x) k }

@@ -1,4 +1,5 @@
 -- An array at a position: THE LAW that what is read is the meaning of its tree.
+use Rattle.std.specs.Prelude.{Some, None, Option}
 use mathlib.Core.Path.{◌≡◌, refl, sym, ap, ◌∙◌}
 use mathlib.Core.Bool.{Bool, true, false}
 use mathlib.Core.List.{List, [], ◌∷◌, map}
@@ -8,16 +9,13 @@ use borrow.Author.Tests.{ne_eqb, eqb-true, ltb-true}
 use lib.ListN.{length}
 use lib.Dec.{ltb, eqb}
 use Rattle.tlv_reader.specs.declared.Element.{Element}
-use Rattle.tlv_reader.specs.declared.Head.{Head}
-use Rattle.tlv_reader.specs.declared.Head.TheVariants.{Found, Malformed}
 use Rattle.tlv_reader.specs.Octet.{pick, structure, array, list}
 use Rattle.tlv_reader.specs.Tree.{Tree, Trees, tag_of}
 use Rattle.tlv_reader.specs.Tree.Tree.{container}
 use Rattle.tlv_reader.specs.Head.{head_at}
 use Rattle.tlv_reader.specs.Walk.{Got, map_g, bind_g, headed, fold_at}
 use Rattle.tlv_reader.specs.Walk.Got.{got, bad}
-use Rattle.tlv_reader.specs.Decode.{Opt, place, fold_t, trees_from, tree_by, tree_of, trees_at, tree_at}
-use Rattle.tlv_reader.specs.Decode.Opt.{nothing}
+use Rattle.tlv_reader.specs.Decode.{place, fold_t, trees_from, tree_by, tree_of, trees_at, tree_at}
 use Rattle.tlv_reader.proofs.Picks.{choose-elim}
 use Rattle.im_members.specs.Array.{each_step, each_t}
 use Rattle.im_members.proofs.ArrayLaws.{each-law, plain}
@@ -31,11 +29,11 @@ bind-map : {A B C : Type 0} (f : A → B) (k : B → ℕ → Got C) (g : Got A) 
 bind-map f k bad = refl
 bind-map f k (got a n) = refl
 
-bind-nothing : {A B : Type 0} (f : A → Opt B) (g : Got A) → ((a : A) → f a ≡ nothing) → bind_g g (λ a n. place (f a) n) ≡ bad
+bind-nothing : {A B : Type 0} (f : A → Option B) (g : Got A) → ((a : A) → f a ≡ None) → bind_g g (λ a n. place (f a) n) ≡ bad
 bind-nothing f bad e = refl
 bind-nothing f (got a n) e = ap (λ o. place o n) (e a)
 
-module _ {A B : Type 0} (β : A → B) (means : Tree → Opt B) where
+module _ {A B : Type 0} (β : A → B) (means : Tree → Option B) where
   by-list : (s : List ℕ) (inner : ℕ → Got (List A)) (inner' : ℕ → ℕ → Got Trees) → ((n : ℕ) → map_g (map β) (inner n) ≡ bind_g (inner' array n) (λ ts n. place (fold_t (each_t snoc means) [] ts) n)) → (e : Element) → map_g (map β) (pick (eqb e.kind array) (inner e.next.at) bad) ≡ bind_g (tree_by s inner' e) (λ t n. place (list_t means t) n)
   unfolding tree_by
   by-list s inner inner' q e =
@@ -50,10 +48,10 @@ module _ {A B : Type 0} (β : A → B) (means : Tree → Opt B) where
       go false z = rw z (sym (bind-map (container (tag_of e.form e.tag) e.kind) (λ t n. place (list_t means t) n) (inner' e.kind e.next.at) ∙ bind-nothing (λ ts. list_t means (container (tag_of e.form e.tag) e.kind ts)) (inner' e.kind e.next.at) (λ ts. simp z)))
 
   module _ (read : ℕ → List ℕ → ℕ → Got A) (d : ℕ) (s : List ℕ) (law : (at : ℕ) → map_g β (read d s at) ≡ bind_g (tree_at d s at) (λ t n. place (means t) n)) where
-    headed-list : (h : Head) → map_g (map β) (headed bad (λ e. pick (eqb e.kind array) (fold_at (each_step snoc (read d s)) (length s) s array [] e.next.at) bad) h) ≡ bind_g (headed bad (tree_of (suc d) s) h) (λ t n. place (list_t means t) n)
+    headed-list : (h : (Option Element)) → map_g (map β) (headed bad (λ e. pick (eqb e.kind array) (fold_at (each_step snoc (read d s)) (length s) s array [] e.next.at) bad) h) ≡ bind_g (headed bad (tree_of (suc d) s) h) (λ t n. place (list_t means t) n)
     unfolding tree_of trees_at
-    headed-list Malformed = refl
-    headed-list (Found e) = by-list s (λ n. fold_at (each_step snoc (read d s)) (length s) s array [] n) (λ k n. trees_from (tree_of d s) (length s) s k n) (λ n. each-law β d s (read d s) means law snoc (map β) snoc (map_snoc β) [] array n) e
+    headed-list None = refl
+    headed-list (Some e) = by-list s (λ n. fold_at (each_step snoc (read d s)) (length s) s array [] n) (λ k n. trees_from (tree_of d s) (length s) s k n) (λ n. each-law β d s (read d s) means law snoc (map β) snoc (map_snoc β) [] array n) e
 
     pub list_law : (at : ℕ) → map_g (map β) (list_at read (suc d) s at) ≡ bind_g (tree_at (suc d) s at) (λ t n. place (list_t means t) n)
     unfolding list_at tree_at
@@ -68,5 +66,5 @@ same-list : {A : Type 0} (g : Got (List A)) → map_g (map (λ x. x)) g ≡ g
 same-list bad = refl
 same-list (got l n) = ap (λ r. got r n) (map-id l)
 
-pub list-plain : {A : Type 0} (read : ℕ → List ℕ → ℕ → Got A) (means : Tree → Opt A) (d : ℕ) (s : List ℕ) → ((at : ℕ) → read d s at ≡ bind_g (tree_at d s at) (λ t n. place (means t) n)) → (at : ℕ) → list_at read (suc d) s at ≡ bind_g (tree_at (suc d) s at) (λ t n. place (list_t means t) n)
+pub list-plain : {A : Type 0} (read : ℕ → List ℕ → ℕ → Got A) (means : Tree → Option A) (d : ℕ) (s : List ℕ) → ((at : ℕ) → read d s at ≡ bind_g (tree_at d s at) (λ t n. place (means t) n)) → (at : ℕ) → list_at read (suc d) s at ≡ bind_g (tree_at (suc d) s at) (λ t n. place (list_t means t) n)
 list-plain read means d s law at = sym (same-list (list_at read (suc d) s at)) ∙ list_law (λ x. x) means read d s (plain d s (read d s) means law) at

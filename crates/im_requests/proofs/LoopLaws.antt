@@ -1,11 +1,14 @@
 -- A loop over the members of an array that are all read by one reader, counted, and the first n of them stored in words: for any
 -- reader. With no room (n = 0) it only counts.
+use Rattle.std.specs.Prelude.{Some, None}
+use Rattle.std.proofs.lemmas.Option.{some_pair_parts}
 use mathlib.Core.Path.{◌≡◌, refl, sym, ap, ◌∙◌}
 use mathlib.Core.List.{List, []}
 use Prim.Native.Nat.{ℕ, zero, suc, ◌+◌, ◌-◌, ◌<◌, ◌≤◌}
 use native.Mathlib.Omega.{arith}
 use lib.ListN.{length, take}
 use Rattle.base_octets.specs.Store.{store}
+use Rattle.base_octets.proofs.StoreLaws.{length-store}
 use Rattle.tlv_reader.specs.declared.Cursor.{Cursor}
 use Rattle.tlv_reader.specs.declared.Element.{Element}
 use Rattle.tlv_reader.specs.Octet.{array}
@@ -17,7 +20,7 @@ use Rattle.im_members.specs.Item.{item_at}
 use Rattle.im_members.specs.Array.{each_step}
 use Rattle.im_members.proofs.PassLaws.{Reads, reads-forward}
 use Rattle.im_members.proofs.ItemLaws.{standing, item-bad, item-end, item-breaks, item_on}
-use Rattle.im_requests.specs.Message.{snoc, words_of, keep_more}
+use Rattle.im_requests.specs.Message.{snoc, words_of, keep_more, read_as}
 use Rattle.im_requests.proofs.KeepLaws.{length-snoc, words-keep}
 
 -- what the loop knows: some list of what it has seen, from which the definition goes on
@@ -52,6 +55,9 @@ module _ {A : Type 0} (enc : A → List ℕ) (n : ℕ) (old : List ℕ) (d : ℕ
       kept-none (suc i) = refl
 
   module _ {count : ℕ} {words : List ℕ} {at : ℕ} (k : Loop count words at) where
+    pub loop-same : length words ≡ length old
+    loop-same = ap length k.kept ∙ length-store old 0 (words_of enc (take n k.list))
+
     pub loop-bad : item_at array s at ≡ BadItem → target ≡ bad
     loop-bad w = k.goes_on ∙ item-bad (each_step snoc read) s forward array k.list at w
 
@@ -93,3 +99,23 @@ module _ {A : Type 0} (enc : A → List ℕ) (n : ℕ) (old : List ℕ) (d : ℕ
 -- a loop that only counts
 abbrev pub counted : {A : Type 0} → A → List ℕ
 counted x = []
+
+-- what a reader found, of what the code holds of it
+never : {A : Type 0} → ◌≡◌ {A = ℕ} 0 1 → A
+never e = absurd (omega arith)
+
+module _ {A B : Type 0} (held : A → B) where
+  pub as-lacks : (g : Got A) → read_as held g ≡ None → g ≡ bad
+  as-lacks bad e = refl
+  as-lacks (got x n) e = never (cc)
+
+  pub record Held (g : Got A) (t : B) (n : ℕ) : Type 0 where
+    pub value : A
+    pub is : t ≡ held value
+    pub found : g ≡ got value n
+
+  pub as-has : (g : Got A) {t : B} {n : Cursor} → read_as held g ≡ Some (t, n) → Held g t n.at
+  as-has bad e = never (cc)
+  as-has (got x m) {t} {n} e =
+      let p = some_pair_parts (held x) t (record { at = m }) n e in
+      record { value = x; is = sym p.0; found = ap (λ (k : Cursor). got x k.at) p.1 }

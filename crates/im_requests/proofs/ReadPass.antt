@@ -1,4 +1,5 @@
 -- The Read Request in one pass: what its code goes on with, whichever list comes first.
+use Rattle.std.specs.Prelude.{Some, None, Option}
 use mathlib.Core.Path.{◌≡◌, refl, sym, ap, ◌∙◌}
 use mathlib.Core.Bool.{Bool, true, false}
 use mathlib.Core.List.{List, [], ◌∷◌, map}
@@ -12,18 +13,17 @@ use Rattle.base_octets.specs.Store.{store}
 use Rattle.tlv_reader.specs.Octet.{pick, structure}
 use Rattle.tlv_reader.specs.Walk.{Got}
 use Rattle.tlv_reader.specs.Walk.Got.{got, bad}
-use Rattle.tlv_reader.specs.Decode.{Opt, bind_o}
-use Rattle.tlv_reader.specs.Decode.Opt.{just, nothing}
+use Rattle.tlv_reader.specs.Decode.{bind_o}
 use Rattle.im_members.specs.Array.{optional_in}
 use Rattle.im_members.specs.Scalar.{number_in, flag_in}
-use Rattle.im_members.specs.Pass.{Pass, no_pass, pass_from, code_in, number_by, flag_by}
+use Rattle.im_members.specs.Pass.{Pass, pass_with, no_pass, pass_from, code_in, number_by, flag_by}
 use Rattle.im_members.proofs.ArrayLaws.{optional-none}
 use Rattle.im_members.proofs.PassLaws.{Left, frame-none, number-coded, flag-coded, Reads, nowhere, none_true, only-first, nest-on, nest-no-option, nest-option, nest-there}
 use Rattle.im_requests.specs.Message.{given, list_at, list_on, structure_at, open_pass, whole_pass, words_of, Kept, kept_as, ListRead, list_read}
 use Rattle.im_requests.specs.Read.{Read, target_size, target_words, asked_at, asked_on, version_filter_size, version_filter_words, version_filter_at, version_filter_on, PassKept, found_on, pass_paths, pass_version_filters, read_tags, read_of, read_from, read_in, read_kept, readable, read_by}
 use Rattle.im_requests.specs.declared.Target.{Target}
 use Rattle.im_requests.specs.declared.VersionFilter.{VersionFilter}
-use Rattle.im_requests.proofs.ReadLaws.{asked-reads, version-filter-reads}
+use Rattle.im_requests.specs.Lists.{asked-reads, version-filter-reads}
 use Rattle.im_requests.proofs.PassLaws.{list-reads, opened, whole-bad, whole-refused, whole-passed}
 
 -- ---- the lists by their heads
@@ -38,31 +38,31 @@ clash : true ≡ false → ⊥
 clash e = let z : ◌≡◌ {A = ℕ} 1 0 = ap (λ (b : Bool). pick b 1 0) e in omega arith
 
 -- a list that can't be read makes no request
-lacks-paths : (s xs : List ℕ) → optional_in [] (list_at asked_at 9 s) (get_or xs 0 0) ≡ nothing → read_from s xs ≡ nothing
+lacks-paths : (s xs : List ℕ) → optional_in [] (list_at asked_at 9 s) (get_or xs 0 0) ≡ None → read_from s xs ≡ None
 unfolding read_from
 lacks-paths s xs e = rw e (go (given (flag_in s (get_or xs 3 0))) (given (number_in 255 false s (get_or xs 9 0))))
   where
-    go : (a b : Bool) → ◌≡◌ {A = Opt Read} (pick a (pick b nothing nothing) nothing) nothing
+    go : (a b : Bool) → ◌≡◌ {A = Option Read} (pick a (pick b None None) None) None
     go false b = refl
     go true false = refl
     go true true = refl
 
-lacks-version-filters : (s xs : List ℕ) → optional_in [] (list_at version_filter_at 9 s) (get_or xs 4 0) ≡ nothing → read_from s xs ≡ nothing
+lacks-version-filters : (s xs : List ℕ) → optional_in [] (list_at version_filter_at 9 s) (get_or xs 4 0) ≡ None → read_from s xs ≡ None
 unfolding read_from
 lacks-version-filters s xs e = rw e (go (given (flag_in s (get_or xs 3 0))) (given (number_in 255 false s (get_or xs 9 0))) (optional_in [] (list_at asked_at 9 s) (get_or xs 0 0)))
   where
-    go : (a b : Bool) (ps : Opt (List Target)) → ◌≡◌ {A = Opt Read} (pick a (pick b (bind_o {B = Read} ps (λ p. nothing)) nothing) nothing) nothing
+    go : (a b : Bool) (ps : Option (List Target)) → ◌≡◌ {A = Option Read} (pick a (pick b (bind_o {B = Read} ps (λ p. None)) None) None) None
     go false b ps = refl
     go true false ps = refl
-    go true true nothing = refl
-    go true true (just p) = refl
+    go true true None = refl
+    go true true (Some p) = refl
 
 -- ---- a request so far: what its pass says, and the lists that were read at its stops; at a stop, its stage says where
 
-abbrev PathsIn : List ℕ → Pass → Opt (List Target)
+abbrev PathsIn : List ℕ → Pass → Option (List Target)
 PathsIn s m = optional_in [] (list_at asked_at 9 s) (get_or m.at 0 0)
 
-abbrev VersionFiltersIn : List ℕ → Pass → Opt (List VersionFilter)
+abbrev VersionFiltersIn : List ℕ → Pass → Option (List VersionFilter)
 VersionFiltersIn s m = optional_in [] (list_at version_filter_at 9 s) (get_or m.at 4 0)
 
 -- the lists as they are kept, over what their words held before
@@ -78,13 +78,13 @@ module _ (old old' : List ℕ) where
   none_kept enc n words = refl
 
   pub record ReadTo (s : List ℕ) (Stage : Pass → Type 0) (m : Pass) (ps fs : Kept) : Type 0 where
-    pub lost : m.good ≡ false → read_in s ≡ nothing
+    pub lost : m.good ≡ false → read_in s ≡ None
     pub sound : m.slot < 10 → m.good ≡ true
     pub stops : List Bool
     pub before : List ℕ
     pub left : m.good ≡ true → Left 9 s structure read_tags stops before (structure_at read_tags s) m
-    pub paths : m.good ≡ true → (m.slot ≡ 0 → ⊥) → (l : List Target) × (PathsIn s m ≡ just l) × (ps ≡ KeptPaths l)
-    pub wants : m.good ≡ true → (m.slot ≡ 4 → ⊥) → (l : List VersionFilter) × (VersionFiltersIn s m ≡ just l) × (fs ≡ KeptVersionFilters l)
+    pub paths : m.good ≡ true → (m.slot ≡ 0 → ⊥) → (l : List Target) × (PathsIn s m ≡ Some l) × (ps ≡ KeptPaths l)
+    pub wants : m.good ≡ true → (m.slot ≡ 4 → ⊥) → (l : List VersionFilter) × (VersionFiltersIn s m ≡ Some l) × (fs ≡ KeptVersionFilters l)
     pub stage : m.slot < 10 → Stage m
     pub fresh : m.slot ≡ 0 → ps.words ≡ old
 
@@ -155,13 +155,13 @@ module _ (old old' : List ℕ) where
             }
           where
             -- where it stops at the paths, none were read before
-            unread : {z : Pass} → After s further m z → z.slot ≡ 0 → (p : List Target) → PathsIn s m ≡ just p → ps ≡ KeptPaths p → ps.words ≡ old
+            unread : {z : Pass} → After s further m z → z.slot ≡ 0 → (p : List Target) → PathsIn s m ≡ Some p → ps ≡ KeptPaths p → ps.words ≡ old
             unread N j p q k =
                 let f = N.free (omega (arith, j)) in
                 let o : get_or m.at 0 0 ≡ 0 = rw j at f in
                 empty p (sym (optional-none [] (list_at asked_at 9 s) (get_or m.at 0 0) o) ∙ q) k
               where
-                empty : (p : List Target) → just [] ≡ just p → ps ≡ KeptPaths p → ps.words ≡ old
+                empty : (p : List Target) → Some [] ≡ Some p → ps ≡ KeptPaths p → ps.words ≡ old
                 empty [] e k = ap (λ (y : Kept). y.words) k
                 empty (x ∷ p) e k = absurd (let y : ◌≡◌ {A = List Target} [] (x ∷ p) = cc in let h : 0 ≡ length (x ∷ p) = ap length y in omega (arith, h))
 
@@ -218,7 +218,7 @@ module _ (old old' : List ℕ) where
 
 -- ---- at the end
 
-from : (s xs ks : List ℕ) → ks ≡ map (code_in s) xs → {p : List Target} {f : List VersionFilter} → optional_in [] (list_at asked_at 9 s) (get_or xs 0 0) ≡ just p → optional_in [] (list_at version_filter_at 9 s) (get_or xs 4 0) ≡ just f → read_from s xs ≡ read_of (flag_by (get_or ks 3 0)) (number_by 255 false (get_or ks 9 0)) (just p) (just f)
+from : (s xs ks : List ℕ) → ks ≡ map (code_in s) xs → {p : List Target} {f : List VersionFilter} → optional_in [] (list_at asked_at 9 s) (get_or xs 0 0) ≡ Some p → optional_in [] (list_at version_filter_at 9 s) (get_or xs 4 0) ≡ Some f → read_from s xs ≡ read_of (flag_by (get_or ks 3 0)) (number_by 255 false (get_or ks 9 0)) (Some p) (Some f)
 unfolding read_from
 from s xs ks k a b = rw (a, b, ← (flag-coded s ks xs k 3 refl), ← (number-coded s ks xs k 9 255 false (omega arith) refl)) refl
 
@@ -234,7 +234,7 @@ module _ (old old' : List ℕ) where
           go true e = absurd (R.stage (ltb-true m.slot 10 e))
           go false e = ltb-false m.slot 10 e
 
-      made : (p : List Target) (f : List VersionFilter) (w a b : Bool) → pick (pick w (pick a b false) false) (read_kept old old' (just (record { paths = p; filters = f }))) (read_kept [] [] nothing) ≡ read_kept old old' (pick w (pick a (pick b (just (record { paths = p; filters = f })) nothing) nothing) nothing)
+      made : (p : List Target) (f : List VersionFilter) (w a b : Bool) → pick (pick w (pick a b false) false) (read_kept old old' (Some (record { paths = p; filters = f }))) (read_kept [] [] None) ≡ read_kept old old' (pick w (pick a (pick b (Some (record { paths = p; filters = f })) None) None) None)
       made p f false a b = refl
       made p f true false b = refl
       made p f true true false = refl
@@ -248,7 +248,7 @@ module _ (old old' : List ℕ) where
           let k = (R.left g).coded in
           (λ j. read_by (length s) m (p.2 j) (f.2 j))
           ∙ made p.0 f.0 (whole_pass (length s) m) (given (flag_by (get_or m.codes 3 0))) (given (number_by 255 false (get_or m.codes 9 0)))
-          ∙ sym (ap (read_kept old old') (whole-passed (read_from s) (R.left g) over ∙ ap (λ o. pick (whole_pass (length s) m) o nothing) (from s m.at m.codes k p.1 f.1)))
+          ∙ sym (ap (read_kept old old') (whole-passed (read_from s) (R.left g) over ∙ ap (λ o. pick (whole_pass (length s) m) o None) (from s m.at m.codes k p.1 f.1)))
 
   -- THE LAW of the request in one pass
   pub read-passed : (s : List ℕ) {m : Pass} {x y z : PassKept} → m ≡ open_pass read_tags either_list s → x ≡ pass_paths s only_filters m (record { count = 0; words = old }) → y ≡ pass_version_filters s only_paths x.pass (record { count = 0; words = old' }) → z ≡ pass_paths s (replicate 10 false) y.pass x.kept → read_by (length s) z.pass z.kept y.kept ≡ read_kept old old' (read_in s)
@@ -265,6 +265,11 @@ module _ (old old' : List ℕ) where
         where
           stays : (p : ℕ) {q : ℕ} → (p ≡ 0 → ⊥) → ((v : ℕ) → p ≡ v + 1 → q ≡ v + 1) → q ≡ p
           stays p n k = let e : p ≡ p - 1 + 1 = omega arith in k (p - 1) e ∙ sym e
+
+-- a pass that is lost makes no request
+pub read-lost : (len : ℕ) (at codes : List ℕ) (ps fs : Kept) → read_by len (pass_with None at codes) ps fs ≡ read_kept [] [] None
+unfolding read_by readable whole_pass
+read-lost len at codes ps fs = refl
 
 -- ---- what the code makes of the list at a stop
 

@@ -1,4 +1,5 @@
 -- THE LAWS of whole messages: what is read of a payload is the meaning of the tree that it spells, and nothing where it spells none.
+use Rattle.std.specs.Prelude.{Some, None, Option}
 use mathlib.Core.Path.{◌≡◌, refl, sym, ap, ◌∙◌}
 use mathlib.Core.Bool.{Bool, true, false}
 use mathlib.Core.List.{List, [], ◌∷◌, ◌++◌, map, append-nil}
@@ -9,8 +10,6 @@ use lib.ListN.{length, get_or}
 use lib.Dec.{eqb}
 use Rattle.base_bounds.specs.Bounds.{depth_limit}
 use Rattle.tlv_reader.specs.declared.Element.{Element}
-use Rattle.tlv_reader.specs.declared.Head.{Head}
-use Rattle.tlv_reader.specs.declared.Head.TheVariants.{Found, Malformed}
 use Rattle.tlv_reader.specs.Octet.{pick, structure, end_of_container}
 use Rattle.tlv_reader.specs.Tree.{Tree, Trees, SpellsMessage, tag_of_tree}
 use Rattle.tlv_reader.specs.Tree.Tag.{anonymous}
@@ -19,8 +18,7 @@ use Rattle.tlv_reader.specs.Tree.Trees.{none, more}
 use Rattle.tlv_reader.specs.Head.{head_at}
 use Rattle.tlv_reader.specs.Walk.{Got, map_g, bind_g, headed, members_end, ends_at, is_message}
 use Rattle.tlv_reader.specs.Walk.Got.{got, bad}
-use Rattle.tlv_reader.specs.Decode.{Opt, bind_o, place, trees_at, tree_at}
-use Rattle.tlv_reader.specs.Decode.Opt.{just, nothing}
+use Rattle.tlv_reader.specs.Decode.{bind_o, place, trees_at, tree_at}
 use Rattle.tlv_reader.proofs.Completeness.{tree-back}
 use Rattle.tlv_reader.proofs.WalkLaws.{end-within, message-is}
 use Rattle.tlv_reader.proofs.TreeLaws.{passed, end-of-trees}
@@ -45,7 +43,7 @@ untagged-spelled : (ts : Trees) (s : List ℕ) → SpellsMessage ts s → untagg
 unfolding untagged
 untagged-spelled ts s m = let a = accepted s (message-accepted ts s m) in rw (a.reads, eq-eqb _ _ a.untagged) refl
 
-module _ {A : Type 0} (listed : List Bool) (F : List ℕ → Opt A) (G : List Slot → Opt A) (ts : Trees) (s : List ℕ) (m : SpellsMessage ts s) (same : (xs : List ℕ) → F xs ≡ G (map (slot_in 9 s) xs)) where
+module _ {A : Type 0} (listed : List Bool) (F : List ℕ → Option A) (G : List Slot → Option A) (ts : Trees) (s : List ℕ) (m : SpellsMessage ts s) (same : (xs : List ℕ) → F xs ≡ G (map (slot_in 9 s) xs)) where
   inside-spelled : map_g (map (slot_in 9 s)) (inside_at structure depth_limit s listed 0) ≡ place (fields_t listed ts) (length s)
   unfolding inside_t
   inside-spelled =
@@ -53,18 +51,18 @@ module _ {A : Type 0} (listed : List Bool) (F : List ℕ → Opt A) (G : List Sl
       let back : tree_at depth_limit s 0 ≡ got (container anonymous structure ts) (length s) = tree-back (container anonymous structure ts) depth_limit s 0 [] [] s m.spells m.within whole refl ∙ ap (got (container anonymous structure ts)) (omega arith) in
       inside-law structure (omega arith) (omega arith) listed depth_limit s 0 ∙ ap (λ g. bind_g g (λ t n. place (inside_t structure listed t) n)) back
 
-  from-inside : (g : Got (List ℕ)) (o : Opt (List Slot)) → map_g (map (slot_in 9 s)) g ≡ place o (length s) → opt_of (bind_g (bind_g g (λ seen n. pick (eqb n (length s)) (got seen n) bad)) (λ seen n. place (F seen) n)) ≡ bind_o o G
-  from-inside bad nothing e = refl
-  from-inside bad (just ys) e = never (cc)
-  from-inside (got seen n) nothing e = never (cc)
-  from-inside (got seen n) (just ys) e =
+  from-inside : (g : Got (List ℕ)) (o : Option (List Slot)) → map_g (map (slot_in 9 s)) g ≡ place o (length s) → opt_of (bind_g (bind_g g (λ seen n. pick (eqb n (length s)) (got seen n) bad)) (λ seen n. place (F seen) n)) ≡ bind_o o G
+  from-inside bad None e = refl
+  from-inside bad (Some ys) e = never (cc)
+  from-inside (got seen n) None e = never (cc)
+  from-inside (got seen n) (Some ys) e =
       let en : n ≡ length s = cc in
       let ey : map (slot_in 9 s) seen ≡ ys = cc in
       rw (eq-eqb n (length s) en) (opened (F seen) n ∙ same seen ∙ ap G ey)
     where
-      opened : (o : Opt A) (k : ℕ) → opt_of (place o k) ≡ o
-      opened nothing k = refl
-      opened (just a) k = refl
+      opened : (o : Option A) (k : ℕ) → opt_of (place o k) ≡ o
+      opened None k = refl
+      opened (Some a) k = refl
 
   -- any legal spelling of a message is read to its meaning
   pub whole-law : whole_in listed F s ≡ whole_t listed G ts
@@ -73,15 +71,15 @@ module _ {A : Type 0} (listed : List Bool) (F : List ℕ → Opt A) (G : List Sl
 
 -- ---- optional arrays
 
-optional-law : {A : Type 0} (a : A) (d : ℕ) (s : List ℕ) (read : ℕ → Got A) (means : Tree → Opt A) → ((at : ℕ) → read at ≡ bind_g (tree_at d s at) (λ t n. place (means t) n)) → means (container anonymous end_of_container none) ≡ nothing → (p : ℕ) → optional_in a read p ≡ optional_t a means (slot_in d s p)
+optional-law : {A : Type 0} (a : A) (d : ℕ) (s : List ℕ) (read : ℕ → Got A) (means : Tree → Option A) → ((at : ℕ) → read at ≡ bind_g (tree_at d s at) (λ t n. place (means t) n)) → means (container anonymous end_of_container none) ≡ None → (p : ℕ) → optional_in a read p ≡ optional_t a means (slot_in d s p)
 unfolding optional_in optional_t slot_in required_in required_t
 optional-law a d s read means law z zero = refl
 optional-law a d s read means law z (suc p) =
     let n = ne_eqb (suc p) 0 (λ y. omega arith) in
-    let r : pick (eqb (suc p) 0) nothing (opt_of (read (suc p - 1))) ≡ means (or_none (tree_at d s p)) = required-here d s read means law z (suc p ∷ []) 0 in
+    let r : pick (eqb (suc p) 0) None (opt_of (read (suc p - 1))) ≡ means (or_none (tree_at d s p)) = required-here d s read means law z (suc p ∷ []) 0 in
     rw n (rw n at r)
 
-optional-here : {A : Type 0} (a : A) (d : ℕ) (s : List ℕ) (read : ℕ → Got A) (means : Tree → Opt A) → ((at : ℕ) → read at ≡ bind_g (tree_at d s at) (λ t n. place (means t) n)) → means (container anonymous end_of_container none) ≡ nothing → (xs : List ℕ) (i : ℕ) → optional_in a read (get_or xs i 0) ≡ optional_t a means (get_or (map (slot_in d s) xs) i absent)
+optional-here : {A : Type 0} (a : A) (d : ℕ) (s : List ℕ) (read : ℕ → Got A) (means : Tree → Option A) → ((at : ℕ) → read at ≡ bind_g (tree_at d s at) (λ t n. place (means t) n)) → means (container anonymous end_of_container none) ≡ None → (xs : List ℕ) (i : ℕ) → optional_in a read (get_or xs i 0) ≡ optional_t a means (get_or (map (slot_in d s) xs) i absent)
 optional-here a d s read means law z xs i = optional-law a d s read means law z (get_or xs i 0) ∙ ap (optional_t a means) (sym (at_place d s xs i))
 
 -- ---- THE MESSAGES
@@ -100,9 +98,9 @@ read-law ts s m = whole-law read_tags (read_from s) read_slots ts s m
 trees-there : (d : ℕ) (s : List ℕ) (kind at : ℕ) (listed : List Bool) {xs : List ℕ} {n : ℕ} → fields_at d s kind listed at ≡ got xs n → members_end d s kind at ≡ got tt n
 trees-there d s kind at listed {xs} {n} e = end-of-trees d s kind at ∙ go (trees_at d s kind at) (sym (fields-law d s kind listed at) ∙ ap (map_g (map (slot_in d s))) e)
   where
-    put : (o : Opt (List Slot)) (k : ℕ) → place o k ≡ got (map (slot_in d s) xs) n → k ≡ n
-    put nothing k q = never (cc)
-    put (just ys) k q = cc
+    put : (o : Option (List Slot)) (k : ℕ) → place o k ≡ got (map (slot_in d s) xs) n → k ≡ n
+    put None k q = never (cc)
+    put (Some ys) k q = cc
 
     go : (g : Got Trees) → bind_g g (λ ts k. place (fields_t listed ts) k) ≡ got (map (slot_in d s) xs) n → passed g ≡ got tt n
     go bad q = never (cc)
@@ -112,7 +110,7 @@ pub message-there : (listed : List Bool) (s : List ℕ) {xs : List ℕ} {n : ℕ
 unfolding message_at untagged inside_at
 message-there listed s {xs} {n} q = by-head (head_at s 0) refl q
   where
-    ending : {e : Element} → head_at s 0 ≡ Found e → e.form ≡ 0 → e.kind ≡ structure → (g : Got (List ℕ)) → fields_at 9 s structure listed e.next.at ≡ g → bind_g g (λ seen k. pick (eqb k (length s)) (got seen k) bad) ≡ got xs n → is_message s ≡ true
+    ending : {e : Element} → head_at s 0 ≡ Some e → e.form ≡ 0 → e.kind ≡ structure → (g : Got (List ℕ)) → fields_at 9 s structure listed e.next.at ≡ g → bind_g g (λ seen k. pick (eqb k (length s)) (got seen k) bad) ≡ got xs n → is_message s ≡ true
     ending h f k bad w q = never (cc)
     ending {e} h f k (got ys m) w q = last (eqb m (length s)) refl q
       where
@@ -120,32 +118,32 @@ message-there listed s {xs} {n} q = by-head (head_at s 0) refl q
         last true z q = message-is s h f k ∙ ap (ends_at (length s)) (end-within 10 s e (omega (arith, k)) (omega (arith, k)) (λ y. omega arith) ∙ ap (λ (j : ℕ). members_end 9 s j e.next.at) k ∙ trees-there 9 s structure e.next.at listed w) ∙ z
         last false z q = never (cc)
 
-    by_kind : {e : Element} → head_at s 0 ≡ Found e → e.form ≡ 0 → (b : Bool) → eqb e.kind structure ≡ b → bind_g (pick b (fields_at 9 s structure listed e.next.at) bad) (λ seen k. pick (eqb k (length s)) (got seen k) bad) ≡ got xs n → is_message s ≡ true
+    by_kind : {e : Element} → head_at s 0 ≡ Some e → e.form ≡ 0 → (b : Bool) → eqb e.kind structure ≡ b → bind_g (pick b (fields_at 9 s structure listed e.next.at) bad) (λ seen k. pick (eqb k (length s)) (got seen k) bad) ≡ got xs n → is_message s ≡ true
     by_kind {e} h f true k q = ending h f (eqb-true e.kind structure k) (fields_at 9 s structure listed e.next.at) refl q
     by_kind h f false k q = never (cc)
 
-    by_form : {e : Element} → head_at s 0 ≡ Found e → (b : Bool) → eqb e.form 0 ≡ b → pick b (bind_g (pick (eqb e.kind structure) (fields_at 9 s structure listed e.next.at) bad) (λ seen k. pick (eqb k (length s)) (got seen k) bad)) bad ≡ got xs n → is_message s ≡ true
+    by_form : {e : Element} → head_at s 0 ≡ Some e → (b : Bool) → eqb e.form 0 ≡ b → pick b (bind_g (pick (eqb e.kind structure) (fields_at 9 s structure listed e.next.at) bad) (λ seen k. pick (eqb k (length s)) (got seen k) bad)) bad ≡ got xs n → is_message s ≡ true
     by_form {e} h true f q = by_kind h (eqb-true e.form 0 f) (eqb e.kind structure) refl q
     by_form h false f q = never (cc)
 
-    by-head : (h : Head) → head_at s 0 ≡ h → pick (headed false (λ e. eqb e.form 0) h) (bind_g (headed bad (inside_by structure (λ k. fields_at 9 s structure listed k)) h) (λ seen k. pick (eqb k (length s)) (got seen k) bad)) bad ≡ got xs n → is_message s ≡ true
-    by-head Malformed h q = never (cc)
-    by-head (Found e) h q = by_form h (eqb e.form 0) refl q
+    by-head : (h : (Option Element)) → head_at s 0 ≡ h → pick (headed false (λ e. eqb e.form 0) h) (bind_g (headed bad (inside_by structure (λ k. fields_at 9 s structure listed k)) h) (λ seen k. pick (eqb k (length s)) (got seen k) bad)) bad ≡ got xs n → is_message s ≡ true
+    by-head None h q = never (cc)
+    by-head (Some e) h q = by_form h (eqb e.form 0) refl q
 
-pub whole-none : {A : Type 0} (listed : List Bool) (F : List ℕ → Opt A) (s : List ℕ) → is_message s ≡ false → whole_in listed F s ≡ nothing
+pub whole-none : {A : Type 0} (listed : List Bool) (F : List ℕ → Option A) (s : List ℕ) → is_message s ≡ false → whole_in listed F s ≡ None
 whole-none listed F s q = go (message_at listed s) refl
   where
-    go : (g : Got (List ℕ)) → message_at listed s ≡ g → opt_of (bind_g g (λ seen n. place (F seen) n)) ≡ nothing
+    go : (g : Got (List ℕ)) → message_at listed s ≡ g → opt_of (bind_g g (λ seen n. place (F seen) n)) ≡ None
     go bad e = refl
     go (got xs n) e = never (let z : true ≡ false = sym (message-there listed s e) ∙ q in sym (ap (λ (b : Bool). pick b 1 0) z))
 
 -- what is read of a message, seen through a map
-pub whole-mapped : {A B : Type 0} (listed : List Bool) (F : List ℕ → Opt A) (β : A → B) (s : List ℕ) → map_o β (whole_in listed F s) ≡ whole_in listed (λ xs. map_o β (F xs)) s
+pub whole-mapped : {A B : Type 0} (listed : List Bool) (F : List ℕ → Option A) (β : A → B) (s : List ℕ) → map_o β (whole_in listed F s) ≡ whole_in listed (λ xs. map_o β (F xs)) s
 whole-mapped listed F β s = go (message_at listed s)
   where
-    put : (o : Opt _) (n : ℕ) → map_o β (opt_of (place o n)) ≡ opt_of (place (map_o β o) n)
-    put nothing n = refl
-    put (just a) n = refl
+    put : (o : Option _) (n : ℕ) → map_o β (opt_of (place o n)) ≡ opt_of (place (map_o β o) n)
+    put None n = refl
+    put (Some a) n = refl
 
     go : (g : Got (List ℕ)) → map_o β (opt_of (bind_g g (λ seen n. place (F seen) n))) ≡ opt_of (bind_g g (λ seen n. place (map_o β (F seen)) n))
     go bad = refl
@@ -153,7 +151,7 @@ whole-mapped listed F β s = go (message_at listed s)
 
 -- ---- the order of fields does not matter, and members that are not listed are as if absent: said of any schema, and of each message
 
-module _ {A : Type 0} (listed : List Bool) (G : List Slot → Opt A) where
+module _ {A : Type 0} (listed : List Bool) (G : List Slot → Option A) where
   pub whole-any-order : {ts us : Trees} → Reordered ts us → whole_t listed G ts ≡ whole_t listed G us
   whole-any-order r = ap (λ o. bind_o o G) (any_order listed r)
 

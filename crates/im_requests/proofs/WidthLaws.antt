@@ -1,4 +1,5 @@
 -- The entries of a write that was read: each path's parts have their widths.
+use Rattle.std.specs.Prelude.{Some, None, Option}
 use mathlib.Core.Path.{◌≡◌, refl, sym, subst}
 use mathlib.Core.Bool.{Bool, true, false, not, true≢false}
 use mathlib.Core.List.{List, [], ◌∷◌, map}
@@ -8,14 +9,11 @@ use borrow.Author.Tests.{eqb-false, ltb-false, not-true}
 use lib.ListN.{length, get_or}
 use lib.Dec.{eqb, ltb}
 use Rattle.base_bounds.specs.Bounds.{write_limit}
-use Rattle.tlv_reader.specs.declared.Head.{Head}
-use Rattle.tlv_reader.specs.declared.Head.TheVariants.{Found, Malformed}
 use Rattle.tlv_reader.specs.Octet.{pick, array, end_of_container, list, structure}
 use Rattle.tlv_reader.specs.Head.{head_at}
 use Rattle.tlv_reader.specs.Walk.{Got, bind_g, map_g, allowed_in, headed, fold_by, fold_at}
 use Rattle.tlv_reader.specs.Walk.Got.{got, bad}
-use Rattle.tlv_reader.specs.Decode.{Opt, bind_o, place}
-use Rattle.tlv_reader.specs.Decode.Opt.{just, nothing}
+use Rattle.tlv_reader.specs.Decode.{bind_o, place}
 use Rattle.tlv_reader.proofs.Picks.{pick-elim, choose-elim}
 use Rattle.im_members.specs.Fields.{inside_at}
 use Rattle.im_members.specs.Scalar.{ABSENT, WRONG, number_of, number_in, flag_in, wide_in}
@@ -27,12 +25,13 @@ use Rattle.im_requests.specs.Message.{snoc, list_at, first_of, message_at, given
 use Rattle.im_requests.proofs.KeepLaws.{first-none}
 use Rattle.im_requests.specs.declared.write.WriteEntry.{WriteEntry}
 use Rattle.im_requests.specs.Write.{EntryOf, entry_for, entry_if, entry_at, entry_struct, no_entry, WriteOf, write_tags, unchunked, is_empty, write_from, write_in, write_read}
+use Rattle.tlv_reader.specs.declared.Element.{Element}
 
 -- ---- what holds of whatever is read
 
-abbrev OfOpt : {A : Type 0} → (A → Type 0) → Opt A → Type 0
-OfOpt P nothing = Unit {0}
-OfOpt P (just x) = P x
+abbrev OfOpt : {A : Type 0} → (A → Type 0) → Option A → Type 0
+OfOpt P None = Unit {0}
+OfOpt P (Some x) = P x
 
 abbrev OfGot : {A : Type 0} → (A → Type 0) → Got A → Type 0
 OfGot P bad = Unit {0}
@@ -48,13 +47,13 @@ module _ {A : Type 0} (P : A → Type 0) where
   of-opt bad h = tt
   of-opt (got x n) h = h
 
-  placed : (o : Opt A) (n : ℕ) → OfOpt P o → OfGot P (place o n)
-  placed nothing n h = tt
-  placed (just x) n h = h
+  placed : (o : Option A) (n : ℕ) → OfOpt P o → OfGot P (place o n)
+  placed None n h = tt
+  placed (Some x) n h = h
 
   required : (read : ℕ → Got A) → ((at : ℕ) → OfGot P (read at)) → (p : ℕ) → OfOpt P (required_in read p)
   unfolding required_in
-  required read f p = pick-elim (OfOpt P) (eqb p 0) nothing (opt_of (read (p - 1))) (λ _. tt) (λ _. of-opt (read (p - 1)) (f (p - 1)))
+  required read f p = pick-elim (OfOpt P) (eqb p 0) None (opt_of (read (p - 1))) (λ _. tt) (λ _. of-opt (read (p - 1)) (f (p - 1)))
 
   each_snoc : (l : List A) (x : A) → Each P l → P x → Each P (snoc l x)
   each_snoc [] x h p = (p, tt)
@@ -75,10 +74,10 @@ module _ {A : Type 0} (P : A → Type 0) where
     by-step l rest h r bad p = tt
     by-step l rest h r (got x n) p = r (snoc l x) n (each_snoc l x h p)
 
-    by-head : (kind : ℕ) (l : List A) (at : ℕ) (rest : List A → ℕ → Got (List A)) → Each P l → ((y : List A) (n : ℕ) → Each P y → OfGot (Each P) (rest y n)) → (e : Head) → OfGot (Each P) (fold_by kind l (each_step snoc read l at) rest e)
+    by-head : (kind : ℕ) (l : List A) (at : ℕ) (rest : List A → ℕ → Got (List A)) → Each P l → ((y : List A) (n : ℕ) → Each P y → OfGot (Each P) (rest y n)) → (e : (Option Element)) → OfGot (Each P) (fold_by kind l (each_step snoc read l at) rest e)
     unfolding fold_by each_step
-    by-head kind l at rest h r Malformed = tt
-    by-head kind l at rest h r (Found e) =
+    by-head kind l at rest h r None = tt
+    by-head kind l at rest h r (Some e) =
         choose-elim (OfGot (Each P)) (eqb e.kind end_of_container) _ _ (λ _. h)
         (λ _. choose-elim (OfGot (Each P)) (allowed_in kind e.form) _ _ (λ _. by-step l rest h r (read at) (f at)) (λ _. tt))
 
@@ -89,13 +88,13 @@ module _ {A : Type 0} (P : A → Type 0) where
         by-head kind l at (λ y n. fold_at (each_step snoc read) fuel s kind y n) h (λ y n. fold-each fuel s kind y n) (head_at s at)
 
 module _ {A B : Type 0} (Q : A → Type 0) (P : B → Type 0) where
-  bound : (g : Got A) (F : A → Opt B) → OfGot Q g → ((x : A) → Q x → OfOpt P (F x)) → OfGot P (bind_g g (λ x n. place (F x) n))
+  bound : (g : Got A) (F : A → Option B) → OfGot Q g → ((x : A) → Q x → OfOpt P (F x)) → OfGot P (bind_g g (λ x n. place (F x) n))
   bound bad F h f = tt
   bound (got x n) F h f = placed P (F x) n (f x h)
 
-  bound-opt : (o : Opt A) (F : A → Opt B) → OfOpt Q o → ((x : A) → Q x → OfOpt P (F x)) → OfOpt P (bind_o o F)
-  bound-opt nothing F h f = tt
-  bound-opt (just x) F h f = f x h
+  bound-opt : (o : Option A) (F : A → Option B) → OfOpt Q o → ((x : A) → Q x → OfOpt P (F x)) → OfOpt P (bind_o o F)
+  bound-opt None F h f = tt
+  bound-opt (Some x) F h f = f x h
 
 -- ---- a path
 
@@ -115,10 +114,10 @@ number-most most s p = by_place_lem (eqb p 0) (head_at s (p - 1))
     wrong : Right WRONG
     wrong a w = absurd (w refl)
 
-    by_place_lem : (b : Bool) (h : Head) → Right (pick b ABSENT (headed WRONG (λ e. number_of most false e.kind e.number) h))
+    by_place_lem : (b : Bool) (h : (Option Element)) → Right (pick b ABSENT (headed WRONG (λ e. number_of most false e.kind e.number) h))
     by_place_lem true h = λ a w. absurd (a refl)
-    by_place_lem false Malformed = wrong
-    by_place_lem false (Found e) =
+    by_place_lem false None = wrong
+    by_place_lem false (Some e) =
         pick-elim Right (eqb e.kind 20) WRONG _ (λ _. wrong)
         (λ _. pick-elim Right (ltb e.kind 4) WRONG _ (λ _. wrong)
         (λ _. pick-elim Right (ltb 7 e.kind) WRONG _ (λ _. wrong)
@@ -137,7 +136,7 @@ module _ (s seen : List ℕ) where
   path-bounded : OfOpt Bounded (path_from s seen)
   unfolding path_from sound_path exact_p
   path-bounded =
-      pick-elim (OfOpt Bounded) (sound_path p) (just p) nothing
+      pick-elim (OfOpt Bounded) (sound_path p) (Some p) None
       (λ h. widths h) (λ _. tt)
     where
       p : Path
@@ -176,9 +175,9 @@ any : {A : Type 0} (g : Got A) → OfGot (λ _. Unit {0}) g
 any bad = tt
 any (got x n) = tt
 
-any-opt : {A : Type 0} (o : Opt A) → OfOpt (λ _. Unit {0}) o
-any-opt nothing = tt
-any-opt (just x) = tt
+any-opt : {A : Type 0} (o : Option A) → OfOpt (λ _. Unit {0}) o
+any-opt None = tt
+any-opt (Some x) = tt
 
 abbrev pub WideEntry : EntryOf ℕ → Type 0
 WideEntry x = Widths x.endpoint x.cluster x.attribute
@@ -194,7 +193,7 @@ module _ (s : List ℕ) where
       let v = number_in 4294967295 false s (get_or seen 0 0) in
       bound-opt Bounded (λ (x : DataOf ℕ). Bounded x.path) (required_in (path_at d s) (get_or seen 1 0)) (λ p. bind_o (any_in (get_or seen 2 0)) (λ x. versioned v p x)) (required Bounded (path_at d s) (path-at d) (get_or seen 1 0))
       (λ p b. bound-opt (λ _. Unit {0}) (λ (x : DataOf ℕ). Bounded x.path) (any_in (get_or seen 2 0)) (λ x. versioned v p x) (any-opt (any_in (get_or seen 2 0)))
-      (λ x _. pick-elim (OfOpt (λ (x : DataOf ℕ). Bounded x.path)) (eqb v WRONG) nothing (just (record { version = v; path = p; element = x })) (λ _. tt) (λ _. b)))
+      (λ x _. pick-elim (OfOpt (λ (x : DataOf ℕ). Bounded x.path)) (eqb v WRONG) None (Some (record { version = v; path = p; element = x })) (λ _. tt) (λ _. b)))
 
   data-at : (d at : ℕ) → OfGot (λ (x : DataOf ℕ). Bounded x.path) (data_at d s at)
   unfolding data_at
@@ -206,7 +205,7 @@ module _ (s : List ℕ) where
   unfolding entry_at
   entry-at d at =
       bound (λ (x : DataOf ℕ). Bounded x.path) WideEntry (data_at d s at) entry_if (data-at d at)
-      (λ x b. pick-elim (OfOpt WideEntry) (exact_p x.path) (just (entry_for x)) nothing (λ e. b e) (λ _. tt))
+      (λ x b. pick-elim (OfOpt WideEntry) (exact_p x.path) (Some (entry_for x)) None (λ e. b e) (λ _. tt))
 
   -- ---- the array of entries, and the message
 
@@ -215,9 +214,9 @@ module _ (s : List ℕ) where
   entries_at zero at = tt
   entries_at (suc d) at = go (head_at s at)
     where
-      go : (h : Head) → OfGot (Each WideEntry) (headed bad (λ e. pick (eqb e.kind array) (fold_at (each_step snoc (entry_at d s)) (length s) s array [] e.next.at) bad) h)
-      go Malformed = tt
-      go (Found e) =
+      go : (h : (Option Element)) → OfGot (Each WideEntry) (headed bad (λ e. pick (eqb e.kind array) (fold_at (each_step snoc (entry_at d s)) (length s) s array [] e.next.at) bad) h)
+      go None = tt
+      go (Some e) =
           pick-elim (OfGot (Each WideEntry)) (eqb e.kind array) (fold_at (each_step snoc (entry_at d s)) (length s) s array [] e.next.at) bad
           (λ _. fold-each WideEntry (entry_at d s) (entry-at d) (length s) s array [] e.next.at tt) (λ _. tt)
 
@@ -230,13 +229,13 @@ module _ (s : List ℕ) where
       let suppress = flag_in s (get_or seen 0 0) in
       let timed = flag_in s (get_or seen 1 0) in
       let es = required_in (list_at entry_at 9 s) (get_or seen 2 0) in
-      pick-elim (OfOpt Wide) (given suppress) _ nothing
-      (λ _. pick-elim (OfOpt Wide) (given timed) _ nothing
-      (λ _. pick-elim (OfOpt Wide) (unchunked (flag_in s (get_or seen 3 0))) _ nothing
-      (λ _. pick-elim (OfOpt Wide) (given (number_in 255 false s (get_or seen 9 0))) _ nothing
-      (λ _. bound-opt (Each WideEntry) Wide es (λ l. pick (is_empty l) nothing (just (record { suppress = suppress; timed = timed; entries = l })))
+      pick-elim (OfOpt Wide) (given suppress) _ None
+      (λ _. pick-elim (OfOpt Wide) (given timed) _ None
+      (λ _. pick-elim (OfOpt Wide) (unchunked (flag_in s (get_or seen 3 0))) _ None
+      (λ _. pick-elim (OfOpt Wide) (given (number_in 255 false s (get_or seen 9 0))) _ None
+      (λ _. bound-opt (Each WideEntry) Wide es (λ l. pick (is_empty l) None (Some (record { suppress = suppress; timed = timed; entries = l })))
       (required (Each WideEntry) (list_at entry_at 9 s) (entries_at 9) (get_or seen 2 0))
-      (λ l h. pick-elim (OfOpt Wide) (is_empty l) nothing (just (record { suppress = suppress; timed = timed; entries = l })) (λ _. tt) (λ _. h)))
+      (λ l h. pick-elim (OfOpt Wide) (is_empty l) None (Some (record { suppress = suppress; timed = timed; entries = l })) (λ _. tt) (λ _. h)))
       (λ _. tt)) (λ _. tt)) (λ _. tt)) (λ _. tt)
 
   written : OfOpt Wide (write_in s)
@@ -261,6 +260,6 @@ module _ (s : List ℕ) where
   pub kept-wide : (i : ℕ) → WideKept (get_or (write_read (write_in s)).entries.kept i no_entry)
   kept-wide i = go (write_in s) (written s)
     where
-      go : (o : Opt (WriteOf ℕ)) → OfOpt (Wide s) o → WideKept (get_or (write_read o).entries.kept i no_entry)
-      go nothing h = subst (λ (l : List WriteEntry). WideKept (get_or l i no_entry)) (first-none write_limit no_entry) (each_first WideKept [] no_entry tt none-wide write_limit i)
-      go (just x) h = each_first WideKept (map entry_struct x.entries) no_entry (each-kept x.entries h) none-wide write_limit i
+      go : (o : Option (WriteOf ℕ)) → OfOpt (Wide s) o → WideKept (get_or (write_read o).entries.kept i no_entry)
+      go None h = subst (λ (l : List WriteEntry). WideKept (get_or l i no_entry)) (first-none write_limit no_entry) (each_first WideKept [] no_entry tt none-wide write_limit i)
+      go (Some x) h = each_first WideKept (map entry_struct x.entries) no_entry (each-kept x.entries h) none-wide write_limit i

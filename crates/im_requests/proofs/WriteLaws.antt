@@ -1,4 +1,5 @@
 -- The Write Request: case by case for the code, and THE LAW that what is read is the meaning of the tree that the payload spells.
+use Rattle.std.specs.Prelude.{Some, None, Option}
 use mathlib.Core.Path.{◌≡◌, refl, sym, ap, ◌∙◌}
 use mathlib.Core.Bool.{Bool, true, false}
 use mathlib.Core.List.{List, [], ◌∷◌, map}
@@ -8,14 +9,10 @@ use borrow.Author.Tests.{ne_eqb}
 use lib.ListN.{length, get_or}
 use lib.Dec.{eqb}
 use Rattle.base_bounds.specs.Bounds.{write_limit}
-use Rattle.tlv_reader.specs.declared.Element.{Element}
 use Rattle.tlv_reader.specs.Octet.{pick, structure}
 use Rattle.tlv_reader.specs.Tree.{Tree, Trees, SpellsMessage, tag_of_tree}
 use Rattle.tlv_reader.specs.Tree.Trees.{more}
-use Rattle.tlv_reader.specs.Walk.{Got}
-use Rattle.tlv_reader.specs.Walk.Got.{got, bad}
-use Rattle.tlv_reader.specs.Decode.{Opt, bind_o}
-use Rattle.tlv_reader.specs.Decode.Opt.{just, nothing}
+use Rattle.tlv_reader.specs.Decode.{bind_o}
 use Rattle.im_members.specs.Fields.{slot_t, slot_in}
 use Rattle.im_members.specs.Pass.{Pass, code_in, number_by, flag_by}
 use Rattle.im_members.specs.Scalar.{number_in, flag_in}
@@ -24,13 +21,13 @@ use Rattle.im_members.specs.Order.{Reordered}
 use Rattle.im_members.proofs.MeaningLaws.{at_place}
 use Rattle.im_members.proofs.ArrayLaws.{required-mapped, number-here, flag-here}
 use Rattle.im_members.proofs.PassLaws.{Left, Reads, number-coded, flag-coded}
-use Rattle.im_requests.specs.Message.{given, structure_at, whole_pass, list_t, list_at, list_on, Kept, kept_as, ListRead, list_read}
+use Rattle.im_requests.specs.Message.{given, structure_at, whole_pass, list_t, list_at, list_on, kept_as}
 use Rattle.im_requests.proofs.ListLaws.{list_law}
 use Rattle.im_requests.proofs.PassLaws.{list-reads, whole-bad, whole-lacks, whole-passed}
 use Rattle.im_requests.proofs.WholeLaws.{whole-law, whole-mapped, whole-any-order, whole-unlisted}
-use Rattle.im_requests.specs.declared.write.WriteCounts.{WriteCounts}
-use Rattle.im_requests.specs.Write.{EntryOf, entry_at, entry_on, entry_t, entry_tree, entry_size, kept_words, WriteOf, write_tags, unchunked, is_empty, write_of, write_from, write_in, write_slots, write_t, WriteKept, write_with, write_kept, no_write, write_made, write_by, write_tree}
-use Rattle.im_requests.proofs.EntryLaws.{entry-law, entry-reads}
+use Rattle.im_requests.specs.Write.{EntryOf, entry_at, entry_on, entry_t, entry_tree, kept_words, WriteOf, write_tags, unchunked, is_empty, write_of, write_from, write_in, write_slots, write_t, write_left, write_kept, write_made, write_by, write_tree}
+use Rattle.im_requests.specs.Lists.{entry-reads}
+use Rattle.im_requests.proofs.EntryLaws.{entry-law}
 
 -- ---- for the code
 
@@ -41,33 +38,18 @@ clash : true ≡ false → ⊥
 clash e = let z : ◌≡◌ {A = ℕ} 1 0 = ap (λ (b : Bool). pick b 1 0) e in omega arith
 
 -- no entries, no write
-pub write-lacks : (s xs : List ℕ) → required_in (list_at entry_at 9 s) (get_or xs 2 0) ≡ nothing → write_from s xs ≡ nothing
+pub write-lacks : (s xs : List ℕ) → required_in (list_at entry_at 9 s) (get_or xs 2 0) ≡ None → write_from s xs ≡ None
 unfolding write_from
 write-lacks s xs e = rw e (go (given (flag_in s (get_or xs 0 0))) (given (flag_in s (get_or xs 1 0))) (unchunked (flag_in s (get_or xs 3 0))) (given (number_in 255 false s (get_or xs 9 0))))
   where
-    go : (a b c d : Bool) → ◌≡◌ {A = Opt (WriteOf ℕ)} (pick a (pick b (pick c (pick d nothing nothing) nothing) nothing) nothing) nothing
+    go : (a b c d : Bool) → ◌≡◌ {A = Option (WriteOf ℕ)} (pick a (pick b (pick c (pick d None None) None) None) None) None
     go false b c d = refl
     go true false c d = refl
     go true true false d = refl
     go true true true false = refl
     go true true true true = refl
 
-module _ (s : List ℕ) (e : Element) (old : List ℕ) {f : ListRead} (q : f ≡ list_read write_limit entry_size kept_words old (list_on entry_at 9 s e)) where
-  pub entries-bad : f.good ≡ false → list_on entry_at 9 s e ≡ bad
-  entries-bad g = go (list_on entry_at 9 s e) q
-    where
-      go : (x : Got (List (EntryOf ℕ))) → f ≡ list_read write_limit entry_size kept_words old x → x ≡ bad
-      go bad z = refl
-      go (got l n) z = absurd (clash (sym (ap (λ (y : ListRead). y.good) z) ∙ g))
-
-  pub entries-good : f.good ≡ true → (l : List (EntryOf ℕ)) × (list_on entry_at 9 s e ≡ got l f.next.at) × (f.kept ≡ kept_as write_limit kept_words old l)
-  entries-good g = go (list_on entry_at 9 s e) q
-    where
-      go : (x : Got (List (EntryOf ℕ))) → f ≡ list_read write_limit entry_size kept_words old x → (l : List (EntryOf ℕ)) × (x ≡ got l f.next.at) × (f.kept ≡ kept_as write_limit kept_words old l)
-      go bad z = absurd (clash (sym g ∙ ap (λ (y : ListRead). y.good) z))
-      go (got l n) z = (l, ap (got l) (sym (ap (λ (y : ListRead). y.next.at) z)), ap (λ (y : ListRead). y.kept) z)
-
-from : (s xs ks : List ℕ) → ks ≡ map (code_in s) xs → {l : List (EntryOf ℕ)} → required_in (list_at entry_at 9 s) (get_or xs 2 0) ≡ just l → write_from s xs ≡ write_of (flag_by (get_or ks 0 0)) (flag_by (get_or ks 1 0)) (flag_by (get_or ks 3 0)) (number_by 255 false (get_or ks 9 0)) (just l)
+from : (s xs ks : List ℕ) → ks ≡ map (code_in s) xs → {l : List (EntryOf ℕ)} → required_in (list_at entry_at 9 s) (get_or xs 2 0) ≡ Some l → write_from s xs ≡ write_of (flag_by (get_or ks 0 0)) (flag_by (get_or ks 1 0)) (flag_by (get_or ks 3 0)) (number_by 255 false (get_or ks 9 0)) (Some l)
 unfolding write_from
 from s xs ks k b = rw (b, ← (flag-coded s ks xs k 0 refl), ← (flag-coded s ks xs k 1 refl), ← (flag-coded s ks xs k 3 refl), ← (number-coded s ks xs k 9 255 false (omega arith) refl)) refl
 
@@ -75,14 +57,10 @@ no-entry : (l : List (EntryOf ℕ)) → eqb (length l) 0 ≡ is_empty l
 no-entry [] = refl
 no-entry (x ∷ l) = ne_eqb (length (x ∷ l)) 0 (λ z. omega arith)
 
--- what is kept of a request that was made or refused
-abbrev pub kept_of : List ℕ → WriteCounts → Kept → WriteKept
-kept_of old r k = pick r.good (write_with r k.words) (write_kept old nothing)
-
-made : (old : List ℕ) (su ti mo re : ℕ) (l : List (EntryOf ℕ)) (w : Bool) → kept_of old (pick w (write_made su ti mo re (length l)) no_write) (kept_as write_limit kept_words old l) ≡ write_kept old (pick w (write_of su ti mo re (just l)) nothing)
+made : (old : List ℕ) (su ti mo re : ℕ) (l : List (EntryOf ℕ)) (w : Bool) → write_left (pick w (write_made su ti mo re (length l)) None) (kept_as write_limit kept_words old l).words ≡ write_kept old (pick w (write_of su ti mo re (Some l)) None)
 made old su ti mo re l w = rw (no-entry l) (go w (given su) (given ti) (unchunked mo) (given re) (is_empty l))
   where
-    go : (w a b c d x : Bool) → let full : WriteOf ℕ = record { suppress = su; timed = ti; entries = l } in kept_of old (pick w (pick a (pick b (pick c (pick d (pick x no_write (record { good = true; suppress = su; timed = ti; entries = length l })) no_write) no_write) no_write) no_write) no_write) (kept_as write_limit kept_words old l) ≡ write_kept old (pick w (pick a (pick b (pick c (pick d (pick x nothing (just full)) nothing) nothing) nothing) nothing) nothing)
+    go : (w a b c d x : Bool) → let full : WriteOf ℕ = record { suppress = su; timed = ti; entries = l } in write_left (pick w (pick a (pick b (pick c (pick d (pick x None (Some (record { suppress = su; timed = ti; entries = length l }))) None) None) None) None) None) (kept_as write_limit kept_words old l).words ≡ write_kept old (pick w (pick a (pick b (pick c (pick d (pick x None (Some full)) None) None) None) None) None)
     go false a b c d x = refl
     go true false b c d x = refl
     go true true false c d x = refl
@@ -92,35 +70,28 @@ made old su ti mo re l w = rw (no-entry l) (go w (given su) (given ti) (unchunke
     go true true true true true false = refl
 
 -- what is made of the members is what the code makes of their codes
-pub write-passed : (old : List ℕ) {s before : List ℕ} {stops : List Bool} {z : Pass} → Left 9 s structure write_tags stops before (structure_at write_tags s) z → 10 ≤ z.slot → (l : List (EntryOf ℕ)) → (z.good ≡ true → required_in (list_at entry_at 9 s) (get_or z.at 2 0) ≡ just l) → kept_of old (write_by (length s) z (length l)) (kept_as write_limit kept_words old l) ≡ write_kept old (write_in s)
+pub write-passed : (old : List ℕ) {s before : List ℕ} {stops : List Bool} {z : Pass} → Left 9 s structure write_tags stops before (structure_at write_tags s) z → 10 ≤ z.slot → (l : List (EntryOf ℕ)) → (z.good ≡ true → required_in (list_at entry_at 9 s) (get_or z.at 2 0) ≡ Some l) → write_left (write_by (length s) z (length l)) (kept_as write_limit kept_words old l).words ≡ write_kept old (write_in s)
 unfolding write_by write_in
 write-passed old {s} {z = z} L o l some = by z.good refl
   where
-    by : (b : Bool) → z.good ≡ b → kept_of old (write_by (length s) z (length l)) (kept_as write_limit kept_words old l) ≡ write_kept old (write_in s)
+    by : (b : Bool) → z.good ≡ b → write_left (write_by (length s) z (length l)) (kept_as write_limit kept_words old l).words ≡ write_kept old (write_in s)
     by false g = rw (whole-bad (length s) z g) (sym (ap (write_kept old) (whole-lacks (write_from s) L o (λ h. absurd (clash (sym h ∙ g))))))
     by true g =
         made old (flag_by (get_or z.codes 0 0)) (flag_by (get_or z.codes 1 0)) (flag_by (get_or z.codes 3 0)) (number_by 255 false (get_or z.codes 9 0)) l (whole_pass (length s) z)
-        ∙ sym (ap (write_kept old) (whole-passed (write_from s) L o ∙ ap (λ x. pick (whole_pass (length s) z) x nothing) (from s z.at z.codes L.coded (some g))))
-
-module _ (old : List ℕ) (o : Opt (WriteOf ℕ)) (r : WriteCounts) (k : Kept) (p : kept_of old r k ≡ write_kept old o) where
-  pub kept-none : r.good ≡ false → write_kept old nothing ≡ write_kept old o
-  kept-none g = sym (ap (λ (b : Bool). pick b (write_with r k.words) (write_kept old nothing)) g) ∙ p
-
-  pub kept-some : r.good ≡ true → write_with r k.words ≡ write_kept old o
-  kept-some g = sym (ap (λ (b : Bool). pick b (write_with r k.words) (write_kept old nothing)) g) ∙ p
+        ∙ sym (ap (write_kept old) (whole-passed (write_from s) L o ∙ ap (λ x. pick (whole_pass (length s) z) x None) (from s z.at z.codes L.coded (some g))))
 
 -- ---- the law of the message
 
 module _ (d : ℕ) (s : List ℕ) (sup tim : ℕ) where
-  made-through : (l : List (EntryOf ℕ)) → map_o (write_tree d s) (pick (is_empty l) nothing (just (record { suppress = sup; timed = tim; entries = l }))) ≡ pick (is_empty (map (entry_tree d s) l)) nothing (just (record { suppress = sup; timed = tim; entries = map (entry_tree d s) l }))
+  made-through : (l : List (EntryOf ℕ)) → map_o (write_tree d s) (pick (is_empty l) None (Some (record { suppress = sup; timed = tim; entries = l }))) ≡ pick (is_empty (map (entry_tree d s) l)) None (Some (record { suppress = sup; timed = tim; entries = map (entry_tree d s) l }))
   made-through [] = refl
   made-through (x ∷ l) = refl
 
-  es-through : (es : Opt (List (EntryOf ℕ))) → map_o (write_tree d s) (bind_o es (λ l. pick (is_empty l) nothing (just (record { suppress = sup; timed = tim; entries = l })))) ≡ bind_o (map_o (map (entry_tree d s)) es) (λ l. pick (is_empty l) nothing (just (record { suppress = sup; timed = tim; entries = l })))
-  es-through nothing = refl
-  es-through (just l) = made-through l
+  es-through : (es : Option (List (EntryOf ℕ))) → map_o (write_tree d s) (bind_o es (λ l. pick (is_empty l) None (Some (record { suppress = sup; timed = tim; entries = l })))) ≡ bind_o (map_o (map (entry_tree d s)) es) (λ l. pick (is_empty l) None (Some (record { suppress = sup; timed = tim; entries = l })))
+  es-through None = refl
+  es-through (Some l) = made-through l
 
-  write-through : (a b c e : Bool) (es : Opt (List (EntryOf ℕ))) → map_o (write_tree d s) (pick a (pick b (pick c (pick e (bind_o es (λ l. pick (is_empty l) nothing (just (record { suppress = sup; timed = tim; entries = l })))) nothing) nothing) nothing) nothing) ≡ pick a (pick b (pick c (pick e (bind_o (map_o (map (entry_tree d s)) es) (λ l. pick (is_empty l) nothing (just (record { suppress = sup; timed = tim; entries = l })))) nothing) nothing) nothing) nothing
+  write-through : (a b c e : Bool) (es : Option (List (EntryOf ℕ))) → map_o (write_tree d s) (pick a (pick b (pick c (pick e (bind_o es (λ l. pick (is_empty l) None (Some (record { suppress = sup; timed = tim; entries = l })))) None) None) None) None) ≡ pick a (pick b (pick c (pick e (bind_o (map_o (map (entry_tree d s)) es) (λ l. pick (is_empty l) None (Some (record { suppress = sup; timed = tim; entries = l })))) None) None) None) None
   write-through true true true true es = es-through es
   write-through true true true false es = refl
   write-through true true false e es = refl

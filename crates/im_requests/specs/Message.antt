@@ -1,5 +1,5 @@
 -- A whole message (RULES 4.13): one untagged structure of depth at most 10 that ends where the payload ends.
-use Rattle.std.specs.Prelude.{ℕ, zero, suc, ◌*◌, List, [], ◌∷◌, ◌++◌, Bool, true, false, length, set, take, replicate, ltb, eqb}
+use Rattle.std.specs.Prelude.{ℕ, zero, suc, ◌*◌, List, [], ◌∷◌, ◌++◌, Bool, true, false, length, set, take, replicate, ltb, eqb, Some, None, Option, is_some}
 use Rattle.base_bounds.specs.Bounds.{depth_limit}
 use Rattle.base_octets.specs.Store.{store}
 use Rattle.tlv_reader.specs.declared.Cursor.{Cursor}
@@ -10,8 +10,7 @@ use Rattle.tlv_reader.specs.Tree.Tree.{primitive, container}
 use Rattle.tlv_reader.specs.Head.{head_at}
 use Rattle.tlv_reader.specs.Walk.{Got, bind_g, fold_at, headed}
 use Rattle.tlv_reader.specs.Walk.Got.{got, bad}
-use Rattle.tlv_reader.specs.Decode.{Opt, bind_o, place, fold_t}
-use Rattle.tlv_reader.specs.Decode.Opt.{nothing}
+use Rattle.tlv_reader.specs.Decode.{bind_o, place, fold_t}
 use Rattle.im_members.specs.Fields.{Slot, inside_at, fields_t}
 use Rattle.im_members.specs.Pass.{Pass, no_pass, pass_of}
 use Rattle.im_members.specs.Scalar.{ABSENT}
@@ -38,11 +37,11 @@ unfoldable pub whole_pass : ℕ → Pass → Bool
 whole_pass len m = pick m.good (eqb m.head.next.at len) false
 
 -- what is made of them
-abbrev pub whole_in : {A : Type 0} → List Bool → (List ℕ → Opt A) → List ℕ → Opt A
+abbrev pub whole_in : {A : Type 0} → List Bool → (List ℕ → Option A) → List ℕ → Option A
 whole_in listed F s = opt_of (bind_g (message_at listed s) (λ seen n. place (F seen) n))
 
 -- IN TREES: of the members of the message's structure
-abbrev pub whole_t : {A : Type 0} → List Bool → (List Slot → Opt A) → Trees → Opt A
+abbrev pub whole_t : {A : Type 0} → List Bool → (List Slot → Option A) → Trees → Option A
 whole_t listed G ts = bind_o (fields_t listed ts) G
 
 -- a number that must be there
@@ -53,9 +52,9 @@ abbrev pub snoc : {A : Type 0} → List A → A → List A
 snoc l a = l ++ (a ∷ [])
 
 -- the meaning of an array whose members all have one meaning
-abbrev pub list_t : {A : Type 0} → (Tree → Opt A) → Tree → Opt (List A)
-list_t means (primitive t x) = nothing
-list_t means (container t k ts) = pick (eqb k array) (fold_t (each_t snoc means) [] ts) nothing
+abbrev pub list_t : {A : Type 0} → (Tree → Option A) → Tree → Option (List A)
+list_t means (primitive t x) = None
+list_t means (container t k ts) = pick (eqb k array) (fold_t (each_t snoc means) [] ts) None
 
 -- the first n of a list, filled up to n
 unfoldable pub first_of : {A : Type 0} → ℕ → A → List A → List A
@@ -117,8 +116,17 @@ pub record ListRead : Type 0 where
   pub kept : Kept
   pub next : Cursor
 
-abbrev pub list_with : Listed → List ℕ → ListRead
-list_with r words = record { good = r.good; kept = record { count = r.count; words = words }; next = r.next }
+-- the answer of a reader whose value the code holds in its own form
+abbrev pub read_as : {A B : Type 0} → (A → B) → Got A → Option (B × Cursor)
+read_as f bad = None
+read_as f (got x n) = Some (f x, record { at = n })
+
+abbrev pub listed_in : Option Listed → Listed
+listed_in None = record { count = 0; next = record { at = 0 } }
+listed_in (Some r) = r
+
+abbrev pub list_with : Option Listed → List ℕ → ListRead
+list_with r words = record { good = is_some r; kept = record { count = (listed_in r).count; words = words }; next = (listed_in r).next }
 
 abbrev pub list_read : {A : Type 0} → ℕ → ℕ → (A → List ℕ) → List ℕ → Got (List A) → ListRead
 list_read n size enc words bad = record { good = false; kept = kept_none (n * size); next = record { at = 0 } }

@@ -1,12 +1,10 @@
 -- The Read Request (chapter 10, 10.6.2; RULES 4, 6.10 and 6.11).
-use Rattle.std.specs.Prelude.{ℕ, ◌-◌, ◌*◌, List, [], ◌∷◌, Bool, true, false, length, get_or, ltb, eqb}
+use Rattle.std.specs.Prelude.{ℕ, ◌-◌, ◌*◌, List, [], ◌∷◌, Bool, true, false, length, get_or, eqb, Some, None, Option, is_some}
 use Rattle.base_bounds.specs.Bounds.{depth_limit, path_limit, filter_limit}
 use Rattle.tlv_reader.specs.Octet.{pick, structure, array}
 use Rattle.tlv_reader.specs.Tree.{Tree, Trees}
 use Rattle.tlv_reader.specs.Walk.{Got, bind_g, fold_at}
-use Rattle.tlv_reader.specs.Walk.Got.{got, bad}
-use Rattle.tlv_reader.specs.Decode.{Opt, bind_o, place}
-use Rattle.tlv_reader.specs.Decode.Opt.{just, nothing}
+use Rattle.tlv_reader.specs.Decode.{bind_o, place}
 use Rattle.im_members.specs.Fields.{Slot}
 use Rattle.im_members.specs.Fields.Slot.{absent}
 use Rattle.im_members.specs.Scalar.{ABSENT, number_in, flag_in, number_t, flag_t}
@@ -14,10 +12,6 @@ use Rattle.im_members.specs.Array.{each_step, optional_in, optional_t}
 use Rattle.im_blocks.specs.declared.Path.{Path}
 use Rattle.im_blocks.specs.declared.Filter.{Filter}
 use Rattle.tlv_reader.specs.declared.Element.{Element}
-use Rattle.im_requests.specs.declared.AskedRead.{AskedRead}
-use Rattle.im_requests.specs.declared.AskedRead.TheVariants as asked
-use Rattle.im_requests.specs.declared.VersionFilterRead.{VersionFilterRead}
-use Rattle.im_requests.specs.declared.VersionFilterRead.TheVariants as wanted
 use Rattle.im_blocks.specs.Path.{path_on, path_at, path_t, askable_p}
 use Rattle.im_blocks.specs.Filter.{filter_on, filter_at, filter_t}
 use Rattle.im_requests.specs.Message.{snoc, list_t, list_at, list_on, given, whole_in, whole_t, whole_pass, Firsts, firsts, no_firsts, Kept, kept_as, kept_none, ListRead, list_read}
@@ -41,8 +35,8 @@ abbrev pub target_words : Target → List ℕ
 target_words t = t.endpoint ∷ t.cluster ∷ t.attribute ∷ []
 
 -- a path that a read may have, as what it asks for
-unfoldable pub asked_of : Path → Opt Target
-asked_of p = pick (askable_p p) (just (target_of p)) nothing
+unfoldable pub asked_of : Path → Option Target
+asked_of p = pick (askable_p p) (Some (target_of p)) None
 
 unfoldable pub asked_at : ℕ → List ℕ → ℕ → Got Target
 asked_at d s at = bind_g (path_at d s at) (λ p n. place (asked_of p) n)
@@ -51,11 +45,7 @@ asked_at d s at = bind_g (path_at d s at) (λ p n. place (asked_of p) n)
 unfoldable pub asked_on : ℕ → List ℕ → Element → Got Target
 asked_on d s e = bind_g (path_on d s e) (λ p n. place (asked_of p) n)
 
-abbrev pub asked_read : Got Target → AskedRead
-asked_read bad = asked.NotAsked
-asked_read (got t n) = asked.Asked t (record { at = n })
-
-unfoldable pub asked_t : Tree → Opt Target
+unfoldable pub asked_t : Tree → Option Target
 asked_t t = bind_o (path_t t) asked_of
 
 -- the paths of an array, from a member on
@@ -84,8 +74,8 @@ version_filter_words f = f.endpoint ∷ f.cluster ∷ f.version ∷ []
 unfoldable pub local_f : Filter → Bool
 local_f f = eqb f.path.node ABSENT
 
-unfoldable pub version_filter_if : Filter → Opt VersionFilter
-version_filter_if f = pick (local_f f) (just (version_filter_of f)) nothing
+unfoldable pub version_filter_if : Filter → Option VersionFilter
+version_filter_if f = pick (local_f f) (Some (version_filter_of f)) None
 
 unfoldable pub version_filter_at : ℕ → List ℕ → ℕ → Got VersionFilter
 version_filter_at d s at = bind_g (filter_at d s at) (λ f n. place (version_filter_if f) n)
@@ -93,11 +83,7 @@ version_filter_at d s at = bind_g (filter_at d s at) (λ f n. place (version_fil
 unfoldable pub version_filter_on : ℕ → List ℕ → Element → Got VersionFilter
 version_filter_on d s e = bind_g (filter_on d s e) (λ f n. place (version_filter_if f) n)
 
-abbrev pub version_filter_read : Got VersionFilter → VersionFilterRead
-version_filter_read bad = wanted.NotVersionFilter
-version_filter_read (got t n) = wanted.VersionFilter t (record { at = n })
-
-unfoldable pub version_filter_t : Tree → Opt VersionFilter
+unfoldable pub version_filter_t : Tree → Option VersionFilter
 version_filter_t t = bind_o (filter_t t) version_filter_if
 
 unfoldable pub version_filters_from : ℕ → List ℕ → List VersionFilter → ℕ → Got (List VersionFilter)
@@ -118,22 +104,22 @@ abbrev pub read_tags : List Bool
 read_tags = true ∷ false ∷ false ∷ true ∷ true ∷ false ∷ false ∷ false ∷ false ∷ true ∷ []
 
 -- FabricFiltered and the revision are required, an absent list is empty
-abbrev pub read_of : ℕ → ℕ → Opt (List Target) → Opt (List VersionFilter) → Opt Read
+abbrev pub read_of : ℕ → ℕ → Option (List Target) → Option (List VersionFilter) → Option Read
 read_of filtered revision ps fs =
-    pick (given filtered) (pick (given revision) (bind_o ps (λ p. bind_o fs (λ f. just (record { paths = p; filters = f })))) nothing) nothing
+    pick (given filtered) (pick (given revision) (bind_o ps (λ p. bind_o fs (λ f. Some (record { paths = p; filters = f })))) None) None
 
-unfoldable pub read_from : List ℕ → List ℕ → Opt Read
+unfoldable pub read_from : List ℕ → List ℕ → Option Read
 read_from s seen =
     read_of (flag_in s (get_or seen 3 0)) (number_in 255 false s (get_or seen 9 0)) (optional_in [] (list_at asked_at (depth_limit - 1) s) (get_or seen 0 0)) (optional_in [] (list_at version_filter_at (depth_limit - 1) s) (get_or seen 4 0))
 
-unfoldable pub read_in : List ℕ → Opt Read
+unfoldable pub read_in : List ℕ → Option Read
 read_in s = whole_in read_tags (read_from s) s
 
-unfoldable pub read_slots : List Slot → Opt Read
+unfoldable pub read_slots : List Slot → Option Read
 read_slots xs =
     read_of (flag_t (get_or xs 3 absent)) (number_t 255 false (get_or xs 9 absent)) (optional_t [] (list_t asked_t) (get_or xs 0 absent)) (optional_t [] (list_t version_filter_t) (get_or xs 4 absent))
 
-unfoldable pub read_t : Trees → Opt Read
+unfoldable pub read_t : Trees → Option Read
 read_t ts = whole_t read_tags read_slots ts
 
 -- A REQUEST: whether it is well-formed, and the first of its paths and filters
@@ -142,9 +128,9 @@ pub record ReadRequest : Type 0 where
   pub paths : Firsts Target
   pub filters : Firsts VersionFilter
 
-abbrev pub read_read : Opt Read → ReadRequest
-read_read nothing = record { good = false; paths = no_firsts path_limit nowhere; filters = no_firsts filter_limit unwanted }
-read_read (just r) = record { good = true; paths = paths_struct r.paths; filters = version_filters_struct r.filters }
+abbrev pub read_read : Option Read → ReadRequest
+read_read None = record { good = false; paths = no_firsts path_limit nowhere; filters = no_firsts filter_limit unwanted }
+read_read (Some r) = record { good = true; paths = paths_struct r.paths; filters = version_filters_struct r.filters }
 
 -- ---- AS THE CODE HAS IT: the counts, and the lists in the words that are lent
 
@@ -153,14 +139,22 @@ pub record ReadKept : Type 0 where
   pub paths : Kept
   pub filters : Kept
 
-abbrev pub read_with : ReadCounts → List ℕ → List ℕ → ReadKept
-read_with r paths filters =
-    record { good = r.good; paths = record { count = r.paths; words = paths }; filters = record { count = r.filters; words = filters } }
+abbrev pub read_counts : Option ReadCounts → ReadCounts
+read_counts None = record { paths = 0; filters = 0 }
+read_counts (Some r) = r
 
-abbrev pub read_kept : List ℕ → List ℕ → Opt Read → ReadKept
-read_kept paths filters nothing = record { good = false; paths = kept_none (path_limit * target_size); filters = kept_none (filter_limit * version_filter_size) }
-read_kept paths filters (just r) =
+abbrev pub read_with : Option ReadCounts → List ℕ → List ℕ → ReadKept
+read_with r paths filters =
+    record { good = is_some r; paths = record { count = (read_counts r).paths; words = paths }; filters = record { count = (read_counts r).filters; words = filters } }
+
+abbrev pub read_kept : List ℕ → List ℕ → Option Read → ReadKept
+read_kept paths filters None = record { good = false; paths = kept_none (path_limit * target_size); filters = kept_none (filter_limit * version_filter_size) }
+read_kept paths filters (Some r) =
     record { good = true; paths = kept_as path_limit target_words paths r.paths; filters = kept_as filter_limit version_filter_words filters r.filters }
+
+-- whatever stands in the words of one that is refused
+abbrev pub read_left : Option ReadCounts → List ℕ → List ℕ → ReadKept
+read_left r paths filters = pick (is_some r) (read_with r paths filters) (read_kept [] [] None)
 
 -- BY A PASS over the request's members: at a stop its list is read, and the pass goes on after it
 pub record PassKept : Type 0 where
@@ -189,4 +183,4 @@ readable len m =
     pick (whole_pass len m) (pick (given (flag_by (get_or m.codes 3 0))) (given (number_by 255 false (get_or m.codes 9 0))) false) false
 
 unfoldable pub read_by : ℕ → Pass → Kept → Kept → ReadKept
-read_by len m ps fs = pick (readable len m) (record { good = true; paths = ps; filters = fs }) (read_kept [] [] nothing)
+read_by len m ps fs = pick (readable len m) (record { good = true; paths = ps; filters = fs }) (read_kept [] [] None)

@@ -1,13 +1,11 @@
 -- The Write Request (chapter 10, 10.6.6; RULES 4, 6.10 and 6.11). In bytes an entry's data is the place where it
 -- stands, in trees it is a tree.
-use Rattle.std.specs.Prelude.{ℕ, ◌+◌, ◌-◌, ◌*◌, List, [], ◌∷◌, map, Bool, true, false, length, get_or, eqb}
+use Rattle.std.specs.Prelude.{ℕ, ◌+◌, ◌-◌, ◌*◌, List, [], ◌∷◌, map, Bool, true, false, length, get_or, eqb, Some, None, Option, is_some}
 use Rattle.base_bounds.specs.Bounds.{depth_limit, write_limit}
 use Rattle.tlv_reader.specs.Octet.{pick, array}
 use Rattle.tlv_reader.specs.Tree.{Tree, Trees}
 use Rattle.tlv_reader.specs.Walk.{Got, bind_g, fold_at}
-use Rattle.tlv_reader.specs.Walk.Got.{got, bad}
-use Rattle.tlv_reader.specs.Decode.{Opt, bind_o, place, tree_at}
-use Rattle.tlv_reader.specs.Decode.Opt.{just, nothing}
+use Rattle.tlv_reader.specs.Decode.{bind_o, place, tree_at}
 use Rattle.im_members.specs.Fields.{Slot, or_none}
 use Rattle.im_members.specs.Fields.Slot.{absent}
 use Rattle.im_members.specs.Scalar.{ABSENT, number_in, flag_in, number_t, flag_t}
@@ -18,8 +16,6 @@ use Rattle.im_blocks.specs.Path.{exact_p}
 use Rattle.im_blocks.specs.Data.{DataOf, data_on, data_at, data_t}
 use Rattle.im_requests.specs.Message.{snoc, list_t, list_at, given, whole_pass, whole_in, whole_t, Firsts, firsts, no_firsts, Kept, kept_as, kept_none}
 use Rattle.tlv_reader.specs.declared.Element.{Element}
-use Rattle.im_requests.specs.declared.write.EntryRead.{EntryRead}
-use Rattle.im_requests.specs.declared.write.EntryRead.TheVariants as entry
 use Rattle.im_requests.specs.declared.write.WriteEntry.{WriteEntry}
 use Rattle.im_requests.specs.declared.write.WriteCounts.{WriteCounts}
 
@@ -41,8 +37,8 @@ entry_for x = record {
 }
 
 -- a write path lacking a part, or of a form that is refused, gets 80 (RULES 6.11)
-abbrev pub entry_if : {D : Type 0} → DataOf D → Opt (EntryOf D)
-entry_if x = pick (exact_p x.path) (just (entry_for x)) nothing
+abbrev pub entry_if : {D : Type 0} → DataOf D → Option (EntryOf D)
+entry_if x = pick (exact_p x.path) (Some (entry_for x)) None
 
 unfoldable pub entry_at : ℕ → List ℕ → ℕ → Got (EntryOf ℕ)
 entry_at d s at = bind_g (data_at d s at) (λ x n. place (entry_if x) n)
@@ -51,7 +47,7 @@ entry_at d s at = bind_g (data_at d s at) (λ x n. place (entry_if x) n)
 unfoldable pub entry_on : ℕ → List ℕ → Element → Got (EntryOf ℕ)
 entry_on d s e = bind_g (data_on d s e) (λ x n. place (entry_if x) n)
 
-unfoldable pub entry_t : Tree → Opt (EntryOf Tree)
+unfoldable pub entry_t : Tree → Option (EntryOf Tree)
 entry_t t = bind_o (data_t t) entry_if
 
 unfoldable pub entries_from : ℕ → List ℕ → List (EntryOf ℕ) → ℕ → Got (List (EntryOf ℕ))
@@ -63,10 +59,6 @@ entries_at d s at = entries_from d s [] at
 -- as the code has them
 abbrev pub entry_struct : EntryOf ℕ → WriteEntry
 entry_struct x = record { version = x.version; endpoint = x.endpoint; cluster = x.cluster; attribute = x.attribute; place = x.element }
-
-abbrev pub entry_read : Got (EntryOf ℕ) → EntryRead
-entry_read bad = entry.NoEntry
-entry_read (got x n) = entry.WriteEntry (entry_struct x) (record { at = n })
 
 abbrev pub entry_of : Data → WriteEntry
 entry_of d = record { version = d.version; endpoint = d.path.endpoint; cluster = d.path.cluster; attribute = d.path.attribute; place = d.place }
@@ -108,28 +100,28 @@ is_empty [] = true
 is_empty (x ∷ l) = false
 
 -- SuppressResponse, TimedRequest, WriteRequests and the revision are required; a chunked or empty write gets 80
-abbrev pub write_of : {D : Type 0} → ℕ → ℕ → ℕ → ℕ → Opt (List (EntryOf D)) → Opt (WriteOf D)
+abbrev pub write_of : {D : Type 0} → ℕ → ℕ → ℕ → ℕ → Option (List (EntryOf D)) → Option (WriteOf D)
 write_of suppress timed more revision es =
     pick (given suppress)
     (pick (given timed)
     (pick (unchunked more)
-    (pick (given revision) (bind_o es (λ l. pick (is_empty l) nothing (just (record { suppress = suppress; timed = timed; entries = l })))) nothing)
-    nothing)
-    nothing)
-    nothing
+    (pick (given revision) (bind_o es (λ l. pick (is_empty l) None (Some (record { suppress = suppress; timed = timed; entries = l })))) None)
+    None)
+    None)
+    None
 
-unfoldable pub write_from : List ℕ → List ℕ → Opt (WriteOf ℕ)
+unfoldable pub write_from : List ℕ → List ℕ → Option (WriteOf ℕ)
 write_from s seen =
     write_of (flag_in s (get_or seen 0 0)) (flag_in s (get_or seen 1 0)) (flag_in s (get_or seen 3 0)) (number_in 255 false s (get_or seen 9 0)) (required_in (list_at entry_at (depth_limit - 1) s) (get_or seen 2 0))
 
-unfoldable pub write_in : List ℕ → Opt (WriteOf ℕ)
+unfoldable pub write_in : List ℕ → Option (WriteOf ℕ)
 write_in s = whole_in write_tags (write_from s) s
 
-unfoldable pub write_slots : List Slot → Opt (WriteOf Tree)
+unfoldable pub write_slots : List Slot → Option (WriteOf Tree)
 write_slots xs =
     write_of (flag_t (get_or xs 0 absent)) (flag_t (get_or xs 1 absent)) (flag_t (get_or xs 3 absent)) (number_t 255 false (get_or xs 9 absent)) (required_t (list_t entry_t) (get_or xs 2 absent))
 
-unfoldable pub write_t : Trees → Opt (WriteOf Tree)
+unfoldable pub write_t : Trees → Option (WriteOf Tree)
 write_t ts = whole_t write_tags write_slots ts
 
 -- A REQUEST: whether it is well-formed, its two flags, and the first of its entries
@@ -139,9 +131,9 @@ pub record WriteRequest : Type 0 where
   pub timed : ℕ
   pub entries : Firsts WriteEntry
 
-abbrev pub write_read : Opt (WriteOf ℕ) → WriteRequest
-write_read nothing = record { good = false; suppress = 0; timed = 0; entries = no_firsts write_limit no_entry }
-write_read (just w) = record { good = true; suppress = w.suppress; timed = w.timed; entries = entries_struct w.entries }
+abbrev pub write_read : Option (WriteOf ℕ) → WriteRequest
+write_read None = record { good = false; suppress = 0; timed = 0; entries = no_firsts write_limit no_entry }
+write_read (Some w) = record { good = true; suppress = w.suppress; timed = w.timed; entries = entries_struct w.entries }
 
 -- ---- AS THE CODE HAS IT: the count, and the entries in the words that are lent
 
@@ -151,34 +143,40 @@ pub record WriteKept : Type 0 where
   pub timed : ℕ
   pub entries : Kept
 
-abbrev pub write_with : WriteCounts → List ℕ → WriteKept
-write_with r words = record { good = r.good; suppress = r.suppress; timed = r.timed; entries = record { count = r.entries; words = words } }
+abbrev pub write_counts : Option WriteCounts → WriteCounts
+write_counts None = record { suppress = 0; timed = 0; entries = 0 }
+write_counts (Some r) = r
 
-abbrev pub write_kept : List ℕ → Opt (WriteOf ℕ) → WriteKept
-write_kept words nothing = record { good = false; suppress = 0; timed = 0; entries = kept_none (write_limit * entry_size) }
-write_kept words (just w) = record { good = true; suppress = w.suppress; timed = w.timed; entries = kept_as write_limit kept_words words w.entries }
+abbrev pub write_with : Option WriteCounts → List ℕ → WriteKept
+write_with r words =
+    record { good = is_some r; suppress = (write_counts r).suppress; timed = (write_counts r).timed; entries = record { count = (write_counts r).entries; words = words } }
 
-abbrev pub no_write : WriteCounts
-no_write = record { good = false; suppress = 0; timed = 0; entries = 0 }
+abbrev pub write_kept : List ℕ → Option (WriteOf ℕ) → WriteKept
+write_kept words None = record { good = false; suppress = 0; timed = 0; entries = kept_none (write_limit * entry_size) }
+write_kept words (Some w) = record { good = true; suppress = w.suppress; timed = w.timed; entries = kept_as write_limit kept_words words w.entries }
+
+-- whatever stands in the words of one that is refused
+abbrev pub write_left : Option WriteCounts → List ℕ → WriteKept
+write_left r words = pick (is_some r) (write_with r words) (write_kept [] None)
 
 -- by a pass over the request's members that has ended, with so many entries
-abbrev pub write_made : ℕ → ℕ → ℕ → ℕ → ℕ → WriteCounts
+abbrev pub write_made : ℕ → ℕ → ℕ → ℕ → ℕ → Option WriteCounts
 write_made suppress timed more revision count =
     pick (given suppress)
     (pick (given timed)
     (pick (unchunked more)
     (pick (given revision)
-    (pick (eqb count 0) no_write (record { good = true; suppress = suppress; timed = timed; entries = count }))
-    no_write)
-    no_write)
-    no_write)
-    no_write
+    (pick (eqb count 0) None (Some (record { suppress = suppress; timed = timed; entries = count })))
+    None)
+    None)
+    None)
+    None
 
-unfoldable pub write_by : ℕ → Pass → ℕ → WriteCounts
+unfoldable pub write_by : ℕ → Pass → ℕ → Option WriteCounts
 write_by len m count =
     pick (whole_pass len m)
     (write_made (flag_by (get_or m.codes 0 0)) (flag_by (get_or m.codes 1 0)) (flag_by (get_or m.codes 3 0)) (number_by 255 false (get_or m.codes 9 0)) count)
-    no_write
+    None
 
 -- the tree that stands at a place, for each entry
 abbrev pub entry_tree : ℕ → List ℕ → EntryOf ℕ → EntryOf Tree

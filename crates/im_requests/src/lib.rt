@@ -2,18 +2,23 @@
 
 #![tactic(auto)]
 
-ghost use Rattle.std.specs.Prelude.{◌≡◌, List, [], ◌∷◌, ℕ, ◌≤◌, ◌*◌, length};
+ghost use Rattle.std.specs.Prelude.{◌≡◌, refl, Some, List, [], ◌∷◌, ℕ, ◌≤◌, ◌*◌, length};
 ghost use Rattle.base_bounds.specs.Bounds.{path_limit, filter_limit};
 ghost use Rattle.im_members.specs.Pass.{pass_with};
-ghost use Rattle.im_requests.specs.Message.{open_pass, whole_pass, list_on, keep_more, list_with, list_read};
-ghost use Rattle.im_requests.specs.Status.{response_in, response_read};
-ghost use Rattle.im_requests.specs.Read.{target_of, target_size, target_words, asked_at, asked_on, asked_read, version_filter_on, version_filter_read, paths_at, local_f, version_filter_of, version_filter_size, version_filter_words, version_filter_at, version_filters_at, read_in, passed_with, pass_paths, pass_version_filters, readable, read_with, read_kept, read_by};
+ghost use Rattle.im_requests.specs.declared.Target.{Target};
+ghost use Rattle.im_requests.specs.declared.VersionFilter.{VersionFilter};
+ghost use Rattle.im_requests.specs.Message.{open_pass, whole_pass, keep_more};
+ghost use Rattle.im_requests.specs.Status.{response_in};
+ghost use Rattle.im_requests.specs.Read.{target_of, target_size, target_words, asked_at, asked_on, paths_at, version_filter_on, local_f, version_filter_of, version_filter_size, version_filter_words, version_filter_at, version_filters_at, read_in, passed_with, pass_paths, pass_version_filters, readable, read_with, read_left, read_kept};
+ghost use Rattle.im_requests.specs.Lists.{asked-reads, paths-listed, version-filter-reads, version-filters-listed};
 
 use base_bounds::{MAX_FILTERS, MAX_PATHS};
-use im_blocks::{Filter, FilterRead, Path, PathRead};
-use im_members::{ABSENT, MemberAt, Stop};
-use tlv_reader::{Cursor, Element, Head};
+use im_blocks::{Filter, Path};
+use im_members::{ABSENT, Stop};
+use list::Member;
+use tlv_reader::{Cursor, Element};
 
+pub mod list; // list.rt: the lists that a message has
 pub mod write; // write.rt: Write Requests
 
 // A pass over the members of a message, from the untagged structure on that it starts with.
@@ -23,11 +28,11 @@ pub fn begin_message(
     stops: &[bool; 10],
     at: &mut [usize; 10],
     codes: &mut [u64; 10],
-) -> Stop
+) -> Option<Stop>
     ensures { pass_with result at.new codes.new ≡ open_pass listed.now stops.now s.now }
 {
     let start = Cursor { at: 0 };
-    let Head::Found(e) = start.head(s) else {
+    let Some(e) = start.head(s) else {
         return im_members::refused(at, codes);
     };
     if e.form != 0 {
@@ -47,20 +52,9 @@ pub fn begin_message(
 
 // Whether a pass has ended where the payload ends.
 pub fn is_whole(m: Stop, len: usize) -> bool
-    ensures { (at codes : List ℕ) → result ≡ whole_pass len (pass_with m at codes) }
+    ensures { (at codes : List ℕ) → result ≡ whole_pass len (pass_with (Some m) at codes) }
 {
-    if !m.good {
-        return false;
-    }
-    let end = m.head;
-    let next = end.next;
-    next.at == len
-}
-
-#[derive(Clone, Copy)]
-pub enum StatusResponse {
-    Code(u64),
-    BadResponse,
+    m.head.next.at == len
 }
 
 const STATUS: [bool; 10] = [
@@ -68,26 +62,26 @@ const STATUS: [bool; 10] = [
 ];
 
 // StatusResponseMessage: a status code (tag 0) and the revision.
-pub fn status_response(s: &[u8]) -> StatusResponse
-    ensures { result ≡ response_read (response_in s.now) }
+pub fn status_response(s: &[u8]) -> Option<u64>
+    ensures { result ≡ response_in s.now }
 {
     let listed = STATUS;
     let never = im_members::NO_STOP;
     let mut at = [0usize; 10];
     let mut codes = [0u64; 10];
-    let m = begin_message(s, &listed, &never, &mut at, &mut codes);
+    let m = begin_message(s, &listed, &never, &mut at, &mut codes)?;
     if !is_whole(m, s.len()) {
-        return StatusResponse::BadResponse;
+        return None;
     }
     let code = im_members::number_by(codes[0], 255, false);
     if ABSENT <= code {
-        return StatusResponse::BadResponse;
+        return None;
     }
     let revision = im_members::number_by(codes[9], 255, false);
     if ABSENT <= revision {
-        return StatusResponse::BadResponse;
+        return None;
     }
-    StatusResponse::Code(code)
+    Some(code)
 }
 
 // What a read path asks for: each part its number, or ABSENT for any.
@@ -118,19 +112,12 @@ pub const PATH_WORDS: usize = MAX_PATHS * PATH_SIZE;
 
 pub const FILTER_WORDS: usize = MAX_FILTERS * FILTER_SIZE;
 
-// A list that was read from an array: whether it is well-formed, how many members it has, and where it ends. The first of them are in words that are lent.
+// A list that was read from an array: how many members it has, and where it ends. The first of them are in words that are lent.
 #[derive(Clone, Copy)]
 pub struct Listed {
-    pub good: bool,
     pub count: usize,
     pub next: Cursor,
 }
-
-pub const NO_LIST: Listed = Listed {
-    good: false,
-    count: 0,
-    next: Cursor { at: 0 },
-};
 
 // One member more of a list, in three words, if there is room.
 pub fn keep_three(kept: &mut [u64], limit: usize, count: usize, a: u64, b: u64, c: u64)
@@ -146,72 +133,47 @@ pub fn keep_three(kept: &mut [u64], limit: usize, count: usize, a: u64, b: u64, 
     kept[at + 2] = c;
 }
 
-// What a path of a read asks for.
-#[derive(Clone, Copy)]
-pub enum AskedRead {
-    Asked(Target, Cursor),
-    NotAsked,
-}
+impl Member for Target {
+    ghost Meant = { Target };
 
-fn asked_of(s: &[u8], e: Element, left: usize) -> AskedRead
-    ensures { result ≡ asked_read (asked_on left s.now e) }
-{
-    let PathRead::Path(p, next) = im_blocks::path_of(s, e, left) else {
-        return AskedRead::NotAsked;
-    };
-    if !im_blocks::askable(p) {
-        return AskedRead::NotAsked;
-    }
-    AskedRead::Asked(target_of(p), next)
-}
+    ghost held = { λ t. t };
 
-// The paths of an array from one of its members on: all are checked and counted, the first are kept.
-pub fn paths_from(s: &[u8], c: Cursor, left: usize, kept: &mut [u64; PATH_WORDS]) -> Listed
-    ensures { list_with result kept.new ≡ list_read path_limit target_size target_words kept.old (paths_at left s.now c.at) }
-{
-    let mut count: usize = 0;
-    let mut at = c.at;
-    loop {
-        let item = im_members::item_at(s, Cursor { at }, tlv_reader::ARRAY);
-        match item {
-            MemberAt::BadItem => {
-                *kept = [0u64; PATH_WORDS];
-                return NO_LIST;
-            }
-            MemberAt::Ended(next) => {
-                return Listed {
-                    good: true,
-                    count,
-                    next,
-                };
-            }
-            MemberAt::Member(e) => {
-                let AskedRead::Asked(t, next) = asked_of(s, e, left) else {
-                    *kept = [0u64; PATH_WORDS];
-                    return NO_LIST;
-                };
-                keep_three(kept, MAX_PATHS, count, t.endpoint, t.cluster, t.attribute);
-                count += 1;
-                at = next.at;
-            }
+    ghost limit = { path_limit };
+
+    ghost size = { target_size };
+
+    ghost words = { target_words };
+
+    ghost at = { asked_at };
+
+    ghost on = { asked_on };
+
+    ghost list = { paths_at };
+
+    ghost reads = { asked-reads };
+
+    ghost listed = { paths-listed };
+
+    ghost wide = { λ t. refl };
+
+    fn read(s: &[u8], e: Element, left: usize) -> Option<(Target, Cursor)> {
+        let (p, next) = im_blocks::path_of(s, e, left)?;
+        if !im_blocks::askable(p) {
+            return None;
         }
+        Some((target_of(p), next))
     }
-}
 
-// The paths of the array whose head was read.
-fn paths_of(s: &[u8], e: Element, left: usize, kept: &mut [u64; PATH_WORDS]) -> Listed
-    ensures { list_with result kept.new ≡ list_read path_limit target_size target_words kept.old (list_on asked_at left s.now e) }
-{
-    if e.kind != tlv_reader::ARRAY {
-        *kept = [0u64; PATH_WORDS];
-        return NO_LIST;
+    fn keep(self, kept: &mut [u64], count: usize) {
+        keep_three(
+            kept,
+            MAX_PATHS,
+            count,
+            self.endpoint,
+            self.cluster,
+            self.attribute,
+        );
     }
-    if left == 0 {
-        *kept = [0u64; PATH_WORDS];
-        return NO_LIST;
-    }
-    let c = e.next;
-    paths_from(s, c, left - 1, kept)
 }
 
 // A cluster with the version that the reader of it has.
@@ -241,83 +203,52 @@ fn is_local(f: Filter) -> bool
     path.node == ABSENT
 }
 
-// What a filter vouches for.
-#[derive(Clone, Copy)]
-pub enum VersionFilterRead {
-    VersionFilter(VersionFilter, Cursor),
-    NotVersionFilter,
-}
+impl Member for VersionFilter {
+    ghost Meant = { VersionFilter };
 
-fn version_filter_at(s: &[u8], e: Element, left: usize) -> VersionFilterRead
-    ensures { result ≡ version_filter_read (version_filter_on left s.now e) }
-{
-    let FilterRead::Filter(p, next) = im_blocks::filter_of(s, e, left) else {
-        return VersionFilterRead::NotVersionFilter;
-    };
-    if !is_local(p) {
-        return VersionFilterRead::NotVersionFilter;
-    }
-    VersionFilterRead::VersionFilter(version_filter_of(p), next)
-}
+    ghost held = { λ f. f };
 
-// The filters of an array from one of its members on: all are checked and counted, the first are kept.
-pub fn version_filters_from(
-    s: &[u8],
-    c: Cursor,
-    left: usize,
-    kept: &mut [u64; FILTER_WORDS],
-) -> Listed
-    ensures { list_with result kept.new ≡ list_read filter_limit version_filter_size version_filter_words kept.old (version_filters_at left s.now c.at) }
-{
-    let mut count: usize = 0;
-    let mut at = c.at;
-    loop {
-        let item = im_members::item_at(s, Cursor { at }, tlv_reader::ARRAY);
-        match item {
-            MemberAt::BadItem => {
-                *kept = [0u64; FILTER_WORDS];
-                return NO_LIST;
-            }
-            MemberAt::Ended(next) => {
-                return Listed {
-                    good: true,
-                    count,
-                    next,
-                };
-            }
-            MemberAt::Member(e) => {
-                let VersionFilterRead::VersionFilter(t, next) = version_filter_at(s, e, left) else {
-                    *kept = [0u64; FILTER_WORDS];
-                    return NO_LIST;
-                };
-                keep_three(kept, MAX_FILTERS, count, t.endpoint, t.cluster, t.version);
-                count += 1;
-                at = next.at;
-            }
+    ghost limit = { filter_limit };
+
+    ghost size = { version_filter_size };
+
+    ghost words = { version_filter_words };
+
+    ghost at = { version_filter_at };
+
+    ghost on = { version_filter_on };
+
+    ghost list = { version_filters_at };
+
+    ghost reads = { version-filter-reads };
+
+    ghost listed = { version-filters-listed };
+
+    ghost wide = { λ f. refl };
+
+    fn read(s: &[u8], e: Element, left: usize) -> Option<(VersionFilter, Cursor)> {
+        let (p, next) = im_blocks::filter_of(s, e, left)?;
+        if !is_local(p) {
+            return None;
         }
+        Some((version_filter_of(p), next))
+    }
+
+    fn keep(self, kept: &mut [u64], count: usize) {
+        keep_three(
+            kept,
+            MAX_FILTERS,
+            count,
+            self.endpoint,
+            self.cluster,
+            self.version,
+        );
     }
 }
 
-// The filters of the array whose head was read.
-fn version_filters_of(s: &[u8], e: Element, left: usize, kept: &mut [u64; FILTER_WORDS]) -> Listed
-    ensures { list_with result kept.new ≡ list_read filter_limit version_filter_size version_filter_words kept.old (list_on version_filter_at left s.now e) }
-{
-    if e.kind != tlv_reader::ARRAY {
-        *kept = [0u64; FILTER_WORDS];
-        return NO_LIST;
-    }
-    if left == 0 {
-        *kept = [0u64; FILTER_WORDS];
-        return NO_LIST;
-    }
-    let c = e.next;
-    version_filters_from(s, c, left - 1, kept)
-}
-
-// A read request: whether it is well-formed, and how many paths and filters it has.
+// A read request: how many paths and filters it has.
 #[derive(Clone, Copy)]
 pub struct ReadCounts {
-    pub good: bool,
     pub paths: usize,
     pub filters: usize,
 }
@@ -338,17 +269,18 @@ const FILTERS: [bool; 10] = [
     false, false, false, false, true, false, false, false, false, false,
 ];
 
-// Where a pass over a request's members stopped, and how many members a list of it has that was read by then.
+// Where a pass over a request's members stopped, if they are well-formed so far, and how many members a list of it has that was read by
+// then.
 #[derive(Clone, Copy)]
 pub struct Passed {
-    pub stop: Stop,
+    pub stop: Option<Stop>,
     pub count: usize,
 }
 
 // If the pass has stopped at the paths, they are read, and it goes on.
 fn pass_paths(
     s: &[u8],
-    m: Stop,
+    m: Option<Stop>,
     before: usize,
     stops: &[bool; 10],
     at: &mut [usize; 10],
@@ -357,24 +289,26 @@ fn pass_paths(
 ) -> Passed
     ensures { passed_with result at.new codes.new kept.new ≡ pass_paths s.now stops.now (pass_with m at.old codes.old) (record { count = before; words = kept.old }) }
 {
-    if m.slot != 0 {
+    let Some(here) = m else {
+        return Passed {
+            stop: None,
+            count: before,
+        };
+    };
+    if here.slot != 0 {
         return Passed {
             stop: m,
             count: before,
         };
     }
-    let inner = m.head;
-    let f = paths_of(s, inner, base_bounds::MAX_DEPTH - 1, kept);
-    let count = f.count;
-    if !f.good {
+    let Some(f) = list::list_of::<Target>(s, here.head, base_bounds::MAX_DEPTH - 1, kept) else {
         let stop = im_members::refused(at, codes);
-        return Passed { stop, count };
-    }
-    let after = f.next;
+        return Passed { stop, count: 0 };
+    };
     let listed = READ;
     let stop = im_members::resume(
         s,
-        after,
+        f.next,
         base_bounds::MAX_DEPTH - 1,
         tlv_reader::STRUCTURE,
         &listed,
@@ -382,13 +316,16 @@ fn pass_paths(
         at,
         codes,
     );
-    Passed { stop, count }
+    Passed {
+        stop,
+        count: f.count,
+    }
 }
 
 // If the pass has stopped at the filters, they are read, and it goes on.
 fn pass_version_filters(
     s: &[u8],
-    m: Stop,
+    m: Option<Stop>,
     stops: &[bool; 10],
     at: &mut [usize; 10],
     codes: &mut [u64; 10],
@@ -396,21 +333,24 @@ fn pass_version_filters(
 ) -> Passed
     ensures { passed_with result at.new codes.new kept.new ≡ pass_version_filters s.now stops.now (pass_with m at.old codes.old) (record { count = 0; words = kept.old }) }
 {
-    if m.slot != 4 {
+    let Some(here) = m else {
+        return Passed {
+            stop: None,
+            count: 0,
+        };
+    };
+    if here.slot != 4 {
         return Passed { stop: m, count: 0 };
     }
-    let inner = m.head;
-    let f = version_filters_of(s, inner, base_bounds::MAX_DEPTH - 1, kept);
-    let count = f.count;
-    if !f.good {
+    let Some(f) = list::list_of::<VersionFilter>(s, here.head, base_bounds::MAX_DEPTH - 1, kept)
+    else {
         let stop = im_members::refused(at, codes);
-        return Passed { stop, count };
-    }
-    let after = f.next;
+        return Passed { stop, count: 0 };
+    };
     let listed = READ;
     let stop = im_members::resume(
         s,
-        after,
+        f.next,
         base_bounds::MAX_DEPTH - 1,
         tlv_reader::STRUCTURE,
         &listed,
@@ -418,12 +358,15 @@ fn pass_version_filters(
         at,
         codes,
     );
-    Passed { stop, count }
+    Passed {
+        stop,
+        count: f.count,
+    }
 }
 
 // Whether the members that were passed make a request.
 fn is_read(len: usize, m: Stop, codes: &[u64; 10]) -> bool
-    ensures { (at : List ℕ) → result ≡ readable len (pass_with m at codes.now) }
+    ensures { (at : List ℕ) → result ≡ readable len (pass_with (Some m) at codes.now) }
 {
     if !is_whole(m, len) {
         return false;
@@ -436,42 +379,14 @@ fn is_read(len: usize, m: Stop, codes: &[u64; 10]) -> bool
     revision < ABSENT
 }
 
-// The request whose members were passed, with its lists. One that is refused leaves nothing in their words.
-fn read_of(
-    len: usize,
-    m: Stop,
-    codes: &[u64; 10],
-    asked: usize,
-    wanted: usize,
-    paths: &mut [u64; PATH_WORDS],
-    filters: &mut [u64; FILTER_WORDS],
-) -> ReadCounts
-    ensures { (at : List ℕ) → read_with result paths.new filters.new ≡ read_by len (pass_with m at codes.now) (record { count = asked; words = paths.old }) (record { count = wanted; words = filters.old }) }
-{
-    if !is_read(len, m, codes) {
-        *paths = [0u64; PATH_WORDS];
-        *filters = [0u64; FILTER_WORDS];
-        return ReadCounts {
-            good: false,
-            paths: 0,
-            filters: 0,
-        };
-    }
-    ReadCounts {
-        good: true,
-        paths: asked,
-        filters: wanted,
-    }
-}
-
-// ReadRequestMessage: paths (tag 0), FabricFiltered (tag 3), filters (tag 4) and the revision. The lists come in either order: the pass
-// stops at whichever comes first, then at the other.
-pub fn read_request(
+// The lists come in either order: the pass stops at whichever comes first, then at the other. Of a request that is refused nothing is said
+// of what stands in their words.
+fn read_lists(
     s: &[u8],
     paths: &mut [u64; PATH_WORDS],
     filters: &mut [u64; FILTER_WORDS],
-) -> ReadCounts
-    ensures { read_with result paths.new filters.new ≡ read_kept paths.old filters.old (read_in s.now) }
+) -> Option<ReadCounts>
+    ensures { read_left result paths.new filters.new ≡ read_kept paths.old filters.old (read_in s.now) }
 {
     let listed = READ;
     let either = EITHER_LIST;
@@ -492,13 +407,29 @@ pub fn read_request(
         &mut codes,
         paths,
     );
-    read_of(
-        s.len(),
-        third.stop,
-        &codes,
-        third.count,
-        second.count,
-        paths,
-        filters,
-    )
+    let end = third.stop?;
+    if !is_read(s.len(), end, &codes) {
+        return None;
+    }
+    Some(ReadCounts {
+        paths: third.count,
+        filters: second.count,
+    })
+}
+
+// ReadRequestMessage: paths (tag 0), FabricFiltered (tag 3), filters (tag 4) and the revision. One that is refused leaves nothing in the
+// words of its lists.
+pub fn read_request(
+    s: &[u8],
+    paths: &mut [u64; PATH_WORDS],
+    filters: &mut [u64; FILTER_WORDS],
+) -> Option<ReadCounts>
+    ensures { read_with result paths.new filters.new ≡ read_kept paths.old filters.old (read_in s.now) }
+{
+    let r = read_lists(s, paths, filters);
+    if r.is_none() {
+        *paths = [0u64; PATH_WORDS];
+        *filters = [0u64; FILTER_WORDS];
+    }
+    r
 }

@@ -1,4 +1,5 @@
 -- The Write Response: case by case for the code, and THE LAW that what is read is the meaning of the tree that the payload spells.
+use Rattle.std.specs.Prelude.{Some, None, Option}
 use mathlib.Core.Path.{◌≡◌, refl, sym, ap, ◌∙◌}
 use mathlib.Core.Bool.{Bool, true, false}
 use mathlib.Core.List.{List}
@@ -6,14 +7,12 @@ use Prim.Native.Nat.{ℕ, ◌-◌, ◌<◌, ◌≤◌}
 use native.Mathlib.Omega.{arith}
 use lib.ListN.{get_or}
 use lib.Dec.{eqb}
-use Rattle.tlv_reader.specs.declared.Cursor.{Cursor}
 use Rattle.tlv_reader.specs.Octet.{pick}
 use Rattle.tlv_reader.specs.Tree.{Tree, Trees, SpellsMessage, tag_of_tree}
 use Rattle.tlv_reader.specs.Tree.Trees.{more}
 use Rattle.tlv_reader.specs.Walk.{Got}
 use Rattle.tlv_reader.specs.Walk.Got.{got, bad}
-use Rattle.tlv_reader.specs.Decode.{Opt, bind_o, place}
-use Rattle.tlv_reader.specs.Decode.Opt.{just, nothing}
+use Rattle.tlv_reader.specs.Decode.{bind_o, place}
 use Rattle.im_members.specs.Fields.{slot_t}
 use Rattle.im_members.specs.Scalar.{ABSENT, number_in}
 use Rattle.im_members.specs.Array.{opt_of, required_in}
@@ -29,8 +28,7 @@ use Rattle.im_requests.proofs.MessageLaws.{given-no, given_yes}
 use Rattle.im_requests.proofs.ListLaws.{list-plain}
 use Rattle.im_requests.proofs.PassLaws.{list-reads}
 use Rattle.im_requests.proofs.WholeLaws.{whole-law, whole-any-order, whole-unlisted}
-use Rattle.im_responses.specs.declared.answer.OneRead.TheVariants.{Only, NotOnly}
-use Rattle.im_responses.specs.Answered.{only, only_of, only_read, answered_tags, answered_from, answered_in, answered_slots, answered_t}
+use Rattle.im_responses.specs.Answered.{only, only_of, answered_tags, answered_from, answered_in, answered_slots, answered_t}
 
 -- the one status of the array, by its place and by its head
 pub one-reads : (s : List ℕ) → Reads 9 s (λ at. only_of (list_at answer_at 9 s at)) (λ e. only_of (list_on answer_at 9 s e))
@@ -39,50 +37,39 @@ one-reads s = then-reads 9 s only (list-reads answer_at (answer_on 8 s) 8 s (ans
 never : {A : Type 0} → ◌≡◌ {A = ℕ} 0 1 → A
 never e = absurd (omega arith)
 
-pub one_none : (g : Got Answer) → only_read g ≡ NotOnly → g ≡ bad
-one_none bad e = refl
-one_none (got x n) e = never (cc)
-
-pub one-some : (g : Got Answer) {x : Answer} {n : Cursor} → only_read g ≡ Only x n → g ≡ got x n.at
-one-some bad e = never (cc)
-one-some (got y m) {x} {n} e =
-    let f : y ≡ x = cc in
-    let k : m ≡ n.at = cc in
-    rw (f, k) refl
-
 one-required : (read : ℕ → Got (List Answer)) (p : ℕ) → required_in (λ at. only_of (read at)) p ≡ bind_o (required_in read p) only
 unfolding required_in
 one-required read p = by (eqb p 0)
   where
-    put : (o : Opt Answer) (n : ℕ) → opt_of (place o n) ≡ o
-    put nothing n = refl
-    put (just x) n = refl
+    put : (o : Option Answer) (n : ℕ) → opt_of (place o n) ≡ o
+    put None n = refl
+    put (Some x) n = refl
 
     there : (g : Got (List Answer)) → opt_of (only_of g) ≡ bind_o (opt_of g) only
     there bad = refl
     there (got l n) = put (only l) n
 
-    by : (b : Bool) → pick b nothing (opt_of (only_of (read (p - 1)))) ≡ bind_o (pick b nothing (opt_of (read (p - 1)))) only
+    by : (b : Bool) → pick b None (opt_of (only_of (read (p - 1)))) ≡ bind_o (pick b None (opt_of (read (p - 1)))) only
     by true = refl
     by false = there (read (p - 1))
 
 module _ (s : List ℕ) (xs : List ℕ) where
-  answered-one : {x : Opt Answer} → required_in (λ at. only_of (list_at answer_at 9 s at)) (get_or xs 0 0) ≡ x → answered_from s xs ≡ pick (given (number_in 255 false s (get_or xs 9 0))) x nothing
+  answered-one : {x : Option Answer} → required_in (λ at. only_of (list_at answer_at 9 s at)) (get_or xs 0 0) ≡ x → answered_from s xs ≡ pick (given (number_in 255 false s (get_or xs 9 0))) x None
   unfolding answered_from
-  answered-one e = ap (λ o. pick (given (number_in 255 false s (get_or xs 9 0))) o nothing) (sym (one-required (list_at answer_at 9 s) (get_or xs 0 0)) ∙ e)
+  answered-one e = ap (λ o. pick (given (number_in 255 false s (get_or xs 9 0))) o None) (sym (one-required (list_at answer_at 9 s) (get_or xs 0 0)) ∙ e)
 
-  pub answered-lacks : required_in (λ at. only_of (list_at answer_at 9 s at)) (get_or xs 0 0) ≡ nothing → answered_from s xs ≡ nothing
+  pub answered-lacks : required_in (λ at. only_of (list_at answer_at 9 s at)) (get_or xs 0 0) ≡ None → answered_from s xs ≡ None
   answered-lacks e = answered-one e ∙ none (given (number_in 255 false s (get_or xs 9 0)))
     where
-      none : (b : Bool) → ◌≡◌ {A = Opt Answer} (pick b nothing nothing) nothing
+      none : (b : Bool) → ◌≡◌ {A = Option Answer} (pick b None None) None
       none true = refl
       none false = refl
 
-  module _ {x : Answer} (e : required_in (λ at. only_of (list_at answer_at 9 s at)) (get_or xs 0 0) ≡ just x) {n : ℕ} (r : n ≡ number_in 255 false s (get_or xs 9 0)) where
-    pub answered-no : ABSENT ≤ n → answered_from s xs ≡ nothing
+  module _ {x : Answer} (e : required_in (λ at. only_of (list_at answer_at 9 s at)) (get_or xs 0 0) ≡ Some x) {n : ℕ} (r : n ≡ number_in 255 false s (get_or xs 9 0)) where
+    pub answered-no : ABSENT ≤ n → answered_from s xs ≡ None
     answered-no l = answered-one e ∙ rw (← r, given-no n l) refl
 
-    pub answered-has : n < ABSENT → answered_from s xs ≡ just x
+    pub answered-has : n < ABSENT → answered_from s xs ≡ Some x
     answered-has l = answered-one e ∙ rw (← r, given_yes n l) refl
 
 -- any legal spelling of a write response is read to its meaning

@@ -1,4 +1,5 @@
 -- A payload holds few blocks: each takes ten bytes, and the array's end one.
+use Rattle.std.specs.Prelude.{Some}
 use mathlib.Core.Path.{◌≡◌, refl, sym, ap, subst}
 use mathlib.Core.Bool.{Bool, true, false}
 use mathlib.Core.List.{List, []}
@@ -9,12 +10,10 @@ use lib.ListN.{length}
 use lib.Dec.{ltb}
 use Rattle.base_bounds.specs.Bounds.{payload_limit}
 use Rattle.tlv_reader.specs.declared.Element.{Element}
-use Rattle.tlv_reader.specs.declared.Head.TheVariants.{Found}
 use Rattle.tlv_reader.specs.Octet.{array}
 use Rattle.tlv_reader.specs.Head.{head_at}
 use Rattle.tlv_reader.specs.Walk.{Got, map_g}
 use Rattle.tlv_reader.specs.Walk.Got.{got, bad}
-use Rattle.tlv_reader.specs.Decode.Opt.{just}
 use Rattle.tlv_reader.proofs.FoldLaws.{Ahead, ahead-map, fold-ahead}
 use Rattle.im_members.specs.Array.{opt_of, each_step}
 use Rattle.im_members.proofs.PassLaws.{within, reads-forward}
@@ -32,7 +31,7 @@ abbrev bytes : List (ReportOf ℕ) → ℕ
 bytes l = 10 * length l
 
 module _ (d : ℕ) (s : List ℕ) where
-  one_more : (l : List (ReportOf ℕ)) (at : ℕ) (e : Element) → head_at s at ≡ Found e → Grown bytes at (bytes l) (each_step snoc (report_at d s) l at e)
+  one_more : (l : List (ReportOf ℕ)) (at : ℕ) (e : Element) → head_at s at ≡ Some e → Grown bytes at (bytes l) (each_step snoc (report_at d s) l at e)
   unfolding each_step
   one_more l at e h = go (report_at d s at) ((report-reads d s).here at e h)
     where
@@ -49,10 +48,10 @@ module _ (d : ℕ) (s : List ℕ) where
   blocks-within at w = (subst (Ahead at (length s)) w (fold-ahead (each_step snoc (report_at d s)) s (λ l p e h. ahead-map p (length s) (snoc l) (report_at d s p) (reads-forward d s (report-reads d s) p e h)) (length s) array [] at)).1
 
 -- THE LAW
-pub few-blocks : (s : List ℕ) (p : PartOf ℕ) → length s ≤ payload_limit → part_in s ≡ just p → length p.blocks ≤ max_blocks
+pub few-blocks : (s : List ℕ) (p : PartOf ℕ) → length s ≤ payload_limit → part_in s ≡ Some p → length p.blocks ≤ max_blocks
 few-blocks s p small e = go (ltb 0 (length p.blocks)) refl
   where
-    from : (at : ℕ) (g : Got (List (ReportOf ℕ))) → blocks_at 8 s at ≡ g → opt_of g ≡ just p.blocks → length p.blocks ≤ max_blocks
+    from : (at : ℕ) (g : Got (List (ReportOf ℕ))) → blocks_at 8 s at ≡ g → opt_of g ≡ Some p.blocks → length p.blocks ≤ max_blocks
     from at bad w z = never (cc)
     from at (got l n) w z =
         let same : l ≡ p.blocks = cc in

@@ -1,4 +1,5 @@
 -- THE LAW of Report Data: what is read is the meaning of the tree that the payload spells.
+use Rattle.std.specs.Prelude.{Some, None, Option}
 use mathlib.Core.Path.{◌≡◌, refl, ◌∙◌}
 use mathlib.Core.Bool.{Bool, true, false}
 use mathlib.Core.List.{List, [], map}
@@ -10,8 +11,7 @@ use lib.Dec.{eqb}
 use Rattle.tlv_reader.specs.Octet.{pick}
 use Rattle.tlv_reader.specs.Tree.{Tree, Trees, SpellsMessage, tag_of_tree}
 use Rattle.tlv_reader.specs.Tree.Trees.{more}
-use Rattle.tlv_reader.specs.Decode.{Opt, bind_o}
-use Rattle.tlv_reader.specs.Decode.Opt.{just, nothing}
+use Rattle.tlv_reader.specs.Decode.{bind_o}
 use Rattle.im_members.specs.Fields.{slot_t, slot_in}
 use Rattle.im_members.specs.Scalar.{WRONG, number_in, flag_in}
 use Rattle.im_members.specs.Array.{map_o, optional_in, optional_t}
@@ -34,11 +34,11 @@ blocks-here s (suc p) =
     rw (ne_eqb (suc p) 0 (λ z. omega arith), e) (member-mapped (map (report_tree 6 s)) 9 s (list_at report_at 9 s) (list_t report_t) (list_law (report_tree 6 s) report_t report_at 8 s (report-law 8 s)) refl p)
 
 module _ (s : List ℕ) (more : ℕ) where
-  blocks-through : (bs : Opt (List (ReportOf ℕ))) → map_o (part_tree 6 s) (bind_o bs (λ l. just (record { more = more; blocks = l }))) ≡ bind_o (map_o (map (report_tree 6 s)) bs) (λ l. just (record { more = more; blocks = l }))
-  blocks-through nothing = refl
-  blocks-through (just l) = refl
+  blocks-through : (bs : Option (List (ReportOf ℕ))) → map_o (part_tree 6 s) (bind_o bs (λ l. Some (record { more = more; blocks = l }))) ≡ bind_o (map_o (map (report_tree 6 s)) bs) (λ l. Some (record { more = more; blocks = l }))
+  blocks-through None = refl
+  blocks-through (Some l) = refl
 
-  part-through : (a b c d : Bool) (bs : Opt (List (ReportOf ℕ))) → map_o (part_tree 6 s) (pick a nothing (pick b nothing (pick c nothing (pick d (bind_o bs (λ l. just (record { more = more; blocks = l }))) nothing)))) ≡ pick a nothing (pick b nothing (pick c nothing (pick d (bind_o (map_o (map (report_tree 6 s)) bs) (λ l. just (record { more = more; blocks = l }))) nothing)))
+  part-through : (a b c d : Bool) (bs : Option (List (ReportOf ℕ))) → map_o (part_tree 6 s) (pick a None (pick b None (pick c None (pick d (bind_o bs (λ l. Some (record { more = more; blocks = l }))) None)))) ≡ pick a None (pick b None (pick c None (pick d (bind_o (map_o (map (report_tree 6 s)) bs) (λ l. Some (record { more = more; blocks = l }))) None)))
   part-through false false false true bs = blocks-through bs
   part-through false false false false bs = refl
   part-through false false true d bs = refl

@@ -1,4 +1,5 @@
 -- An array of exactly one status, case by case for the code.
+use Rattle.std.specs.Prelude.{Some, None, Option}
 use mathlib.Core.Path.{◌≡◌, refl, ap, ◌∙◌}
 use mathlib.Core.Bool.{Bool, true, false}
 use mathlib.Core.List.{List, [], ◌∷◌}
@@ -7,10 +8,7 @@ use native.Mathlib.Omega.{arith}
 use lib.ListN.{length}
 use lib.Dec.{eqb}
 use borrow.Author.Tests.{ne_eqb}
-use Rattle.tlv_reader.specs.declared.Cursor.{Cursor}
 use Rattle.tlv_reader.specs.declared.Element.{Element}
-use Rattle.tlv_reader.specs.declared.Head.{Head}
-use Rattle.tlv_reader.specs.declared.Head.TheVariants.{Found, Malformed}
 use Rattle.tlv_reader.specs.Octet.{array, end_of_container}
 use Rattle.tlv_reader.specs.Head.{head_at}
 use Rattle.tlv_reader.specs.Walk.{Got, bind_g, map_g, allowed_in, choose, fold_by, fold_at}
@@ -19,8 +17,7 @@ use Rattle.tlv_reader.specs.Decode.{place, tree_at}
 use Rattle.im_members.specs.Array.{each_step}
 use Rattle.im_members.proofs.ArrayLaws.{plain, each_none, each-ends, each-barred, each-breaks, each_on}
 use Rattle.im_blocks.specs.declared.Answer.{Answer}
-use Rattle.im_blocks.specs.declared.AnswerRead.TheVariants as answer-read
-use Rattle.im_blocks.specs.Status.{answer_at, answer_t, answer_read}
+use Rattle.im_blocks.specs.Status.{answer_at, answer_t}
 use Rattle.im_blocks.proofs.BlockLaws.{answer-law}
 use Rattle.im_requests.specs.Message.{snoc}
 use Rattle.im_requests.proofs.KeepLaws.{length-snoc}
@@ -49,10 +46,10 @@ module _ (d : ℕ) (s : List ℕ) where
   member-long l at rest r e true = step-long l rest r (answer_at d s at)
   member-long l at rest r e false = tt
 
-  by-long : (l : List Answer) (at : ℕ) (rest : List Answer → ℕ → Got (List Answer)) → ((y : List Answer) (p : ℕ) → Long (length y) (rest y p)) → (h : Head) → Long (length l) (fold_by array l (step l at) rest h)
+  by-long : (l : List Answer) (at : ℕ) (rest : List Answer → ℕ → Got (List Answer)) → ((y : List Answer) (p : ℕ) → Long (length y) (rest y p)) → (h : (Option Element)) → Long (length l) (fold_by array l (step l at) rest h)
   unfolding fold_by
-  by-long l at rest r Malformed = tt
-  by-long l at rest r (Found e) = go (eqb e.kind end_of_container)
+  by-long l at rest r None = tt
+  by-long l at rest r (Some e) = go (eqb e.kind end_of_container)
     where
       go : (b : Bool) → Long (length l) (choose b (λ _. got l e.next.at) (λ _. choose (allowed_in array e.form) (λ _. bind_g (step l at e) rest) (λ _. bad)))
       go true = omega arith
@@ -63,7 +60,7 @@ module _ (d : ℕ) (s : List ℕ) where
   fold-long zero l at = tt
   fold-long (suc f) l at = by-long l at (λ y n. fold_at step f s array y n) (λ y p. fold-long f y p) (head_at s at)
 
-  fold_more : (f : ℕ) (l : List Answer) (at : ℕ) {e : Element} → head_at s at ≡ Found e → (e.kind ≡ end_of_container → ⊥) → Long (suc (length l)) (fold_at step f s array l at)
+  fold_more : (f : ℕ) (l : List Answer) (at : ℕ) {e : Element} → head_at s at ≡ Some e → (e.kind ≡ end_of_container → ⊥) → Long (suc (length l)) (fold_at step f s array l at)
   unfolding fold_at fold_by
   fold_more zero l at h q = tt
   fold_more (suc f) l at {e} h q = rw (h, ne_eqb e.kind end_of_container q) (member-long l at (λ y n. fold_at step f s array y n) (λ y p. fold-long f y p) e (allowed_in array e.form))
@@ -76,29 +73,15 @@ not-only (got (x ∷ y ∷ l) n) h = refl
 
 -- ---- for the code
 
-never : {A : Type 0} → ◌≡◌ {A = ℕ} 0 1 → A
-never e = absurd (omega arith)
-
-pub answer-lacks : (g : Got Answer) → answer_read g ≡ answer-read.BadAnswer → g ≡ bad
-answer-lacks bad e = refl
-answer-lacks (got x n) e = never (cc)
-
-pub answer-has : (g : Got Answer) {x : Answer} {n : Cursor} → answer_read g ≡ answer-read.Answer x n → g ≡ got x n.at
-answer-has bad e = never (cc)
-answer-has (got y m) {x} {n} e =
-    let f : y ≡ x = cc in
-    let k : m ≡ n.at = cc in
-    rw (f, k) refl
-
 module _ (d : ℕ) (s : List ℕ) (at : ℕ) where
   law : (p : ℕ) → map_g (λ x. x) (answer_at d s p) ≡ bind_g (tree_at d s p) (λ t n. place (answer_t t) n)
   law = plain d s (answer_at d s) answer_t (answer-law d s)
 
-  pub one_none : head_at s at ≡ Malformed → only_of (answers_at d s at) ≡ bad
+  pub one_none : head_at s at ≡ None → only_of (answers_at d s at) ≡ bad
   unfolding answers_at answers_from
   one_none h = ap only_of (each_none (λ x. x) d s (answer_at d s) answer_t law snoc array [] at h)
 
-  module _ {e : Element} (h : head_at s at ≡ Found e) where
+  module _ {e : Element} (h : head_at s at ≡ Some e) where
     pub one-ends : e.kind ≡ end_of_container → only_of (answers_at d s at) ≡ bad
     unfolding answers_at answers_from
     one-ends q = ap only_of (each-ends (λ x. x) d s (answer_at d s) answer_t law snoc array [] at h q)
@@ -118,14 +101,14 @@ module _ (d : ℕ) (s : List ℕ) (at : ℕ) where
           unfolding answers_at answers_from
           on = each_on (λ x. x) d s (answer_at d s) answer_t law snoc array [] at h q b w
 
-          pub one-cut : head_at s n ≡ Malformed → only_of (answers_at d s at) ≡ bad
+          pub one-cut : head_at s n ≡ None → only_of (answers_at d s at) ≡ bad
           unfolding answers_from
           one-cut z = ap only_of (on ∙ each_none (λ x. x) d s (answer_at d s) answer_t law snoc array (x ∷ []) n z)
 
-          pub one-there : {f : Element} → head_at s n ≡ Found f → f.kind ≡ end_of_container → only_of (answers_at d s at) ≡ got x f.next.at
+          pub one-there : {f : Element} → head_at s n ≡ Some f → f.kind ≡ end_of_container → only_of (answers_at d s at) ≡ got x f.next.at
           unfolding answers_from
           one-there z k = ap only_of (on ∙ each-ends (λ x. x) d s (answer_at d s) answer_t law snoc array (x ∷ []) n z k)
 
-          pub one_more : {f : Element} → head_at s n ≡ Found f → (f.kind ≡ end_of_container → ⊥) → only_of (answers_at d s at) ≡ bad
+          pub one_more : {f : Element} → head_at s n ≡ Some f → (f.kind ≡ end_of_container → ⊥) → only_of (answers_at d s at) ≡ bad
           unfolding answers_from
           one_more z k = ap only_of on ∙ not-only (answers_from d s (x ∷ []) n) (fold_more d s (length s) (x ∷ []) n z k)

@@ -17,7 +17,8 @@ use Rattle.im_blocks.specs.Data.{ReportOf}
 use Rattle.im_requests.specs.Message.{words_of}
 use Rattle.im_requests.proofs.KeepLaws.{words-length}
 use Rattle.im_responses.specs.Kept.{concrete_p, block_size, max_blocks, unshown, no_words, data_words, block_words, block_word}
-use Rattle.im_responses.proofs.KeptLaws.{concrete-widths, block-wide}
+use Rattle.im_responses.specs.Lists.{block-wide}
+use Rattle.im_responses.proofs.KeptLaws.{concrete-widths}
 
 -- word i of block j, in the words of all
 word-at : (l : List (ReportOf ℕ)) (j i : ℕ) (z : ReportOf ℕ) → j < length l → i < block_size → block_word (words_of block_words l) j i ≡ get_or (block_words (get_or l j z)) i 0

@@ -1,9 +1,7 @@
 -- Report Data with its blocks kept in words that are lent, three for each (RULES 7.7, 7.8).
-use Rattle.std.specs.Prelude.{ℕ, ◌+◌, ◌*◌, ◌^◌, List, [], ◌∷◌, Bool, true, false, ◌&&◌, get_or, ltb}
+use Rattle.std.specs.Prelude.{ℕ, ◌+◌, ◌*◌, ◌^◌, List, [], ◌∷◌, Bool, true, false, ◌&&◌, get_or, ltb, Some, None, Option, is_some}
 use Rattle.base_bounds.specs.Bounds.{version_limit}
 use Rattle.tlv_reader.specs.Octet.{pick}
-use Rattle.tlv_reader.specs.Decode.{Opt}
-use Rattle.tlv_reader.specs.Decode.Opt.{just, nothing}
 use Rattle.im_blocks.specs.declared.Path.{Path}
 use Rattle.im_blocks.specs.declared.Report.{Report}
 use Rattle.im_blocks.specs.declared.Report.TheVariants.{Shown, Refused}
@@ -11,6 +9,7 @@ use Rattle.im_blocks.specs.Path.{exact_p}
 use Rattle.im_blocks.specs.Data.{ReportOf, report_struct}
 use Rattle.im_requests.specs.Message.{Kept, kept_as, kept_none}
 use Rattle.im_responses.specs.declared.PartRead.{PartRead}
+use Rattle.im_responses.specs.declared.kept.Block.{Block}
 use Rattle.im_responses.specs.declared.kept.BlockWords.{BlockWords}
 use Rattle.im_responses.specs.Report.{PartOf}
 
@@ -47,6 +46,10 @@ report_words (Shown d) = data_words d.path d.version d.place
 abbrev pub block_words : ReportOf ℕ → List ℕ
 block_words x = report_words (report_struct x)
 
+-- as the code has it
+abbrev pub block_struct : ReportOf ℕ → Block
+block_struct x = record { report = report_struct x }
+
 abbrev pub word_list : BlockWords → List ℕ
 word_list w = w.first ∷ w.second ∷ w.third ∷ []
 
@@ -61,14 +64,18 @@ pub record PartKept : Type 0 where
   pub kept : Kept
 
 -- a part that is refused leaves nothing
-abbrev pub part_kept : List ℕ → Opt (PartOf ℕ) → PartKept
-part_kept words nothing = record { good = false; more = 0; kept = kept_none (max_blocks * block_size) }
-part_kept words (just p) = record { good = true; more = p.more; kept = kept_as max_blocks block_words words p.blocks }
+abbrev pub part_kept : List ℕ → Option (PartOf ℕ) → PartKept
+part_kept words None = record { good = false; more = 0; kept = kept_none (max_blocks * block_size) }
+part_kept words (Some p) = record { good = true; more = p.more; kept = kept_as max_blocks block_words words p.blocks }
 
 -- as the code has it
-abbrev pub part_with : PartRead → List ℕ → PartKept
-part_with r words = record { good = r.good; more = r.more; kept = record { count = r.blocks; words = words } }
+abbrev pub part_counts : Option PartRead → PartRead
+part_counts None = record { more = 0; blocks = 0 }
+part_counts (Some r) = r
 
--- of a part that was made or refused, and the words that its blocks were kept in
-unfoldable pub kept_by : PartRead → List ℕ → PartKept
-kept_by p words = pick p.good (record { good = true; more = p.more; kept = record { count = p.blocks; words = words } }) (part_kept [] nothing)
+abbrev pub part_with : Option PartRead → List ℕ → PartKept
+part_with r words = record { good = is_some r; more = (part_counts r).more; kept = record { count = (part_counts r).blocks; words = words } }
+
+-- whatever stands in the words of one that is refused
+abbrev pub part_left : Option PartRead → List ℕ → PartKept
+part_left r words = pick (is_some r) (part_with r words) (part_kept [] None)

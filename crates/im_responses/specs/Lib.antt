@@ -1,3 +1,4 @@
 pub mod Report
 pub mod Kept
 pub mod Answered
+pub mod Lists

@@ -1,11 +1,10 @@
 -- Report Data (chapter 10, 10.6.3; RULES 4).
-use Rattle.std.specs.Prelude.{ℕ, ◌-◌, List, [], ◌∷◌, map, Bool, true, false, length, get_or, eqb}
+use Rattle.std.specs.Prelude.{ℕ, ◌-◌, List, [], ◌∷◌, map, Bool, true, false, length, get_or, eqb, Some, None, Option}
 use Rattle.base_bounds.specs.Bounds.{depth_limit}
 use Rattle.tlv_reader.specs.Octet.{pick, array}
 use Rattle.tlv_reader.specs.Tree.{Tree, Trees}
 use Rattle.tlv_reader.specs.Walk.{Got, fold_at}
-use Rattle.tlv_reader.specs.Decode.{Opt, bind_o}
-use Rattle.tlv_reader.specs.Decode.Opt.{just, nothing}
+use Rattle.tlv_reader.specs.Decode.{bind_o}
 use Rattle.im_members.specs.Fields.{Slot}
 use Rattle.im_members.specs.Fields.Slot.{absent}
 use Rattle.im_members.specs.Pass.{Pass, number_by, flag_by}
@@ -30,45 +29,45 @@ abbrev pub part_tags : List Bool
 part_tags = true ∷ true ∷ false ∷ true ∷ true ∷ false ∷ false ∷ false ∷ false ∷ true ∷ []
 
 -- the revision is required; an absent array is empty; the other listed fields may be absent, and are of the right type if not
-abbrev pub part_of : {D : Type 0} → ℕ → ℕ → ℕ → ℕ → Opt (List (ReportOf D)) → Opt (PartOf D)
+abbrev pub part_of : {D : Type 0} → ℕ → ℕ → ℕ → ℕ → Option (List (ReportOf D)) → Option (PartOf D)
 part_of subscription more suppress revision bs =
-    pick (eqb subscription WRONG) nothing
-    (pick (eqb more WRONG) nothing
-    (pick (eqb suppress WRONG) nothing
-    (pick (given revision) (bind_o bs (λ l. just (record { more = more; blocks = l }))) nothing)))
+    pick (eqb subscription WRONG) None
+    (pick (eqb more WRONG) None
+    (pick (eqb suppress WRONG) None
+    (pick (given revision) (bind_o bs (λ l. Some (record { more = more; blocks = l }))) None)))
 
 -- IN BYTES: data is the place where it stands
-unfoldable pub part_from : List ℕ → List ℕ → Opt (PartOf ℕ)
+unfoldable pub part_from : List ℕ → List ℕ → Option (PartOf ℕ)
 part_from s seen =
     part_of (number_in 4294967295 false s (get_or seen 0 0)) (flag_in s (get_or seen 3 0)) (flag_in s (get_or seen 4 0)) (number_in 255 false s (get_or seen 9 0)) (optional_in [] (list_at report_at (depth_limit - 1) s) (get_or seen 1 0))
 
-unfoldable pub part_in : List ℕ → Opt (PartOf ℕ)
+unfoldable pub part_in : List ℕ → Option (PartOf ℕ)
 part_in s = whole_in part_tags (part_from s) s
 
-abbrev pub part_read : Opt (PartOf ℕ) → PartRead
-part_read nothing = record { good = false; more = 0; blocks = 0 }
-part_read (just p) = record { good = true; more = p.more; blocks = length p.blocks }
+abbrev pub part_read : Option (PartOf ℕ) → Option PartRead
+part_read None = None
+part_read (Some p) = Some (record { more = p.more; blocks = length p.blocks })
 
 -- by a pass over the message's members that has ended, with so many blocks
-abbrev pub part_made : ℕ → ℕ → ℕ → ℕ → ℕ → PartRead
+abbrev pub part_made : ℕ → ℕ → ℕ → ℕ → ℕ → Option PartRead
 part_made subscription more suppress revision blocks =
-    pick (eqb subscription WRONG) (part_read nothing)
-    (pick (eqb more WRONG) (part_read nothing)
-    (pick (eqb suppress WRONG) (part_read nothing)
-    (pick (given revision) (record { good = true; more = more; blocks = blocks }) (part_read nothing))))
+    pick (eqb subscription WRONG) None
+    (pick (eqb more WRONG) None
+    (pick (eqb suppress WRONG) None
+    (pick (given revision) (Some (record { more = more; blocks = blocks })) None)))
 
-unfoldable pub part_by : ℕ → Pass → ℕ → PartRead
+unfoldable pub part_by : ℕ → Pass → ℕ → Option PartRead
 part_by len m blocks =
     pick (whole_pass len m)
     (part_made (number_by 4294967295 false (get_or m.codes 0 0)) (flag_by (get_or m.codes 3 0)) (flag_by (get_or m.codes 4 0)) (number_by 255 false (get_or m.codes 9 0)) blocks)
-    (part_read nothing)
+    None
 
 -- IN TREES
-unfoldable pub part_slots : List Slot → Opt (PartOf Tree)
+unfoldable pub part_slots : List Slot → Option (PartOf Tree)
 part_slots xs =
     part_of (number_t 4294967295 false (get_or xs 0 absent)) (flag_t (get_or xs 3 absent)) (flag_t (get_or xs 4 absent)) (number_t 255 false (get_or xs 9 absent)) (optional_t [] (list_t report_t) (get_or xs 1 absent))
 
-unfoldable pub part_t : Trees → Opt (PartOf Tree)
+unfoldable pub part_t : Trees → Option (PartOf Tree)
 part_t ts = whole_t part_tags part_slots ts
 
 -- a part read from bytes, each place replaced by the tree that stands there

@@ -1,15 +1,15 @@
 // Report Data with its blocks kept in words that are lent, three for each (RULES 7.7, 7.8).
-ghost use Rattle.std.specs.Prelude.{◌≡◌};
-ghost use Rattle.im_blocks.specs.Data.{report_at};
-ghost use Rattle.im_requests.specs.Message.{list_on, list_with, list_read};
+ghost use Rattle.std.specs.Prelude.{◌≡◌, ℕ};
+ghost use Rattle.im_blocks.specs.Data.{ReportOf, report_at, report_on};
+ghost use Rattle.im_blocks.proofs.OnLaws.{report-reads};
 ghost use Rattle.im_responses.specs.Report.{blocks_at, part_in};
-ghost use Rattle.im_responses.specs.Kept.{concrete_p, block_size, max_blocks, report_words, block_words, word_list, part_kept, part_with, kept_by};
+ghost use Rattle.im_responses.specs.Kept.{concrete_p, block_size, max_blocks, report_words, block_struct, word_list, part_kept, part_with, part_left};
+ghost use Rattle.im_responses.specs.Lists.{blocks-listed, block-wide};
 
-use super::{NO_PART, PartRead, REPORT, part_of};
+use super::{PartRead, REPORT, part_of};
 use base_bounds::VERSIONS;
-use im_blocks::{Path, Report, ReportRead};
-use im_members::MemberAt;
-use im_requests::{Listed, NO_LIST};
+use im_blocks::{Path, Report};
+use im_requests::list::{Member, list_of};
 use tlv_reader::{Cursor, Element};
 
 // How many blocks are kept. A payload holds no more: each takes ten bytes.
@@ -72,95 +72,78 @@ fn words_of(x: Report) -> BlockWords
     }
 }
 
-// The blocks of an array from one of its members on: all are checked and counted, the first are kept.
-pub fn kept_from(s: &[u8], c: Cursor, left: usize, kept: &mut [u64; BLOCK_WORDS]) -> Listed
-    ensures { list_with result kept.new ≡ list_read max_blocks block_size block_words kept.old (blocks_at left s.now c.at) }
-{
-    let mut count: usize = 0;
-    let mut at = c.at;
-    loop {
-        let item = im_members::item_at(s, Cursor { at }, tlv_reader::ARRAY);
-        match item {
-            MemberAt::BadItem => {
-                *kept = [0u64; BLOCK_WORDS];
-                return NO_LIST;
-            }
-            MemberAt::Ended(next) => {
-                return Listed {
-                    good: true,
-                    count,
-                    next,
-                };
-            }
-            MemberAt::Member(e) => {
-                let ReportRead::Report(x, next) = im_blocks::report_of(s, e, left) else {
-                    *kept = [0u64; BLOCK_WORDS];
-                    return NO_LIST;
-                };
-                let w = words_of(x);
-                im_requests::keep_three(kept, BLOCKS, count, w.first, w.second, w.third);
-                count += 1;
-                at = next.at;
-            }
-        }
+// A block as it is read.
+#[derive(Clone, Copy)]
+pub struct Block {
+    pub report: Report,
+}
+
+impl Member for Block {
+    ghost Meant = { ReportOf ℕ };
+
+    ghost held = { block_struct };
+
+    ghost limit = { max_blocks };
+
+    ghost size = { block_size };
+
+    ghost words = { λ b. report_words b.report };
+
+    ghost at = { report_at };
+
+    ghost on = { report_on };
+
+    ghost list = { blocks_at };
+
+    ghost reads = { report-reads };
+
+    ghost listed = { blocks-listed };
+
+    ghost wide = { block-wide };
+
+    fn read(s: &[u8], e: Element, left: usize) -> Option<(Block, Cursor)> {
+        let (report, next) = im_blocks::report_of(s, e, left)?;
+        Some((Block { report }, next))
+    }
+
+    fn keep(self, kept: &mut [u64], count: usize) {
+        let w = words_of(self.report);
+        im_requests::keep_three(kept, BLOCKS, count, w.first, w.second, w.third);
     }
 }
 
-// The blocks of the array whose head was read.
-fn kept_of(s: &[u8], e: Element, left: usize, kept: &mut [u64; BLOCK_WORDS]) -> Listed
-    ensures { list_with result kept.new ≡ list_read max_blocks block_size block_words kept.old (list_on report_at left s.now e) }
-{
-    if e.kind != tlv_reader::ARRAY {
-        *kept = [0u64; BLOCK_WORDS];
-        return NO_LIST;
-    }
-    if left == 0 {
-        *kept = [0u64; BLOCK_WORDS];
-        return NO_LIST;
-    }
-    let c = e.next;
-    kept_from(s, c, left - 1, kept)
-}
-
-// The part that was made, with its blocks in words. One that was refused leaves nothing in them.
-fn part_by(p: PartRead, kept: &mut [u64; BLOCK_WORDS]) -> PartRead
-    ensures { part_with result kept.new ≡ kept_by p kept.old }
-{
-    if !p.good {
-        *kept = [0u64; BLOCK_WORDS];
-        return NO_PART;
-    }
-    p
-}
-
-// ReportDataMessage, its blocks kept.
-pub fn report_kept(s: &[u8], kept: &mut [u64; BLOCK_WORDS]) -> PartRead
-    ensures { part_with result kept.new ≡ part_kept kept.old (part_in s.now) }
+// Of a part that is refused nothing is said of what stands in the words of its blocks.
+fn report_blocks(s: &[u8], kept: &mut [u64; BLOCK_WORDS]) -> Option<PartRead>
+    ensures { part_left result kept.new ≡ part_kept kept.old (part_in s.now) }
 {
     let listed = REPORT;
     let stops = im_members::SECOND;
     let mut at = [0usize; 10];
     let mut codes = [0u64; 10];
-    let m = im_requests::begin_message(s, &listed, &stops, &mut at, &mut codes);
+    let m = im_requests::begin_message(s, &listed, &stops, &mut at, &mut codes)?;
     if 10 <= m.slot {
-        let p = part_of(s.len(), m, &codes, 0);
-        return part_by(p, kept);
+        return part_of(s.len(), m, &codes, 0);
     }
-    let inner = m.head;
-    let f = kept_of(s, inner, base_bounds::MAX_DEPTH - 1, kept);
-    if !f.good {
-        return NO_PART;
-    }
-    let after = f.next;
+    let f = list_of::<Block>(s, m.head, base_bounds::MAX_DEPTH - 1, kept)?;
     let z = im_members::finish(
         s,
-        after,
+        f.next,
         base_bounds::MAX_DEPTH - 1,
         tlv_reader::STRUCTURE,
         &listed,
         &mut at,
         &mut codes,
-    );
-    let p = part_of(s.len(), z, &codes, f.count);
-    part_by(p, kept)
+    )?;
+    part_of(s.len(), z, &codes, f.count)
+}
+
+// ReportDataMessage, its blocks kept. One that is refused leaves nothing in their words.
+pub fn report_kept(s: &[u8], kept: &mut [u64; BLOCK_WORDS]) -> Option<PartRead>
+    ensures { part_with result kept.new ≡ part_kept kept.old (part_in s.now) }
+{
+    let p = report_blocks(s, kept);
+    if p.is_none() {
+        *kept = [0u64; BLOCK_WORDS];
+    }
+    p
 }

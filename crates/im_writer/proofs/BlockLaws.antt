@@ -1,4 +1,5 @@
 -- The blocks that we write: they are ours to write, and mean what was meant.
+use Rattle.std.specs.Prelude.{Some}
 use mathlib.Core.Path.{◌≡◌, refl}
 use Prim.Native.Nat.{ℕ, ◌^◌, ◌<◌}
 use native.Mathlib.Omega.{arith}
@@ -10,7 +11,6 @@ use Rattle.tlv_reader.specs.Tree.Tree.{container}
 use Rattle.tlv_reader.specs.Tree.Trees.{more}
 use Rattle.tlv_reader.specs.Value.{Datum}
 use Rattle.tlv_reader.specs.Decode.{fold_t}
-use Rattle.tlv_reader.specs.Decode.Opt.{just}
 use Rattle.tlv_writer.specs.Meaning.{Writable}
 use Rattle.im_members.specs.Fields.{place_of, put_t, field_m, fields_t, inside_t}
 use Rattle.im_members.specs.Scalar.{ABSENT, WRONG, number_t, flag_t, wide_t}
@@ -29,7 +29,7 @@ module _ (code : ℕ) (fits : code < 2 ^ 8) where
   unfolding Ours OurTag Writable status_tree stands
   ours-status tag h = (h, (omega arith, (omega arith, (refl, ((omega arith, omega arith), tt)))))
 
-  pub status-means : (tag : ℕ) → status_t (status_tree tag code) ≡ just (plain_status code)
+  pub status-means : (tag : ℕ) → status_t (status_tree tag code) ≡ Some (plain_status code)
   unfolding status_t status_of sound_status inside_t fields_t fold_t field_m put_t place_of number_t status_tree
   status-means tag = rw (le-ltb 255 code (omega arith), lt-ltb code ABSENT (omega arith)) refl
 
@@ -39,7 +39,7 @@ module _ (e c a : ℕ) (fe : e < 2 ^ 16) (fc : c < 2 ^ 32) (fa : a < 2 ^ 32) whe
   ours-path tag h =
       (h, (omega arith, (omega arith, (refl, ((omega arith, omega arith), (refl, ((omega arith, omega arith), (refl, ((omega arith, omega arith), tt)))))))))
 
-  pub path-means : (tag : ℕ) → path_t (path_tree tag e c a) ≡ just (exact_path e c a)
+  pub path-means : (tag : ℕ) → path_t (path_tree tag e c a) ≡ Some (exact_path e c a)
   unfolding path_t path_of sound_path inside_t fields_t fold_t field_m put_t place_of number_t flag_t wide_t path_tree
   path-means tag =
       rw (le-ltb 65535 e (omega arith), le-ltb 4294967295 c (omega arith), le-ltb 4294967295 a (omega arith), ne_eqb e WRONG (λ q. omega arith), ne_eqb c WRONG (λ q. omega arith), ne_eqb a WRONG (λ q. omega arith))
@@ -51,7 +51,7 @@ module _ (e c a : ℕ) (fe : e < 2 ^ 16) (fc : c < 2 ^ 32) (fa : a < 2 ^ 32) whe
     unfolding Ours answer_members stands path_tree status_tree
     ours_answer = (refl, (ours-path 0 (omega arith), (refl, (ours-status code fits 1 (omega arith), tt))))
 
-    pub answer-means : (tag : Tag) → answer_t (container tag structure (answer_members e c a code)) ≡ just (plain_answer e c a code)
+    pub answer-means : (tag : Tag) → answer_t (container tag structure (answer_members e c a code)) ≡ Some (plain_answer e c a code)
     unfolding answer_t answer_of inside_t fields_t fold_t field_m put_t place_of required_t answer_members path_tree status_tree
     answer-means tag = rw (path-means 0, status-means code fits 1) refl
 
@@ -67,7 +67,7 @@ module _ (e c a : ℕ) (fe : e < 2 ^ 16) (fc : c < 2 ^ 32) (fa : a < 2 ^ 32) whe
       shallow = omega arith;
     }
 
-    pub status-block-means : report_t (status_block_tree e c a code) ≡ just (refused (plain_answer e c a code))
+    pub status-block-means : report_t (status_block_tree e c a code) ≡ Some (refused (plain_answer e c a code))
     unfolding report_t report_of inside_t fields_t fold_t field_m put_t place_of status_block_tree
     status-block-means = rw (answer-means (context 0)) refl
 
@@ -77,7 +77,7 @@ module _ (e c a : ℕ) (fe : e < 2 ^ 16) (fc : c < 2 ^ 32) (fa : a < 2 ^ 32) whe
     unfolding Ours OurTag data_members stands path_tree
     ours-data w = (refl, (ours-path 1 (omega arith), (refl, ((omega arith, w), tt))))
 
-    pub data-means : (tag : Tag) → data_t (container tag structure (data_members e c a d)) ≡ just (exact_data ABSENT e c a d)
+    pub data-means : (tag : Tag) → data_t (container tag structure (data_members e c a d)) ≡ Some (exact_data ABSENT e c a d)
     unfolding data_t data_of inside_t fields_t fold_t field_m put_t place_of required_t number_t data_members path_tree
     data-means tag = rw (path-means 1) refl
 
@@ -86,7 +86,7 @@ module _ (e c a : ℕ) (fe : e < 2 ^ 16) (fc : c < 2 ^ 32) (fa : a < 2 ^ 32) whe
       unfolding Ours OurTag Writable stands
       ours-versioned w = (refl, ((omega arith, omega arith), ours-data w))
 
-      pub versioned-means : (tag : Tag) → data_t (container tag structure (more (number 0 version) (data_members e c a d))) ≡ just (exact_data version e c a d)
+      pub versioned-means : (tag : Tag) → data_t (container tag structure (more (number 0 version) (data_members e c a d))) ≡ Some (exact_data version e c a d)
       unfolding data_t data_of inside_t fields_t fold_t field_m put_t place_of required_t number_t data_members path_tree
       versioned-means tag =
           rw (path-means 1, le-ltb 4294967295 version (omega arith), ne_eqb version WRONG (λ q. omega arith)) refl
@@ -99,7 +99,7 @@ module _ (e c a : ℕ) (fe : e < 2 ^ 16) (fc : c < 2 ^ 32) (fa : a < 2 ^ 32) whe
         shallow = omega arith;
       }
 
-      pub data-block-means : report_t (data_block_tree version e c a d) ≡ just (shown (exact_data version e c a d))
+      pub data-block-means : report_t (data_block_tree version e c a d) ≡ Some (shown (exact_data version e c a d))
       unfolding report_t report_of inside_t fields_t fold_t field_m put_t place_of data_block_tree
       data-block-means = rw (versioned-means (context 1)) refl
 
@@ -109,7 +109,7 @@ unfolding block_tree Fits
 listed-block (value version e c a d) (fv, (p, w)) = listed-data-block e c a p.endpoint-fits p.cluster-fits p.attribute-fits d version fv w
 listed-block (status e c a code) (p, fits) = listed-status-block e c a p.endpoint-fits p.cluster-fits p.attribute-fits code fits
 
-pub block-means : (b : Block) → Fits b → report_t (block_tree b) ≡ just (block_means b)
+pub block-means : (b : Block) → Fits b → report_t (block_tree b) ≡ Some (block_means b)
 unfolding block_tree Fits block_means
 block-means (value version e c a d) (fv, (p, w)) = data-block-means e c a p.endpoint-fits p.cluster-fits p.attribute-fits d version fv
 block-means (status e c a code) (p, fits) = status-block-means e c a p.endpoint-fits p.cluster-fits p.attribute-fits code fits

@@ -76,12 +76,6 @@ pub fn privilege_ok(privilege: u8) -> bool
     privilege <= ADMINISTER
 }
 
-fn wide(x: u8) -> u64
-    ensures { result ≡ x }
-{
-    x as u64
-}
-
 // Whether a privilege is granted at the cluster whose row is at i: false where the schema can have no such row.
 pub fn is_granted(level: &[u8; CLUSTERS], i: usize, privilege: u64) -> bool
     ensures { result ≡ is_granted (record { level = level.entry.now }) i privilege }
@@ -89,5 +83,5 @@ pub fn is_granted(level: &[u8; CLUSTERS], i: usize, privilege: u64) -> bool
     if CLUSTERS <= i {
         return false;
     }
-    privilege <= wide(level[i])
+    privilege <= u64::from(level[i])
 }

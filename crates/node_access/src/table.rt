@@ -36,12 +36,10 @@ fn granted_by(g: Grants, e: AccessEntry, subject: u64, w: &[u64; WORDS]) -> Gran
 {
     let n = node_schema::cluster_count(w);
     let mut level = g.level;
-    let mut i = 0;
-    while i < n {
+    for i in 0..n {
         let endpoint = node_schema::cluster_endpoint(w, i);
         let cluster = node_schema::cluster_id(w, i);
         level[i] = raised(level[i], e, subject, endpoint, cluster);
-        i += 1;
     }
     Grants { level }
 }
@@ -68,10 +66,9 @@ fn with_entry(a: Access, e: AccessEntry, subject: u64, w: &[u64; WORDS]) -> Acce
 pub fn search(table: &[AccessEntry], count: usize, subject: u64, w: &[u64; WORDS]) -> Access
     ensures { result ≡ searched count table.now subject w.now }
 {
+    let n = used(count, table.len());
     let mut access = begin(count);
-    let mut i = used(count, table.len());
-    while 0 < i {
-        i = i - 1;
+    for i in (0..n).rev() {
         access = with_entry(access, table[i], subject, w);
     }
     access

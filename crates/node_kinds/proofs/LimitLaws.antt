@@ -126,15 +126,6 @@ text-verdict s a n =
 
 -- ---- null
 
-pub not_null : (v : Value) → (v ≡ Parsed.Null → ⊥) → false ≡ null_of v
-not_null Parsed.Null h = absurd (h refl)
-not_null (Parsed.Boolean b) h = refl
-not_null (Parsed.Unsigned n) h = refl
-not_null (Parsed.Signed z) h = refl
-not_null (Parsed.Float n) h = refl
-not_null (Parsed.Text a n) h = refl
-not_null Parsed.Other h = refl
-
 -- null is judged by whether it is allowed, whatever the kind
 pub null-verdict : (s : List ℕ) (k : Kind) (nullable : Bool) (v : Value) → null_of v ≡ true → judged_in s k nullable v ≡ limited nullable
 unfolding judged_in

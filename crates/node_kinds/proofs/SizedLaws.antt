@@ -1,4 +1,5 @@
 -- A value that is read from a message is within the range of its type.
+use Rattle.std.specs.Prelude.{Some, None, Option}
 use mathlib.Core.Path.{◌≡◌, refl}
 use mathlib.Core.Bool.{Bool, true, false}
 use mathlib.Core.List.{List}
@@ -8,8 +9,6 @@ use borrow.Author.Tests.{leb-true, leb-false, ltb-true}
 use lib.Dec.{leb, ltb, eqb}
 use lib.Signed.{mag}
 use Rattle.tlv_reader.specs.declared.Element.{Element}
-use Rattle.tlv_reader.specs.declared.Head.{Head}
-use Rattle.tlv_reader.specs.declared.Head.TheVariants.{Malformed, Found}
 use Rattle.tlv_reader.specs.declared.Value.TheVariants as value
 use Rattle.tlv_reader.specs.Octet.{number_width}
 use Rattle.tlv_reader.specs.Tree.{complement}
@@ -54,6 +53,6 @@ pub value-in-sized : (s : List ℕ) (at : ℕ) → Sized (value_in s at)
 unfolding value_in
 value-in-sized s at = go (head_at s at)
   where
-    go : (h : Head) → Sized (headed value.Other value_of h)
-    go Malformed = tt
-    go (Found e) = value-sized e
+    go : (h : (Option Element)) → Sized (headed value.Other value_of h)
+    go None = tt
+    go (Some e) = value-sized e

@@ -7,6 +7,7 @@ use native.Mathlib.Omega.{arith}
 use borrow.Author.Tests.{eq-eqb, eqb-true, lt-ltb, ltb-true, leb-true}
 use lib.Dec.{leb, ltb, eqb}
 use lib.ListN.{take, drop}
+use lib.Pointwise.{pointwise}
 use mir.Syntax.{w64}
 use mir.Val.{Fits}
 use mir.ValLaws.{to_z-of_z, of_z-to_z}
@@ -42,12 +43,13 @@ equal-eq (x ∷ a) (y ∷ b) h = go (eqb x y) refl (equal-eq a b) h
     go true e rest k = cc (eqb-true x y e, rest k)
     go false e rest k = cc
 
-pub unequal : (a b : List ℕ) → (a ≡ b → ⊥) → equal a b ≡ false
-unequal a b h = go (equal a b) refl
-  where
-    go : (t : Bool) → equal a b ≡ t → equal a b ≡ false
-    go true e = absurd (h (equal-eq a b e))
-    go false e = e
+-- it is what `==` says of two slices
+pub equal-pointwise : (a b : List ℕ) → pointwise eqb a b ≡ equal a b
+unfolding equal
+equal-pointwise [] [] = refl
+equal-pointwise [] (y ∷ b) = refl
+equal-pointwise (x ∷ a) [] = refl
+equal-pointwise (x ∷ a) (y ∷ b) = rw (equal-pointwise a b)
 
 -- ---- Bool tests
 

@@ -8,13 +8,16 @@ use base_bounds::TEXT_MAX;
 use tlv_reader::Value;
 
 // The status code of RULES 5.14.
-pub fn status_code(v: Verdict) -> u8
-    ensures { result ≡ status_code v }
-{
-    match v {
-        Verdict::Success => 0x00,
-        Verdict::ConstraintError => 0x87,
-        Verdict::InvalidDataType => 0x8D,
+impl From<Verdict> for u8 {
+    ghost from_gives = { λ verdict code. code ≡ status_code verdict };
+
+    #[tactic(auto, unfolding(crate::specs::Limits::status_code))]
+    fn from(verdict: Verdict) -> u8 {
+        match verdict {
+            Verdict::Success => 0x00,
+            Verdict::ConstraintError => 0x87,
+            Verdict::InvalidDataType => 0x8D,
+        }
     }
 }
 
@@ -43,7 +46,7 @@ fn signed_within(low: i64, z: i64, high: i64) -> bool
 pub fn is_null(v: Value) -> bool
     ensures { result ≡ null_of v }
 {
-    if let Value::Null = v { true } else { false }
+    matches!(v, Value::Null)
 }
 
 // A value that is not null, against each kind: another type is refused before any limit. The first four look at no message, so

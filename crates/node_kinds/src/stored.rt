@@ -67,17 +67,7 @@ pub fn value_of(kind: Kind, word: u64, null: bool, start: usize) -> Value
 pub fn same_bytes(a: &[u8], b: &[u8]) -> bool
     ensures { result ≡ equal a.now b.now }
 {
-    if a.len() != b.len() {
-        return false;
-    }
-    let mut i = 0;
-    while i < a.len() {
-        if a[i] != b[i] {
-            return false;
-        }
-        i += 1;
-    }
-    true
+    a == b
 }
 
 pub fn next_version(v: u32) -> u32

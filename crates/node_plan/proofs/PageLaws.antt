@@ -1,12 +1,12 @@
 -- Laws of the two pages: a stored text is shown, and every other shown text stays as it was.
 use mathlib.Core.Path.{◌≡◌, sym, ap, ◌∙◌}
-use mathlib.Core.Bool.{true, false}
+use mathlib.Core.Bool.{false}
 use mathlib.Core.List.{List, [], ◌++◌}
-use Prim.Native.Nat.{ℕ, suc, ◌+◌, ◌-◌, ◌≤◌, ◌<◌, min}
+use Prim.Native.Nat.{ℕ, ◌+◌, ◌-◌, ◌≤◌, min}
 use native.Mathlib.Omega.{arith}
 use borrow.Author.Tests.{ltb-true, ltb-false, leb-true, leb-false, eq-eqb, ne_eqb}
 use lib.Dec.{ltb, leb, eqb}
-use lib.ListN.{length, take, drop, set, replicate, length-take, length-drop, length-append, length-replicate}
+use lib.ListN.{length, take, drop, replicate, length-take, length-drop, length-append, length-replicate}
 use lib.Seq.{take_all, take-nil, drop-nil, drop-length, drop-drop}
 use Rattle.base_octets.specs.Store.{store}
 use Rattle.base_octets.proofs.StoreLaws.{store-back, store-store, part-after, part-before}
@@ -40,18 +40,6 @@ part-whole n start l =
 
 pub padded-length : (text : List ℕ) → length text ≤ text_size → length (padded text) ≡ text_size
 padded-length text l = length-append text (replicate (text_size - length text) 0) ∙ rw (length-replicate {A = ℕ} (text_size - length text) 0) (omega arith)
-
--- a turn of the loop that clears
-pub clear-turn : (b : List ℕ) (i to : ℕ) → i < to → store b i (replicate (to - i) 0) ≡ store (set b i 0) (i + 1) (replicate (to - (i + 1)) 0)
-unfolding store
-clear-turn b i to l =
-    let e : to - i ≡ suc (to - (i + 1)) = omega arith in
-    let s : suc i ≡ i + 1 = omega arith in
-    rw (e, sym s)
-
-pub clear-done : (b : List ℕ) (i to : ℕ) → to ≤ i → store b i (replicate (to - i) 0) ≡ b
-unfolding store
-clear-done b i to l = let e : to - i ≡ 0 = omega arith in rw e
 
 -- bytes and zeros behind them, as the code stores them
 pub padded-stored : (edits : List ℕ) (rank : ℕ) (text : List ℕ) {at end : ℕ} {one two : List ℕ} → at ≡ place rank → one ≡ store edits at text → end ≡ at + length text → two ≡ store one end (replicate (at + text_size - end) 0) → two ≡ store edits (place rank) (padded text)

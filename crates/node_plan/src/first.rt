@@ -88,12 +88,10 @@ pub fn numbers_ok(w: &[u64; WORDS]) -> bool
     ensures { result ≡ numbers_right w.now }
 {
     let n = node_schema::attribute_count(w);
-    let mut i = 0;
-    while i < n {
+    for i in 0..n {
         if !first_ok(w, i) {
             return false;
         }
-        i += 1;
     }
     true
 }
@@ -103,14 +101,12 @@ pub fn texts_ok(w: &[u64; WORDS], defaults: &[u8]) -> bool
     ensures { result ≡ texts_right w.now defaults.now }
 {
     let n = node_schema::texts::text_count(w);
-    let mut rank = 0;
-    while rank < n {
+    for rank in 0..n {
         let start = node_schema::factory_start(w, rank);
         let len = node_schema::factory_length(w, rank);
         if !factory_ok(defaults, start, len) {
             return false;
         }
-        rank += 1;
     }
     true
 }

@@ -55,11 +55,7 @@ fn clear(b: &mut [u8], from: usize, to: usize)
     requires { (from ≤ to) × (to ≤ length b.old) }
     ensures { b.new ≡ store b.old from (replicate (to - from) 0) }
 {
-    let mut i = from;
-    while i < to {
-        b[i] = 0;
-        i += 1;
-    }
+    b[from..to].fill(0);
 }
 
 // Stores a text in its place: its bytes, and zeros behind them, so that nothing is left of a longer one; the rest of the page stays as it was.

@@ -1,5 +1,5 @@
 -- The schema of specimen S1 (RULES 8.1), computed: endpoint 1, cluster 6 at version 5, attribute 0, a boolean.
-use Rattle.std.proofs.Common.{◌≡◌, ℕ, ◌+◌, ◌*◌, ◌^◌, true, false, List, [], ◌∷◌, ◌++◌, refl}
+use Rattle.std.proofs.Common.{◌≡◌, ℕ, ◌+◌, ◌*◌, ◌^◌, true, false, List, [], ◌∷◌, ◌++◌, refl, Some, None}
 use Rattle.base_bounds.specs.Bounds.{cluster_limit, attribute_limit}
 use Rattle.node_schema.specs.Layout.{header_size}
 use Rattle.node_schema.specs.Rows.{column, rows_from}
@@ -7,7 +7,6 @@ use Rattle.node_schema.specs.Check.{every, count, rises, changes, well_formed}
 use Rattle.node_schema.specs.Rules.{path, path_at}
 use Rattle.node_schema.specs.Search.{first}
 use Rattle.node_schema.specs.Find.{find_path, has_endpoint}
-use Rattle.node_schema.specs.declared.Found.TheVariants.{At, Nothing}
 
 -- read by View, written by Manage
 abbrev s1 : List ℕ
@@ -24,11 +23,11 @@ s1-path : path_at s1 0 ≡ path 1 6 0
 unfolding rows_from
 s1-path = refl
 
-s1-found : find_path s1 1 6 0 ≡ At 0
+s1-found : find_path s1 1 6 0 ≡ Some 0
 unfolding first
 s1-found = refl
 
-s1-no-attribute : find_path s1 1 6 9 ≡ Nothing
+s1-no-attribute : find_path s1 1 6 9 ≡ None
 unfolding first
 s1-no-attribute = refl
 

@@ -1,5 +1,5 @@
 -- What the rules give: in a well-formed schema paths rise strictly, each path is one attribute's, and a cluster's attributes stand in a row.
-use Rattle.std.proofs.Common.{◌≡◌, ℕ, ◌<◌, ltb, ◌⊎◌, List, subst, inl, inr, ⊎_elim, arith, ltb-false, ltb-true}
+use Rattle.std.proofs.Common.{◌≡◌, ℕ, ◌<◌, ltb, List, subst, inl, inr, ⊎_elim, arith, ltb-false, ltb-true}
 use Rattle.node_schema.specs.Rows.{cluster_row, attribute_row, count_of_clusters, count_of_attributes, clusters}
 use Rattle.node_schema.specs.Rules.{AttributePath, path_of, path_at, PathBefore, Rules}
 use Rattle.node_schema.proofs.BoolLaws.{by-test}

@@ -1,5 +1,5 @@
 -- Words that rise, judged all at once by the OR of the words and the AND of the differences between them.
-use Rattle.std.proofs.Common.{◌≡◌, ℕ, zero, suc, ◌+◌, ◌-◌, ◌*◌, ◌%◌, ◌^◌, ◌<◌, ◌≤◌, Bool, true, false, ◌&&◌, ltb, leb, List, sym, refl, ap, ◌∙◌, ap₂, arith, below_more, ltb-false, ltb-true, lt-ltb, le-leb, leb-true}
+use Rattle.std.proofs.Common.{◌≡◌, ℕ, zero, suc, ◌+◌, ◌-◌, ◌*◌, ◌%◌, ◌^◌, ◌<◌, ◌≤◌, Bool, true, ◌&&◌, ltb, leb, List, sym, ap, ◌∙◌, ap₂, arith, below_more, ltb-false, ltb-true, lt-ltb, le-leb, leb-true}
 use borrow.Author.Tests.{lt-leb}
 use lib.Bits.{bit_and, bit_or, or_lt, or_comm, or_add_and, and_le_l, and_le_r, and_block}
 use Rattle.node_schema.specs.Rows.{word}

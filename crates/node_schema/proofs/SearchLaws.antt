@@ -1,12 +1,11 @@
 -- One law for every search: how `first` begins, hits, misses and ends, and what its answer says.
-use Rattle.std.proofs.Common.{◌≡◌, ℕ, zero, suc, ◌+◌, ◌-◌, ◌<◌, ◌≤◌, Bool, true, false, eqb, sym, refl, ap, ◌∙◌, arith, eqb-true}
+use Rattle.std.proofs.Common.{◌≡◌, ℕ, zero, suc, ◌+◌, ◌-◌, ◌<◌, ◌≤◌, Bool, true, false, eqb, sym, refl, ap, ◌∙◌, arith, eqb-true, Some, None}
 use borrow.Author.Tests.{eqb-false}
-use Rattle.node_schema.specs.declared.Found.TheVariants.{At, Nothing}
 use Rattle.node_schema.specs.Search.{first, pick}
 use Rattle.node_schema.proofs.BoolLaws.{by-test}
 
 module _ (p : ℕ → Bool) (n : ℕ) where
-  step : (i : ℕ) → i < n → first p (n - i) i ≡ pick (p i) (At i) (first p (n - (i + 1)) (i + 1))
+  step : (i : ℕ) → i < n → first p (n - i) i ≡ pick (p i) (Some i) (first p (n - (i + 1)) (i + 1))
   unfolding first
   step i h =
       let q : n - i ≡ suc (n - (i + 1)) = omega arith in
@@ -15,13 +14,13 @@ module _ (p : ℕ → Bool) (n : ℕ) where
   pub begin : first p n 0 ≡ first p (n - 0) 0
   begin = ap (λ (m : ℕ). first p m 0) (omega arith)
 
-  pub hit : (i : ℕ) → i < n → first p n 0 ≡ first p (n - i) i → p i ≡ true → At i ≡ first p n 0
+  pub hit : (i : ℕ) → i < n → first p n 0 ≡ first p (n - i) i → p i ≡ true → Some i ≡ first p n 0
   hit i h inv t = sym (inv ∙ step i h ∙ rw t)
 
   pub miss : (i : ℕ) → i < n → first p n 0 ≡ first p (n - i) i → p i ≡ false → first p n 0 ≡ first p (n - (i + 1)) (i + 1)
   miss i h inv t = inv ∙ step i h ∙ rw t
 
-  pub done : (i : ℕ) → n ≤ i → first p n 0 ≡ first p (n - i) i → Nothing ≡ first p n 0
+  pub done : (i : ℕ) → n ≤ i → first p n 0 ≡ first p (n - i) i → None ≡ first p n 0
   unfolding first
   done i h inv =
       let q : n - i ≡ 0 = omega arith in
@@ -33,7 +32,7 @@ pub record Hit (p : ℕ → Bool) (n k i : ℕ) : Type 0 where
   pub below : i < n + k
   pub holds : p i ≡ true
 
-found-step : (p : ℕ → Bool) (n k i : ℕ) (b : Bool) → p k ≡ b → (first p n (k + 1) ≡ At i → Hit p n (k + 1) i) → pick b (At k) (first p n (k + 1)) ≡ At i → Hit p (suc n) k i
+found-step : (p : ℕ → Bool) (n k i : ℕ) (b : Bool) → p k ≡ b → (first p n (k + 1) ≡ Some i → Hit p n (k + 1) i) → pick b (Some k) (first p n (k + 1)) ≡ Some i → Hit p (suc n) k i
 found-step p n k i true t f h =
     let q : k ≡ i = cc in
     record { from = omega arith; below = omega arith; holds = rw (← q) t }
@@ -41,18 +40,18 @@ found-step p n k i false t f h =
     let r = f h in
     record { from = omega arith; below = omega arith; holds = r.holds }
 
-pub found : (p : ℕ → Bool) (n k i : ℕ) → first p n k ≡ At i → Hit p n k i
+pub found : (p : ℕ → Bool) (n k i : ℕ) → first p n k ≡ Some i → Hit p n k i
 unfolding first
 found p zero k i h = let z : ◌≡◌ {A = ℕ} 0 1 = cc in absurd (omega arith)
 found p (suc n) k i h = found-step p n k i (p k) refl (found p n (k + 1) i) h
 
-none-step : (p : ℕ → Bool) (n k i : ℕ) (b : Bool) → p k ≡ b → (first p n (k + 1) ≡ Nothing → k + 1 ≤ i → p i ≡ false) → pick b (At k) (first p n (k + 1)) ≡ Nothing → k ≤ i → p i ≡ false
+none-step : (p : ℕ → Bool) (n k i : ℕ) (b : Bool) → p k ≡ b → (first p n (k + 1) ≡ None → k + 1 ≤ i → p i ≡ false) → pick b (Some k) (first p n (k + 1)) ≡ None → k ≤ i → p i ≡ false
 none-step p n k i true t f h l = let z : ◌≡◌ {A = ℕ} 0 1 = cc in absurd (omega arith)
 none-step p n k i false t f h l =
     by-test (eqb k i) (λ e. ap p (sym (eqb-true k i e)) ∙ t) (λ e. f h (omega (arith, eqb-false k i e)))
 
 -- where nothing is found none of the n has p
-pub none : (p : ℕ → Bool) (n k i : ℕ) → first p n k ≡ Nothing → k ≤ i → i < n + k → p i ≡ false
+pub none : (p : ℕ → Bool) (n k i : ℕ) → first p n k ≡ None → k ≤ i → i < n + k → p i ≡ false
 unfolding first
 none p zero k i h l u = absurd (omega arith)
 none p (suc n) k i h l u =

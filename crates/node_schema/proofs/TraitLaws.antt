@@ -1,5 +1,5 @@
 -- The parts of traits words, judged all at once by their top bits.
-use Rattle.std.proofs.Common.{◌≡◌, ℕ, ◌+◌, ◌*◌, ◌/◌, ◌%◌, ◌^◌, ◌<◌, ◌≤◌, max, Bool, true, ◌&&◌, eqb, ltb, leb, List, sym, ap, ◌∙◌, subst, ap₂, div-lt_iff_lt-mul, arith, pow_pos, ltb-true, lt-ltb, eq-eqb, eqb-true, le-leb, leb-true}
+use Rattle.std.proofs.Common.{◌≡◌, ℕ, ◌+◌, ◌*◌, ◌/◌, ◌%◌, ◌^◌, ◌<◌, ◌≤◌, max, true, ◌&&◌, eqb, ltb, leb, List, sym, ap, ◌∙◌, subst, ap₂, div-lt_iff_lt-mul, arith, pow_pos, ltb-true, lt-ltb, eq-eqb, eqb-true, le-leb, leb-true}
 use native.Mathlib.Nat.{add-mul-div_left}
 use lib.Bits.{bit_or, or_shr, or_step, or_comm, or_lt, or_add_and, and_le_r}
 use Rattle.node_schema.specs.Rows.{word}

@@ -34,12 +34,10 @@ fn rising(w: &[u64; WORDS], from: usize, n: usize, limit: u64) -> bool
     let last = n - 1;
     let mut words: u64 = 0;
     let mut gaps: u64 = u64::MAX;
-    let mut i = 0;
-    while i < last {
+    for i in 0..last {
         let x = w[from + i];
-        i += 1;
         words = words | x;
-        gaps = gaps & wrapping_sub_u64(x, w[from + i]);
+        gaps = gaps & wrapping_sub_u64(x, w[from + i + 1]);
     }
     (words < ROOM) & (2 * ROOM <= gaps) & (w[from + last] < limit)
 }
@@ -49,12 +47,10 @@ fn all_below(w: &[u64; WORDS], from: usize, n: usize, limit: u64) -> bool
     requires { from + n ≤ word_count }
     ensures { result ≡ all_below w.now from n limit }
 {
-    let mut i = 0;
-    while i < n {
+    for i in 0..n {
         if limit <= w[from + i] {
             return false;
         }
-        i += 1;
     }
     true
 }
@@ -66,15 +62,11 @@ fn endpoint_changes(w: &[u64; WORDS], n: usize) -> usize
 {
     let mut changes = 0;
     let mut last = HALF;
-    let mut i = 0;
-    while i < n {
+    for i in 0..n {
         let e = super::cluster_endpoint(w, i);
-        if e == last {
-            i += 1;
-        } else {
+        if e != last {
             changes += 1;
             last = e;
-            i += 1;
         }
     }
     changes
@@ -104,12 +96,10 @@ fn all_traits(w: &[u64; WORDS], n: usize) -> bool
 {
     let mut bits: u64 = 0;
     let mut sums: u64 = 0;
-    let mut i = 0;
-    while i < n {
+    for i in 0..n {
         let t = w[TRAITS + i];
         bits = bits | t;
         sums = sums | wrapping_add_u64(t, MARGINS);
-        i += 1;
     }
     top_bits_clear(bits | sums)
 }
@@ -120,16 +110,12 @@ fn all_ranks(w: &[u64; WORDS], n: usize) -> bool
     ensures { result ≡ ranked w.now n }
 {
     let mut rank: u64 = 0;
-    let mut i = 0;
-    while i < n {
+    for i in 0..n {
         if super::is_text(w, i) {
             if w[FIRST + i] != rank {
                 return false;
             }
             rank += 1;
-            i += 1;
-        } else {
-            i += 1;
         }
     }
     rank <= TEXTS as u64

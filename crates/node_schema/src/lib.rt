@@ -69,13 +69,6 @@ pub const TEXT: u64 = 4;
 
 pub const ADMINISTER: u64 = 4;
 
-// The place of a row, or none.
-#[derive(Clone, Copy)]
-pub enum Found {
-    At(usize),
-    Nothing,
-}
-
 // How many cluster rows are in use. A number above the limit counts as the limit, so that every function is safe for any words; the check refuses it.
 pub fn cluster_count(w: &[u64; WORDS]) -> usize
     ensures { result ≡ count_of_clusters w.now }

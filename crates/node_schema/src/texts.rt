@@ -11,13 +11,9 @@ pub fn text_count(w: &[u64; WORDS]) -> usize
 {
     let n = super::attribute_count(w);
     let mut texts = 0;
-    let mut i = 0;
-    while i < n {
+    for i in 0..n {
         if super::is_text(w, i) {
             texts += 1;
-            i += 1;
-        } else {
-            i += 1;
         }
     }
     texts

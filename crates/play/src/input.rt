@@ -1,7 +1,7 @@
 // Standard input, read in pieces behind what is left of the last one, and taken line by line.
 use super::print::wrong;
-use script_answer::OVERLONG;
-use script_lines::sizes::{clip, least};
+use script_answer::Fault;
+use script_lines::sizes::clip;
 use std::io;
 use std::io::Read;
 
@@ -53,14 +53,9 @@ fn end_of(input: &[u8], at: usize, n: usize) -> usize {
 // The bytes from `at` to n go to the start; answers how many they are.
 fn shift(input: &mut [u8], at: usize, n: usize) -> usize {
     let end = clip(n, input);
-    let mut to = 0;
-    let mut from = at;
-    while from < end {
-        input[to] = input[from];
-        to += 1;
-        from += 1;
-    }
-    to
+    let start = at.min(end);
+    input.copy_within(start..end, 0);
+    end - start
 }
 
 // One read behind the kept bytes; answers how many came.
@@ -78,10 +73,10 @@ fn refill(
 ) -> io::Result<Reader> {
     let kept = shift(input, r.at, r.n);
     if INPUT <= kept {
-        wrong(rt, std::num::wrapping_add_u64(r.number, 1), OVERLONG)?;
+        wrong(rt, std::num::wrapping_add_u64(r.number, 1), Fault::Overlong)?;
         return Ok(no_line(kept, true, r.number, true));
     }
-    let came = least(more(stdin, input, kept)?, INPUT - kept);
+    let came = more(stdin, input, kept)?.min(INPUT - kept);
     if came == 0 {
         input[kept] = b'\n';
         return Ok(no_line(kept + 1, true, r.number, false));
@@ -118,6 +113,6 @@ pub fn next_line(
 pub fn line_of(input: &[u8; INPUT], from: usize, to: usize) -> &[u8] {
     let all: &[u8] = input;
     let end = clip(to, all);
-    let start = least(from, end);
+    let start = from.min(end);
     &all[start..end]
 }

@@ -17,7 +17,7 @@ use std::io::Read;
 mod input; // input.rt: standard input
 mod print; // print.rt: answers, and what is wrong
 
-// The whole script. A proved loop has to end, and nothing says that the input does: so its turns are counted down from a number that no run uses up.
+// The whole script. A proved loop has to end, and nothing says that the input does: so it takes a number of turns that no run uses up.
 fn run(
     rt: &(impl Print + Eprint),
     stdin: &mut impl Read,
@@ -32,8 +32,7 @@ fn run(
 ) -> io::Result<()> {
     let mut player = p;
     let mut reader = input::begin();
-    let mut turns = u64::MAX;
-    while 0 < turns {
+    for _ in 0..u64::MAX {
         reader = input::next_line(rt, stdin, input, reader)?;
         if reader.over {
             return Ok(());
@@ -46,7 +45,6 @@ fn run(
         }
         let next = done.player;
         player = next;
-        turns -= 1;
     }
     Ok(())
 }

@@ -1,7 +1,7 @@
 // What the program writes: one line an answer on standard output, and what is wrong on standard error.
 use im_envelope::MAX_MESSAGE;
 use script_answer::text::{TEXT, answer_line};
-use script_answer::{LineSaid, NO_SERVER, NOT_REPLIED, NOT_SENT, OVERLONG};
+use script_answer::{AnswerLine, Fault};
 use script_lines::sizes::clip;
 use std::io;
 
@@ -14,23 +14,18 @@ fn answer(rt: &impl Print, number: u8, out: &[u8; MAX_MESSAGE], len: usize) -> i
     rt.write_all(&text[..k])
 }
 
-// What is wrong, by its number.
-fn reason(fault: u8) -> &'static str {
-    if fault == NO_SERVER {
-        "there is no sign"
-    } else if fault == NOT_SENT {
-        "the panel has sent nothing yet"
-    } else if fault == NOT_REPLIED {
-        "the sign has sent nothing yet"
-    } else if fault == OVERLONG {
-        "longer than 65,535 bytes"
-    } else {
-        "it can't be read"
+fn reason(fault: Fault) -> &'static str {
+    match fault {
+        Fault::Unreadable => "it can't be read",
+        Fault::NoServer => "there is no sign",
+        Fault::NotSent => "the panel has sent nothing yet",
+        Fault::NotReplied => "the sign has sent nothing yet",
+        Fault::Overlong => "longer than 65,535 bytes",
     }
 }
 
 // What is wrong in a line, counted from 1.
-pub fn wrong(rt: &impl Eprint, number: u64, fault: u8) -> io::Result<()> {
+pub fn wrong(rt: &impl Eprint, number: u64, fault: Fault) -> io::Result<()> {
     let why = reason(fault);
     eprintln!(rt; "line {number}: {why}")
 }
@@ -38,17 +33,17 @@ pub fn wrong(rt: &impl Eprint, number: u64, fault: u8) -> io::Result<()> {
 // What a line says; answers whether the run goes on.
 pub fn show(
     rt: &(impl Print + Eprint),
-    said: LineSaid,
+    said: Result<Option<AnswerLine>, Fault>,
     number: u64,
     out: &[u8; MAX_MESSAGE],
 ) -> io::Result<bool> {
     match said {
-        LineSaid::Nothing => Ok(true),
-        LineSaid::Line { number, len } => {
-            answer(rt, number, out, len)?;
+        Ok(None) => Ok(true),
+        Ok(Some(line)) => {
+            answer(rt, line.number, out, line.len)?;
             Ok(true)
         }
-        LineSaid::Wrong(fault) => {
+        Err(fault) => {
             wrong(rt, number, fault)?;
             Ok(false)
         }

@@ -1,4 +1,5 @@
 -- A cache's messages fit: at most 32 filters of at most 21 octets each.
+use Rattle.std.specs.Prelude.{Some, None, Option}
 use mathlib.Core.Path.{◌≡◌, refl, sym, ap, ◌∙◌}
 use mathlib.Core.Bool.{Bool}
 use mathlib.Core.List.{List, [], ◌∷◌, ◌++◌, map}
@@ -8,10 +9,6 @@ use lib.ListN.{length, get_or, length-append}
 use Rattle.base_bounds.specs.Bounds.{payload_limit}
 use Rattle.tlv_reader.specs.Tree.{Tree}
 use Rattle.tlv_reader.specs.Value.{Datum}
-use Rattle.tlv_reader.specs.Decode.{Opt}
-use Rattle.tlv_reader.specs.Decode.Opt.{just, nothing}
-use Rattle.node_schema.specs.declared.Found.{Found}
-use Rattle.node_schema.specs.declared.Found.TheVariants.{At, Nothing}
 use Rattle.im_requests.specs.declared.VersionFilter.{VersionFilter}
 use Rattle.im_writer.specs.Envelope.{envelope_octets}
 use Rattle.im_writer.specs.Spelling.{spelling, Each}
@@ -32,7 +29,7 @@ use Rattle.cache_messages.specs.Filters.{least_by, version_filter_as, version_fi
 use Rattle.cache_messages.specs.Messages.{read_message, write_message, success_message}
 
 -- the version of a coherent cluster is one
-pub coherent-small : (c : Cached) (k : ℕ) {v : ℕ} → coherent_at c k ≡ just v → v < 2 ^ 32
+pub coherent-small : (c : Cached) (k : ℕ) {v : ℕ} → coherent_at c k ≡ Some v → v < 2 ^ 32
 coherent-small c k {v} e = ((coherent-exactly c k v).0 e).1
 
 -- a filter whose numbers have their widths
@@ -52,18 +49,18 @@ module _ (c : Cached) where
   unfolding filter_for Each
   one-narrow k word = go (coherent_at c k) refl
     where
-      go : (o : Opt ℕ) → coherent_at c k ≡ o → Each Narrow (version_filter_if word o)
-      go nothing e = tt
-      go (just v) e = (record { endpoint = omega arith; cluster = omega arith; version = coherent-small c k e }, tt)
+      go : (o : Option ℕ) → coherent_at c k ≡ o → Each Narrow (version_filter_if word o)
+      go None e = tt
+      go (Some v) e = (record { endpoint = omega arith; cluster = omega arith; version = coherent-small c k e }, tt)
 
   from-narrow : (m bound : ℕ) → Each Narrow (filters_from c m bound)
   unfolding filters_from Each
   from-narrow zero bound = tt
   from-narrow (suc m) bound = go (least_by c.clusters bound c.cluster_count) (λ b. from-narrow m b)
     where
-      go : (f : Found) → ((b : ℕ) → Each Narrow (filters_from c m b)) → Each Narrow (onwards c (λ b. filters_from c m b) f)
-      go (At k) rest = each_both Narrow (filter_for c k (get_or c.clusters k 0)) _ (one-narrow k (get_or c.clusters k 0)) (rest (get_or c.clusters k 0 + 1))
-      go Nothing rest = tt
+      go : (f : (Option ℕ)) → ((b : ℕ) → Each Narrow (filters_from c m b)) → Each Narrow (onwards c (λ b. filters_from c m b) f)
+      go (Some k) rest = each_both Narrow (filter_for c k (get_or c.clusters k 0)) _ (one-narrow k (get_or c.clusters k 0)) (rest (get_or c.clusters k 0 + 1))
+      go None rest = tt
 
   -- EVERY FILTER fits
   pub filters-narrow : Each Narrow (filters_of c)
@@ -75,20 +72,20 @@ one-few : (c : Cached) (k word : ℕ) → length (filter_for c k word) ≤ 1
 unfolding filter_for
 one-few c k word = go (coherent_at c k)
   where
-    go : (o : Opt ℕ) → length (version_filter_if word o) ≤ 1
-    go nothing = omega arith
-    go (just v) = omega arith
+    go : (o : Option ℕ) → length (version_filter_if word o) ≤ 1
+    go None = omega arith
+    go (Some v) = omega arith
 
 from-few : (c : Cached) (m bound : ℕ) → length (filters_from c m bound) ≤ m
 unfolding filters_from
 from-few c zero bound = omega arith
 from-few c (suc m) bound = go (least_by c.clusters bound c.cluster_count) (λ b. from-few c m b)
   where
-    go : (f : Found) → ((b : ℕ) → length (filters_from c m b) ≤ m) → length (onwards c (λ b. filters_from c m b) f) ≤ suc m
-    go (At k) rest =
+    go : (f : (Option ℕ)) → ((b : ℕ) → length (filters_from c m b) ≤ m) → length (onwards c (λ b. filters_from c m b) f) ≤ suc m
+    go (Some k) rest =
         let word = get_or c.clusters k 0 in
         omega (arith, length-append (filter_for c k word) (filters_from c m (word + 1)), one-few c k word, rest (word + 1))
-    go Nothing rest = omega arith
+    go None rest = omega arith
 
 pub filters-few : (c : Cached) → length (filters_of c) ≤ c.cluster_count
 unfolding filters_of

@@ -1,4 +1,5 @@
 -- A VALID CACHE STAYS VALID, whatever it is handed; so it never answers 2 on its own account.
+use Rattle.std.specs.Prelude.{Some, None, Option}
 use mathlib.Core.Path.{◌≡◌, refl, sym, ap, ◌∙◌}
 use mathlib.Core.Bool.{Bool, true, false, ◌&&◌, not, false≢true}
 use mathlib.Core.List.{List, []}
@@ -9,8 +10,6 @@ use lib.Dec.{eqb, leb, ltb}
 use lib.ListN.{length, drop}
 use Rattle.base_octets.proofs.StoreLaws.{length-store}
 use Rattle.tlv_reader.specs.Octet.{pick}
-use Rattle.tlv_reader.specs.Decode.{Opt}
-use Rattle.tlv_reader.specs.Decode.Opt.{just, nothing}
 use Rattle.tlv_reader.proofs.Picks.{pick-elim}
 use Rattle.node_schema.proofs.BoolLaws.{left, right}
 use Rattle.im_blocks.specs.declared.Answer.{Answer}
@@ -18,8 +17,6 @@ use Rattle.im_requests.specs.Status.{response_in}
 use Rattle.im_responses.specs.Report.{PartOf, part_in}
 use Rattle.im_responses.specs.Answered.{answered_in}
 use Rattle.im_envelope.specs.declared.Fields.{Fields}
-use Rattle.im_envelope.specs.declared.Envelope.{Envelope}
-use Rattle.im_envelope.specs.declared.Envelope.TheVariants.{Whole, Short}
 use Rattle.im_envelope.specs.Envelope.{envelope_in, envelope_length, max_message}
 use Rattle.im_exchange.specs.Rules.{status_opcode, report_opcode}
 use Rattle.cache_entries.specs.declared.Cached.{Cached}
@@ -112,17 +109,17 @@ module _ (page : List ℕ) (s : CacheState) (v : ValidCache page s) where
   unfolding by_status
   status-valid payload = go (response_in payload)
     where
-      go : (o : Opt ℕ) → ValidCache page (status_taken s o).state
-      go nothing = v
-      go (just code) = ended-valid code
+      go : (o : Option ℕ) → ValidCache page (status_taken s o).state
+      go None = v
+      go (Some code) = ended-valid code
 
   answer-valid : (payload : List ℕ) → ValidCache page (by_answer s payload).state
   unfolding by_answer
   answer-valid payload = go (answered_in payload)
     where
-      go : (o : Opt Answer) → ValidCache page (answer_taken s o).state
-      go nothing = v
-      go (just a) = pick-elim (λ (o : Silent). ValidCache page o.state) (of_write s.asked a.path) _ _ (λ _. ended-valid a.status.code) (λ _. v)
+      go : (o : Option Answer) → ValidCache page (answer_taken s o).state
+      go None = v
+      go (Some a) = pick-elim (λ (o : Silent). ValidCache page o.state) (of_write s.asked a.path) _ _ (λ _. ended-valid a.status.code) (λ _. v)
 
   -- a part, of a read
   part-valid : s.asked.stage ≡ reading → (payload : List ℕ) → Holds (takes_part page s payload)
@@ -146,9 +143,9 @@ module _ (page : List ℕ) (s : CacheState) (v : ValidCache page s) where
         kept = ended-length s.asked last_part 0 ∙ v.kept;
       }
 
-      go : (o : Opt (PartOf ℕ)) → Holds (part_taken page s payload o)
-      go nothing = v
-      go (just p) =
+      go : (o : Option (PartOf ℕ)) → Holds (part_taken page s payload o)
+      go None = v
+      go (Some p) =
           pick-elim Holds (past_turns p.more s.asked.turn) _ _ (λ _. v)
           (λ _. pick-elim Holds (eqb (judged_all payload (record { number = 0; held = s.held }) (blocks_in payload)).number 0) _ _
           (λ _. pick-elim Holds (eqb p.more 1) _ _ (λ _. more) (λ _. last)) (λ _. v))
@@ -166,8 +163,8 @@ module _ (page : List ℕ) (s : CacheState) (v : ValidCache page s) where
       pick-elim Holds (cache_right page s) _ _
       (λ _. pick-elim Holds (ltb room max_message) _ _ (λ _. v) (λ _. go (envelope_in m))) (λ _. v)
     where
-      go : (e : Envelope) → Holds (in_envelope page s m e)
-      go Short = v
-      go (Whole e) =
+      go : (e : (Option Fields)) → Holds (in_envelope page s m e)
+      go None = v
+      go (Some e) =
           pick-elim Holds (leb (length m) max_message && for_cache e.edition e.opcode) _ _
           (λ _. pick-elim Holds (awaited s.asked e) _ _ (λ a. takes-valid e a (drop envelope_length m)) (λ _. v)) (λ _. v)

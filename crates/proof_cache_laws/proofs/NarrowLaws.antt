@@ -1,4 +1,5 @@
 -- A MESSAGE LEAVES NUMBERS IN THEIR WIDTHS, whatever it is, so that the words of a cache stay a cache's: its own calls never lead to 2 because of them.
+use Rattle.std.specs.Prelude.{Some, None, Option}
 use mathlib.Core.Path.{◌≡◌}
 use mathlib.Core.Bool.{true, false, ◌&&◌}
 use mathlib.Core.List.{List}
@@ -7,15 +8,11 @@ use native.Mathlib.Omega.{arith}
 use borrow.Author.Tests.{eqb-false, ltb-true}
 use lib.Dec.{eqb, leb, ltb}
 use lib.ListN.{length, drop}
-use Rattle.tlv_reader.specs.Decode.{Opt}
-use Rattle.tlv_reader.specs.Decode.Opt.{just, nothing}
 use Rattle.tlv_reader.proofs.Picks.{pick-elim}
 use Rattle.im_blocks.specs.declared.Answer.{Answer}
 use Rattle.im_requests.specs.Status.{response_in}
 use Rattle.im_responses.specs.Report.{PartOf, part_in}
 use Rattle.im_responses.specs.Answered.{answered_in}
-use Rattle.im_envelope.specs.declared.Envelope.{Envelope}
-use Rattle.im_envelope.specs.declared.Envelope.TheVariants.{Whole, Short}
 use Rattle.im_envelope.specs.Envelope.{envelope_in, envelope_length, max_message}
 use Rattle.im_exchange.specs.Rules.{status_opcode, report_opcode, max_turn}
 use Rattle.cache_report.specs.Part.{blocks_in, judged_all}
@@ -28,6 +25,7 @@ use Rattle.cache_state.specs.Reaction.{CacheReaction, Silent, of_cache, CacheRea
 use Rattle.cache_state.specs.Begin.{keeping}
 use Rattle.cache_state.proofs.NarrowLaws.{stays-cache}
 use Rattle.cache_receive.specs.Receive.{for_cache, awaited, ended_as, ended_with, status_taken, by_status, of_write, answer_taken, by_answer, goes_on, past_turns, part_taken, takes_part, takes, in_envelope, received}
+use Rattle.im_envelope.specs.declared.Fields.{Fields}
 
 abbrev NarrowR : CacheReaction → Type 0
 NarrowR r = Narrow r.state
@@ -50,17 +48,17 @@ module _ (page : List ℕ) (s : CacheState) (n : Narrow s) where
   unfolding by_status
   status-narrow payload = go (response_in payload)
     where
-      go : (o : Opt ℕ) → NarrowS (status_taken s o)
-      go nothing = n
-      go (just code) = ended-narrow code
+      go : (o : Option ℕ) → NarrowS (status_taken s o)
+      go None = n
+      go (Some code) = ended-narrow code
 
   answer-narrow : (payload : List ℕ) → NarrowS (by_answer s payload)
   unfolding by_answer
   answer-narrow payload = go (answered_in payload)
     where
-      go : (o : Opt Answer) → NarrowS (answer_taken s o)
-      go nothing = n
-      go (just a) = pick-elim NarrowS (of_write s.asked a.path) _ _ (λ _. ended-narrow a.status.code) (λ _. n)
+      go : (o : Option Answer) → NarrowS (answer_taken s o)
+      go None = n
+      go (Some a) = pick-elim NarrowS (of_write s.asked a.path) _ _ (λ _. ended-narrow a.status.code) (λ _. n)
 
   -- where more is promised there is a turn left for it
   turn-left : (more : ℕ) → eqb more 1 ≡ true → past_turns more s.asked.turn ≡ false → s.asked.turn + 1 < 2 ^ 16
@@ -75,9 +73,9 @@ module _ (page : List ℕ) (s : CacheState) (n : Narrow s) where
   unfolding takes_part
   part-narrow payload = go (part_in payload)
     where
-      go : (o : Opt (PartOf ℕ)) → NarrowR (part_taken page s payload o)
-      go nothing = n
-      go (just p) =
+      go : (o : Option (PartOf ℕ)) → NarrowR (part_taken page s payload o)
+      go None = n
+      go (Some p) =
           pick-elim NarrowR (past_turns p.more s.asked.turn) _ _ (λ _. n)
           (λ f. pick-elim NarrowR (eqb (judged_all payload (record { number = 0; held = s.held }) (blocks_in payload)).number 0) _ _
           (λ _. pick-elim NarrowR (eqb p.more 1) _ _ (λ t. goes_on_lem _ _ (turn-left p.more t f)) (λ _. ended-as _ _ 0 (omega arith))) (λ _. n))
@@ -95,9 +93,9 @@ module _ (page : List ℕ) (s : CacheState) (n : Narrow s) where
       pick-elim NarrowR (cache_right page s) _ _
       (λ _. pick-elim NarrowR (ltb room max_message) _ _ (λ _. n) (λ _. go (envelope_in m))) (λ _. n)
     where
-      go : (e : Envelope) → NarrowR (in_envelope page s m e)
-      go Short = n
-      go (Whole e) =
+      go : (e : (Option Fields)) → NarrowR (in_envelope page s m e)
+      go None = n
+      go (Some e) =
           pick-elim NarrowR (leb (length m) max_message && for_cache e.edition e.opcode) _ _
           (λ _. pick-elim NarrowR (awaited s.asked e) _ _ (λ _. takes-narrow e.opcode (drop envelope_length m)) (λ _. n)) (λ _. n)
 

@@ -1,4 +1,5 @@
 -- A VALID CACHE NEVER ANSWERS 2, whatever it is handed.
+use Rattle.std.specs.Prelude.{Some, None, Option, Ok, Err}
 use mathlib.Core.Path.{◌≡◌, refl, sym, ap, ◌∙◌}
 use mathlib.Core.Bool.{Bool, true, ◌&&◌}
 use mathlib.Core.List.{List, [], ◌∷◌}
@@ -7,24 +8,18 @@ use native.Mathlib.Omega.{arith}
 use lib.Dec.{eqb, leb, ltb}
 use lib.ListN.{length, drop}
 use Rattle.tlv_reader.specs.Octet.{pick}
-use Rattle.tlv_reader.specs.Decode.{Opt}
-use Rattle.tlv_reader.specs.Decode.Opt.{just, nothing}
 use Rattle.tlv_reader.proofs.Picks.{pick-elim}
 use Rattle.im_blocks.specs.declared.Answer.{Answer}
 use Rattle.im_blocks.specs.Data.{ReportOf}
 use Rattle.im_requests.specs.Status.{response_in}
 use Rattle.im_responses.specs.Report.{PartOf, part_in}
 use Rattle.im_responses.specs.Answered.{answered_in}
-use Rattle.im_envelope.specs.declared.Envelope.{Envelope}
-use Rattle.im_envelope.specs.declared.Envelope.TheVariants.{Whole, Short}
 use Rattle.im_envelope.specs.Envelope.{envelope_in, envelope_length, max_message}
 use Rattle.im_exchange.specs.Rules.{status_opcode, report_opcode}
 use Rattle.cache_entries.specs.declared.Cached.{Cached}
-use Rattle.cache_report.specs.declared.block.Judgement.{Judgement}
-use Rattle.cache_report.specs.declared.block.Judgement.TheVariants.{Taken, Long, Unusable}
+use Rattle.cache_report.specs.Block.{Judgement}
+use Rattle.cache_report.specs.declared.block.Unfit.TheVariants.{Long, Unusable}
 use Rattle.cache_report.specs.Part.{Judged, judgement_in, blocks_in, judged_next, judged_all}
-use Rattle.cache_report.specs.declared.position.Position.{Position}
-use Rattle.cache_report.specs.declared.position.Position.TheVariants.{At, Full}
 use Rattle.cache_report.specs.Entry.{position_of, position_number, number_for, worse}
 use Rattle.cache_state.specs.declared.CacheState.{CacheState}
 use Rattle.cache_state.specs.Reaction.{Silent, CacheReaction}
@@ -32,6 +27,7 @@ use Rattle.cache_state.specs.State.{cache_right}
 use Rattle.proof_cache_laws.specs.Valid.{ValidCache}
 use Rattle.proof_cache_laws.proofs.BegunLaws.{valid-right}
 use Rattle.cache_receive.specs.Receive.{for_cache, awaited, ended_with, status_taken, by_status, of_write, answer_taken, by_answer, goes_on, past_turns, part_taken, takes_part, takes, in_envelope, received}
+use Rattle.im_envelope.specs.declared.Fields.{Fields}
 
 -- another number than 2
 abbrev Fair : ℕ → Type 0
@@ -39,13 +35,13 @@ Fair n = n ≡ 2 → ⊥
 
 number-fair : (c : Cached) (f : Judgement) → Fair (number_for c f)
 unfolding number_for
-number-fair c Unusable e = omega arith
-number-fair c Long e = omega arith
-number-fair c (Taken x) e = go (position_of c x) e
+number-fair c (Err Unusable) e = omega arith
+number-fair c (Err Long) e = omega arith
+number-fair c (Ok x) e = go (position_of c x) e
   where
-    go : (p : Position) → Fair (position_number p)
-    go (At k i) e = omega arith
-    go Full e = omega arith
+    go : (p : (Option (ℕ × ℕ))) → Fair (position_number p)
+    go (Some (k, i)) e = omega arith
+    go None e = omega arith
 
 worse-fair : (a b : ℕ) → Fair b → Fair (worse a b)
 unfolding worse
@@ -72,25 +68,25 @@ module _ (page : List ℕ) (s : CacheState) where
   unfolding by_status
   status-fair payload = go (response_in payload)
     where
-      go : (o : Opt ℕ) → FairO (status_taken s o)
-      go nothing = λ e. omega arith
-      go (just code) = ended-fair s code
+      go : (o : Option ℕ) → FairO (status_taken s o)
+      go None = λ e. omega arith
+      go (Some code) = ended-fair s code
 
   answer-fair : (payload : List ℕ) → FairO (by_answer s payload)
   unfolding by_answer
   answer-fair payload = go (answered_in payload)
     where
-      go : (o : Opt Answer) → FairO (answer_taken s o)
-      go nothing = λ e. omega arith
-      go (just a) = pick-elim FairO (of_write s.asked a.path) _ _ (λ _. ended-fair s a.status.code) (λ _ e. omega arith)
+      go : (o : Option Answer) → FairO (answer_taken s o)
+      go None = λ e. omega arith
+      go (Some a) = pick-elim FairO (of_write s.asked a.path) _ _ (λ _. ended-fair s a.status.code) (λ _ e. omega arith)
 
   part-fair : (payload : List ℕ) → FairR (takes_part page s payload)
   unfolding takes_part goes_on
   part-fair payload = go (part_in payload)
     where
-      go : (o : Opt (PartOf ℕ)) → FairR (part_taken page s payload o)
-      go nothing = λ e. omega arith
-      go (just p) =
+      go : (o : Option (PartOf ℕ)) → FairR (part_taken page s payload o)
+      go None = λ e. omega arith
+      go (Some p) =
           pick-elim FairR (past_turns p.more s.asked.turn) _ _ (λ _ e. omega arith)
           (λ _. pick-elim FairR (eqb (judged_all payload (record { number = 0; held = s.held }) (blocks_in payload)).number 0) _ _
           (λ _. pick-elim FairR (eqb p.more 1) _ _ (λ _ e. omega arith) (λ _ e. omega arith))
@@ -106,8 +102,8 @@ module _ (page : List ℕ) (s : CacheState) where
   unfolding received
   never-2 v m room = rw (valid-right page s v) (pick-elim FairR (ltb room max_message) _ _ (λ _ e. omega arith) (λ _. go (envelope_in m)))
     where
-      go : (e : Envelope) → FairR (in_envelope page s m e)
-      go Short = λ e. omega arith
-      go (Whole e) =
+      go : (e : (Option Fields)) → FairR (in_envelope page s m e)
+      go None = λ e. omega arith
+      go (Some e) =
           pick-elim FairR (leb (length m) max_message && for_cache e.edition e.opcode) _ _
           (λ _. pick-elim FairR (awaited s.asked e) _ _ (λ _. takes-fair e.opcode (drop envelope_length m)) (λ _ e. omega arith)) (λ _ e. omega arith)

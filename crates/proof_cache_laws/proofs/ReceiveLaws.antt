@@ -1,4 +1,5 @@
 -- A message that is taken, and one for whose reply there is no room.
+use Rattle.std.specs.Prelude.{Some}
 use mathlib.Core.Path.{◌≡◌, refl, sym, ap, ◌∙◌}
 use mathlib.Core.Bool.{true}
 use mathlib.Core.List.{List}
@@ -6,7 +7,6 @@ use Prim.Native.Nat.{ℕ, ◌≤◌, ◌<◌}
 use borrow.Author.Tests.{le-leb, lt-ltb, le-ltb}
 use lib.ListN.{length, drop}
 use Rattle.im_envelope.specs.declared.Fields.{Fields}
-use Rattle.im_envelope.specs.declared.Envelope.TheVariants.{Whole}
 use Rattle.im_envelope.specs.Envelope.{envelope_in, envelope_length, max_message}
 use Rattle.cache_state.specs.declared.CacheState.{CacheState}
 use Rattle.cache_state.specs.State.{cache_right}
@@ -25,8 +25,8 @@ module _ (page : List ℕ) (s : CacheState) (m : List ℕ) (room : ℕ) where
       unfolding received
       opened = rw (h, le-ltb room max_message l) refl
 
-      module _ {e : Fields} (q : envelope_in m ≡ Whole e) where
-        whole : received page s m room ≡ in_envelope page s m (Whole e)
+      module _ {e : Fields} (q : envelope_in m ≡ Some e) where
+        whole : received page s m room ≡ in_envelope page s m (Some e)
         whole = opened ∙ ap (in_envelope page s m) q
 
         module _ (k : length m ≤ max_message) (o : for_cache e.edition e.opcode ≡ true) where

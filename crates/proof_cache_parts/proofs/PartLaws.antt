@@ -1,5 +1,6 @@
 -- A PART TAKEN SETS THE SAME ENTRIES AS IN THE PROTOCOL, and none of its blocks is refused: 6 and 7 never come.
 -- There is room because HeldAs says that each cluster held is one of the schema's: its entries alone do not, as a cluster could stand there with none.
+use Rattle.std.specs.Prelude.{Some}
 use mathlib.Core.Path.{◌≡◌, refl, sym, ap, subst, ◌∙◌}
 use mathlib.Core.Bool.{Bool, true, false, not}
 use mathlib.Core.List.{List, [], ◌∷◌, map, Memᴰ}
@@ -8,7 +9,6 @@ use borrow.Author.Tests.{eqb-true, eq-eqb}
 use lib.Dec.{T, T_not, not_T, eqb, eqb→eq}
 use Rattle.tlv_reader.specs.Octet.{pick}
 use Rattle.tlv_reader.specs.Value.{Datum}
-use Rattle.tlv_reader.specs.Decode.Opt.{just}
 use Rattle.im_blocks.specs.Data.{ReportOf, report_struct}
 use Rattle.im_blocks.proofs.BlockLaws.{never}
 use Rattle.node_schema.specs.Rows.{count_of_attributes}
@@ -21,7 +21,7 @@ use Rattle.cache_entries.specs.declared.Cached.{Cached}
 use Rattle.cache_entries.specs.Entries as cached
 use Rattle.cache_entries.specs.Entries.{lookup}
 use Rattle.cache_report.specs.declared.block.NewEntry.{NewEntry}
-use Rattle.cache_report.specs.declared.block.Judgement.{Judgement}
+use Rattle.cache_report.specs.Block.{Judgement}
 use Rattle.cache_report.specs.Entry.{position_of, held_for, number_for, page_for, worse, Good}
 use Rattle.cache_report.specs.Part.{blocks_in, judgement_in, judged_all, held_all, page_all}
 use Rattle.cache_report.proofs.RightLaws.{block-right}
@@ -102,7 +102,7 @@ module _ (w : List ℕ) (rules : Rules w) (s : List ℕ) where
     right-next d (Memᴰ.tail m) = held.right d (mem-select kept entries d m).0
 
     abbrev Has : Entry Datum → Type 0
-    Has d = lookup c' page' (path_at w d.place.attribute).endpoint (path_at w d.place.attribute).cluster (path_at w d.place.attribute).attribute ≡ just (record { version = d.version; value = d.value })
+    Has d = lookup c' page' (path_at w d.place.attribute).endpoint (path_at w d.place.attribute).cluster (path_at w d.place.attribute).attribute ≡ Some (record { version = d.version; value = d.value })
 
     has-next : (d : Entry Datum) → Memᴰ d (set_entry e entries) → Has d
     unfolding set_entry
@@ -115,13 +115,13 @@ module _ (w : List ℕ) (rules : Rules w) (s : List ℕ) where
         absurd (T_not (same_place d.place e.place) other (same_refl d.place e.place (is.place ∙ ap (place_at w) (sym rows) ∙ sym own.place))))
         (λ f. rw f (held.has d there))
 
-    only_next : (endpoint cluster attribute : ℕ) → endpoint < 2 ^ 16 → cluster < 2 ^ 32 → attribute < 2 ^ 32 → (x : cached.CacheEntry) → lookup c' page' endpoint cluster attribute ≡ just x → Found w (set_entry e entries) endpoint cluster attribute x
+    only_next : (endpoint cluster attribute : ℕ) → endpoint < 2 ^ 16 → cluster < 2 ^ 32 → attribute < 2 ^ 32 → (x : cached.CacheEntry) → lookup c' page' endpoint cluster attribute ≡ Some x → Found w (set_entry e entries) endpoint cluster attribute x
     unfolding set_entry
     only_next endpoint cluster attribute fe fl fa x h = by-test (path_is (path_at w row) p)
-        (λ t. let q : holding e.version e.value ≡ just x = rw t at (sym (after p fe fl fa) ∙ h) in
+        (λ t. let q : holding e.version e.value ≡ Some x = rw t at (sym (after p fe fl fa) ∙ h) in
         let same : record { version = e.version; value = e.value } ≡ x = cc in
         record { entry = e; there = Memᴰ.head refl; same = path-is _ _ t; version = ap (λ (y : cached.CacheEntry). y.version) same; value = ap (λ (y : cached.CacheEntry). y.value) same })
-        (λ t. let q : lookup c page endpoint cluster attribute ≡ just x = rw t at (sym (after p fe fl fa) ∙ h) in
+        (λ t. let q : lookup c page endpoint cluster attribute ≡ Some x = rw t at (sym (after p fe fl fa) ∙ h) in
         let f = held.only endpoint cluster attribute fe fl fa x q in
         record { entry = f.entry; there = Memᴰ.tail (select-mem kept entries f.entry f.there (not_T (same_place f.entry.place e.place) (apart t f.entry f.same))); same = f.same; version = f.version; value = f.value })
       where

@@ -1,4 +1,5 @@
 -- THERE IS ALWAYS ROOM: what is held stands for rows of the schema, no row twice, so a further row has a spot, and held there it stands for its row.
+use Rattle.std.specs.Prelude.{Some, None, Option}
 use mathlib.Core.Path.{◌≡◌, refl, sym, ap, subst, ◌∙◌}
 use mathlib.Core.List.{List}
 use Prim.Native.Nat.{ℕ, ◌/◌, ◌%◌, ◌<◌}
@@ -8,9 +9,6 @@ use lib.Dec.{eqb}
 use lib.ListN.{get_or, set}
 use lib.Seq.{get_or-set_same, get_or-set_other}
 use Rattle.tlv_reader.specs.Value.{Datum}
-use Rattle.tlv_reader.specs.Decode.Opt.{just}
-use Rattle.node_schema.specs.declared.Found.{Found}
-use Rattle.node_schema.specs.declared.Found.TheVariants as found
 use Rattle.node_schema.specs.Rows.{cluster_row, attribute_row, count_of_clusters, count_of_attributes}
 use Rattle.node_schema.specs.Rules.{AttributePath, path, path_at, Rules}
 use Rattle.node_schema.proofs.BoolLaws.{by-test}
@@ -25,8 +23,6 @@ use Rattle.cache_entries.specs.Set.{cluster_place, entry_place, with_cluster, wi
 use Rattle.cache_entries.proofs.SetLaws.{placed-next, placed_below, counted-other}
 use Rattle.cache_entries.proofs.ValidLaws.{cluster-below, key_below_lem}
 use Rattle.cache_report.specs.declared.block.NewEntry.{NewEntry}
-use Rattle.cache_report.specs.declared.position.Position.{Position}
-use Rattle.cache_report.specs.declared.position.Position.TheVariants as position
 use Rattle.cache_report.specs.Entry.{entry_position, position_of, position_number, with_item, held_at, Good}
 use Rattle.cache_report.proofs.EntryLaws.{Goes, position-goes}
 use Rattle.proof_trip.specs.Exact.{Distinct}
@@ -64,10 +60,10 @@ module _ (w : List ℕ) (rules : Rules w) (page : List ℕ) (c : Cached) (good :
   in-cluster j b = key_below_lem c good.right.entries j b
 
   -- it is found by its path
-  stands : (j : ℕ) → j < c.count → lookup c page (word j / half) (word j % half) (key j % half) ≡ just (entry_of c page j)
+  stands : (j : ℕ) → j < c.count → lookup c page (word j / half) (word j % half) (key j % half) ≡ Some (entry_of c page j)
   unfolding lookup cached.path_at
   stands j b =
-      ap (λ (f : Found). cached.at_entry c page (cached.in_cluster c (key j % half) f)) (found-once c.clusters n held.clusters-once _ (key j / half) (in-cluster j b) (omega arith))
+      ap (λ (f : (Option ℕ)). cached.at_entry c page (cached.in_cluster c (key j % half) f)) (found-once c.clusters n held.clusters-once _ (key j / half) (in-cluster j b) (omega arith))
       ∙ ap (cached.at_entry c page) (found-once c.keys c.count held.keys-once _ j b (omega arith))
 
   -- so it has a row
@@ -118,28 +114,28 @@ module _ (w : List ℕ) (rules : Rules w) (page : List ℕ) (c : Cached) (good :
     unfolding entry_position entry_place
     in_place k h = go (entry_at c (key_word k x.attribute)) refl
       where
-        go : (f : Found) → entry_at c (key_word k x.attribute) ≡ f → position_number (entry_position c k x.attribute) ≡ 0
-        go (found.At i) e = rw e refl
-        go found.Nothing e = rw (e, lt-ltb c.count max_entries (entries-left (λ j b p. not_there c.keys c.count _ e j b (h j b p)))) refl
+        go : (f : (Option ℕ)) → entry_at c (key_word k x.attribute) ≡ f → position_number (entry_position c k x.attribute) ≡ 0
+        go (Some i) e = rw e refl
+        go None e = rw (e, lt-ltb c.count max_entries (entries-left (λ j b p. not_there c.keys c.count _ e j b (h j b p)))) refl
 
     -- A SPOT
     pub position-there : position_number (position_of c x) ≡ 0
     unfolding position_of cluster_place
     position-there = go (cluster_at c item_word) refl
       where
-        go : (f : Found) → cluster_at c item_word ≡ f → position_number (position_of c x) ≡ 0
-        go (found.At k) e = rw e (in_place k
+        go : (f : (Option ℕ)) → cluster_at c item_word ≡ f → position_number (position_of c x) ≡ 0
+        go (Some k) e = rw e (in_place k
             (λ j b p. let q = found-once c.clusters n held.clusters-once item_word (key j / half) (in-cluster j b) (its-word j p) in
             let same : k ≡ key j / half = cc in
             omega (arith, same, its-attribute j p)))
-        go found.Nothing e = rw (e, lt-ltb n max_clusters (clusters-left (not_there c.clusters n item_word e)))
+        go None e = rw (e, lt-ltb n max_clusters (clusters-left (not_there c.clusters n item_word e)))
             (in_place n (λ j b p. absurd (not_there c.clusters n item_word e (key j / half) (in-cluster j b) (its-word j p))))
 
     -- the item set: still no cluster and no entry twice, and each cluster one of the schema's
-    pub set-once : (p : Position) → position_of c x ≡ p → Distinct (held_at c x p) × DistinctKeys (held_at c x p) × ClusterRows w (held_at c x p)
+    pub set-once : (p : (Option (ℕ × ℕ))) → position_of c x ≡ p → Distinct (held_at c x p) × DistinctKeys (held_at c x p) × ClusterRows w (held_at c x p)
     unfolding with_item with_entry with_cluster cluster_place entry_place
-    set-once position.Full q = (held.clusters-once, held.keys-once, held.cluster-rows)
-    set-once (position.At k i) q = (
+    set-once None q = (held.clusters-once, held.keys-once, held.cluster-rows)
+    set-once (Some (k, i)) q = (
       once-set c.clusters n held.clusters-once max_clusters item_word k good.right.few-clusters (omega (arith, good.whole.clusters)) goes.cluster,
       once-set c.keys c.count held.keys-once max_entries (key_word k x.attribute) i good.right.few-entries (omega (arith, good.whole.keys)) goes.entry,
       rows,

@@ -1,4 +1,5 @@
 -- A CLUSTER IS COHERENT AT THE CACHE EXACTLY IF IT IS IN THE PROTOCOL, and only a cluster of the schema is.
+use Rattle.std.specs.Prelude.{Some}
 use mathlib.Core.Path.{◌≡◌, sym, ap, ◌∙◌}
 use mathlib.Core.Logic.{◌↔◌}
 use mathlib.Core.List.{List, Memᴰ}
@@ -6,8 +7,6 @@ use Prim.Native.Nat.{ℕ, ◌%◌, ◌^◌, ◌<◌}
 use native.Mathlib.Omega.{arith}
 use lib.ListN.{get_or}
 use Rattle.tlv_reader.specs.Value.{Datum}
-use Rattle.tlv_reader.specs.Decode.Opt.{just}
-use Rattle.node_schema.specs.declared.Found.TheVariants.{At}
 use Rattle.node_schema.specs.Rows.{cluster_row, attribute_row, count_of_clusters}
 use Rattle.node_schema.specs.Rules.{AttributePath, path_at, Rules}
 use Rattle.node_schema.proofs.RulesLaws.{path-word, cluster-rules}
@@ -51,7 +50,7 @@ module _ (w : List ℕ) (rules : Rules w) where
     held = s.held
 
     -- ONLY a cluster of the schema is coherent
-    pub coherent-row : (endpoint cluster v : ℕ) → endpoint < 2 ^ 16 → cluster < 2 ^ 32 → coherent_of held (cluster_word endpoint cluster) ≡ just v
+    pub coherent-row : (endpoint cluster v : ℕ) → endpoint < 2 ^ 16 → cluster < 2 ^ 32 → coherent_of held (cluster_word endpoint cluster) ≡ Some v
         → (k : ℕ) × (k < count_of_clusters w) × ((cluster_row w k).endpoint ≡ endpoint) × ((cluster_row w k).cluster ≡ cluster)
     coherent-row endpoint cluster v fe fl h =
         let (j, at, q) = coherent-held held (cluster_word endpoint cluster) v h in
@@ -65,7 +64,7 @@ module _ (w : List ℕ) (rules : Rules w) where
 
       -- an entry of the protocol, at its place in the arrays
       looked-up : (d : Entry Datum) → Memᴰ d c.entries → d.place.cluster ≡ k
-          → lookup held page (cluster_row w k).endpoint (cluster_row w k).cluster (path_at w d.place.attribute).attribute ≡ just (record { version = d.version; value = d.value })
+          → lookup held page (cluster_row w k).endpoint (cluster_row w k).cluster (path_at w d.place.attribute).attribute ≡ Some (record { version = d.version; value = d.value })
       looked-up d m e =
           let r = of_row d (cache.held.right d m) in
           let q : AttributePath = path_at w d.place.attribute in
@@ -73,14 +72,14 @@ module _ (w : List ℕ) (rules : Rules w) where
           let pc : q.cluster ≡ (cluster_row w k).cluster = r.cluster ∙ ap (λ (n : ℕ). (cluster_row w n).cluster) e in
           sym (λ i. lookup held page (pe i) (pc i) q.attribute) ∙ cache.held.has d m
 
-      placed : (j : ℕ) → cluster_at held word ≡ At j → (d : Entry Datum) → Memᴰ d c.entries → d.place.cluster ≡ k
+      placed : (j : ℕ) → cluster_at held word ≡ Some j → (d : Entry Datum) → Memᴰ d c.entries → d.place.cluster ≡ k
           → (i : ℕ) × (i < held.count) × Of held j i × (get_or held.versions i 0 ≡ d.version)
       placed j at d m e =
           let (i, b, key, is) = stands held page (cluster_row w k).endpoint (cluster_row w k).cluster j at (path_at w d.place.attribute).attribute (looked-up d m e) in
           (i, b, omega (arith, key, (of_row d (cache.held.right d m)).attribute), ap (λ (x : cached.CacheEntry). x.version) is)
 
       -- and one at a place of the arrays, in the protocol
-      shown : (j i : ℕ) → cluster_at held word ≡ At j → i < held.count → Of held j i
+      shown : (j i : ℕ) → cluster_at held word ≡ Some j → i < held.count → Of held j i
           → (d : Entry Datum) × Memᴰ d c.entries × (d.version ≡ get_or held.versions i 0) × (d.place.cluster ≡ k)
       shown j i at b o =
           let f = cluster-rules w rules k l in
@@ -89,7 +88,7 @@ module _ (w : List ℕ) (rules : Rules w) where
           let same : x.entry.place.cluster ≡ k = one-cluster w rules x.entry.place.cluster k r.there l (sym r.endpoint ∙ ap (λ (p : AttributePath). p.endpoint) x.same) (sym r.cluster ∙ ap (λ (p : AttributePath). p.cluster) x.same) in
           (x.entry, x.there, x.version, same)
 
-      to : (v : ℕ) → coherent_of held word ≡ just v → CoherentIn c k v
+      to : (v : ℕ) → coherent_of held word ≡ Some v → CoherentIn c k v
       to v h =
           let (j, at, q) = coherent-held held word v h in
           let (primed, low, (i, a, b, o), all) = (coherent-exactly held j v).0 q in
@@ -100,7 +99,7 @@ module _ (w : List ℕ) (rules : Rules w) where
             some = (some.0, some.1, some.3);
           }
 
-      from : (v : ℕ) → CoherentIn c k v → coherent_of held word ≡ just v
+      from : (v : ℕ) → CoherentIn c k v → coherent_of held word ≡ Some v
       from v h =
           let (d, m, e) = h.some in
           let (j, at) = cluster-held held page (cluster_row w k).endpoint (cluster_row w k).cluster (path_at w d.place.attribute).attribute (looked-up d m e) in
@@ -113,5 +112,5 @@ module _ (w : List ℕ) (rules : Rules w) where
             λ n low high o. let (x, mx, vx, ex) = shown j n at (omega (arith, high)) o in sym vx ∙ h.same x mx ex,
           )
 
-      pub coherent-as : (v : ℕ) → (coherent_of held word ≡ just v) ↔ CoherentIn c k v
+      pub coherent-as : (v : ℕ) → (coherent_of held word ≡ Some v) ↔ CoherentIn c k v
       coherent-as v = (to v, from v)

@@ -1,4 +1,5 @@
 -- THE FILTERS OF A READ ARE THE PROTOCOL'S: one for each coherent cluster and no other.
+use Rattle.std.specs.Prelude.{Some, None, Option}
 use mathlib.Core.Path.{◌≡◌, refl, sym, subst, ◌∙◌}
 use mathlib.Core.List.Memᴰ
 use mathlib.Core.List.{List, [], ◌∷◌, Memᴰ}
@@ -6,9 +7,6 @@ use Prim.Native.Nat.{ℕ, ◌/◌, ◌%◌, ◌^◌, ◌<◌}
 use native.Mathlib.Omega.{arith}
 use lib.ListN.{get_or}
 use Rattle.tlv_reader.specs.Value.{Datum}
-use Rattle.tlv_reader.specs.Decode.Opt.{just}
-use Rattle.node_schema.specs.declared.Found.{Found}
-use Rattle.node_schema.specs.declared.Found.TheVariants.{At, Nothing}
 use Rattle.node_schema.specs.Rows.{cluster_row, count_of_clusters}
 use Rattle.node_schema.specs.Rules.{Rules}
 use Rattle.node_schema.specs.Find.{find_cluster}
@@ -45,9 +43,9 @@ module _ (w : List ℕ) (rules : Rules w) where
   unfolding cluster_number
   number_is k l e c pe pc = go (find_cluster w e c) refl
     where
-      go : (f : Found) → find_cluster w e c ≡ f → row_found (count_of_clusters w) f ≡ k
-      go Nothing q = absurd (cluster-none w e c q k l pe pc)
-      go (At i) q =
+      go : (f : (Option ℕ)) → find_cluster w e c ≡ f → row_found (count_of_clusters w) f ≡ k
+      go None q = absurd (cluster-none w e c q k l pe pc)
+      go (Some i) q =
           let r = cluster-found w e c i q in
           one-cluster w rules i k r.0 l (r.1 ∙ sym pe) (r.2 ∙ sym pc)
 
@@ -59,7 +57,7 @@ module _ (w : List ℕ) (rules : Rules w) where
     narrow j b = cluster-below page held cache.valid.held.right j b
 
     -- a cluster that is coherent at the cache is so under its number
-    numbered : (e cl v : ℕ) → e < 2 ^ 16 → cl < 2 ^ 32 → coherent_of held (cluster_word e cl) ≡ just v → CoherentIn c (cluster_number w e cl) v
+    numbered : (e cl v : ℕ) → e < 2 ^ 16 → cl < 2 ^ 32 → coherent_of held (cluster_word e cl) ≡ Some v → CoherentIn c (cluster_number w e cl) v
     numbered e cl v fe fl h =
         let (k, l, pe, pc) = coherent-row w rules sent page s c cache e cl v fe fl h in
         subst (λ (n : ℕ). CoherentIn c n v) (sym (number_is k l e cl pe pc))
@@ -70,7 +68,7 @@ module _ (w : List ℕ) (rules : Rules w) where
     one-coherent f r =
         let e : ℕ = get_or held.clusters r.place 0 / half % 2 ^ 16 in
         let cl : ℕ = get_or held.clusters r.place 0 % half in
-        let at : cluster_at held (cluster_word e cl) ≡ At r.place = found-once held.clusters held.cluster_count cache.held.clusters-once (cluster_word e cl) r.place r.there (omega (arith, narrow r.place r.there)) in
+        let at : cluster_at held (cluster_word e cl) ≡ Some r.place = found-once held.clusters held.cluster_count cache.held.clusters-once (cluster_word e cl) r.place r.there (omega (arith, narrow r.place r.there)) in
         subst (λ (g : VersionFilter). CoherentIn c (filter_as w g).cluster (filter_as w g).version) (sym r.same)
         (numbered e cl r.version (omega arith) (omega arith) (coherent-there held (cluster_word e cl) r.place at ∙ r.coherent))
 

@@ -1,20 +1,17 @@
 -- Blocks leave a cache primed or not as it was, and priming it changes no entry.
+use Rattle.std.specs.Prelude.{Some, None, Option, Ok, Err}
 use mathlib.Core.Path.{◌≡◌, refl, sym, ◌∙◌}
 use mathlib.Core.List.{List, [], ◌∷◌}
 use Prim.Native.Nat.{ℕ}
 use Rattle.tlv_reader.specs.Value.{Datum}
 use Rattle.im_blocks.specs.Data.{ReportOf}
-use Rattle.node_schema.specs.declared.Found.{Found}
-use Rattle.node_schema.specs.declared.Found.TheVariants as found
 use Rattle.node_schema.proofs.BoolLaws.{right}
 use Rattle.cache_entries.specs.declared.Cached.{Cached}
 use Rattle.cache_entries.specs.Entries as cached
 use Rattle.cache_entries.specs.Entries.{lookup}
 use Rattle.cache_entries.specs.Set.{with_cluster, with_entry}
-use Rattle.cache_report.specs.declared.block.Judgement.{Judgement}
-use Rattle.cache_report.specs.declared.block.Judgement.TheVariants.{Taken, Long, Unusable}
-use Rattle.cache_report.specs.declared.position.Position.{Position}
-use Rattle.cache_report.specs.declared.position.Position.TheVariants.{At, Full}
+use Rattle.cache_report.specs.Block.{Judgement}
+use Rattle.cache_report.specs.declared.block.Unfit.TheVariants.{Long, Unusable}
 use Rattle.cache_report.specs.Entry.{position_of, with_item, held_at, held_for}
 use Rattle.cache_report.specs.Part.{judgement_in, held_all}
 use Rattle.cache_receive.specs.Receive.{primed_as}
@@ -26,13 +23,13 @@ use Rattle.proof_refinement.specs.Cache.{HeldAs}
 -- BLOCKS
 primed-one : (c : Cached) (f : Judgement) → (held_for c f).primed ≡ c.primed
 unfolding held_for with_item with_entry with_cluster
-primed-one c Unusable = refl
-primed-one c Long = refl
-primed-one c (Taken x) = go (position_of c x)
+primed-one c (Err Unusable) = refl
+primed-one c (Err Long) = refl
+primed-one c (Ok x) = go (position_of c x)
   where
-    go : (p : Position) → (held_at c x p).primed ≡ c.primed
-    go (At k i) = refl
-    go Full = refl
+    go : (p : (Option (ℕ × ℕ))) → (held_at c x p).primed ≡ c.primed
+    go (Some (k, i)) = refl
+    go None = refl
 
 pub primed-all : (s : List ℕ) (c : Cached) (l : List (ReportOf ℕ)) → (held_all s c l).primed ≡ c.primed
 unfolding held_all
@@ -44,13 +41,13 @@ primed-lookup : (page : List ℕ) (c : Cached) (e cl a : ℕ) → lookup c page 
 unfolding primed_as lookup cached.path_at
 primed-lookup page c e cl a = go (cached.cluster_at c (cached.cluster_word e cl))
   where
-    there : (f : Found) → cached.at_entry c page f ≡ cached.at_entry (primed_as c) page f
-    there (found.At i) = refl
-    there found.Nothing = refl
+    there : (f : (Option ℕ)) → cached.at_entry c page f ≡ cached.at_entry (primed_as c) page f
+    there (Some i) = refl
+    there None = refl
 
-    go : (f : Found) → cached.at_entry c page (cached.in_cluster c a f) ≡ cached.at_entry (primed_as c) page (cached.in_cluster (primed_as c) a f)
-    go (found.At k) = there (cached.entry_at c (cached.key_word k a))
-    go found.Nothing = refl
+    go : (f : (Option ℕ)) → cached.at_entry c page (cached.in_cluster c a f) ≡ cached.at_entry (primed_as c) page (cached.in_cluster (primed_as c) a f)
+    go (Some k) = there (cached.entry_at c (cached.key_word k a))
+    go None = refl
 
 pub primed-held : (w page : List ℕ) (c : Cached) (entries : List (Entry Datum)) → HeldAs w page c entries → HeldAs w page (primed_as c) entries
 unfolding primed_as

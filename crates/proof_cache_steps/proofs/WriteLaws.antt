@@ -1,4 +1,5 @@
 -- A write of the cache is known by its exchange: no other message has it, and equal writes are of one path.
+use Rattle.std.specs.Prelude.{Some, None, Option}
 use mathlib.Core.Path.{◌≡◌, sym, ap, ◌∙◌}
 use mathlib.Core.Logic.{◌⊎◌, inl, inr}
 use mathlib.Core.Bool.{Bool}
@@ -9,23 +10,20 @@ use native.Mathlib.Omega.{arith}
 use lib.ListN.{drop}
 use Rattle.tlv_reader.specs.Tree.{Tree}
 use Rattle.tlv_reader.specs.Value.{Datum}
-use Rattle.tlv_reader.specs.Decode.{Opt}
-use Rattle.tlv_reader.specs.Decode.Opt.{just, nothing}
 use Rattle.im_members.specs.Array.{map_o}
 use Rattle.im_requests.specs.Write.{EntryOf, WriteOf, write_in, write_tree}
 use Rattle.proof_round_trip.specs.Meant.{write_means}
-use Rattle.im_envelope.specs.declared.Envelope.{Envelope}
-use Rattle.im_envelope.specs.declared.Envelope.TheVariants.{Whole, Short}
 use Rattle.im_envelope.specs.Envelope.{envelope_in}
 use Rattle.cache_messages.specs.Messages.{write_message}
 use Rattle.proof_trip.proofs.BeginLaws.{read-envelope, write-envelope, success-envelope, write-meant}
 use Rattle.proof_protocol.specs.Model.{Message, exchange_of}
 use Rattle.proof_refinement.specs.Bytes.{MessageAs, reads, writes, succeeds, WriteFits, Wrote}
 use Rattle.im_writer.specs.Envelope.{envelope_length, cache_edition, exchange_limit}
+use Rattle.im_envelope.specs.declared.Fields.{Fields}
 
-abbrev exchange_in : Envelope → ℕ
-exchange_in (Whole e) = e.exchange
-exchange_in Short = 0
+abbrev exchange_in : Option Fields → ℕ
+exchange_in (Some e) = e.exchange
+exchange_in None = 0
 
 -- a message has its exchange in its envelope
 message-exchange : (w m : List ℕ) (u : Message) → MessageAs w m u → exchange_in (envelope_in m) ≡ exchange_of u
@@ -42,9 +40,9 @@ abbrev first_in : (EntryOf Tree → ℕ) → List (EntryOf Tree) → ℕ
 first_in g [] = 0
 first_in g (y ∷ l) = g y
 
-abbrev first : (EntryOf Tree → ℕ) → Opt (WriteOf Tree) → ℕ
-first g nothing = 0
-first g (just r) = first_in g r.entries
+abbrev first : (EntryOf Tree → ℕ) → Option (WriteOf Tree) → ℕ
+first g None = 0
+first g (Some r) = first_in g r.entries
 
 module _ (x : ℕ) (given : Bool) (version e c a : ℕ) (d : Datum) where
   abbrev message : List ℕ
@@ -54,15 +52,15 @@ module _ (x : ℕ) (given : Bool) (version e c a : ℕ) (d : Datum) where
   one-path : WriteFits version e c a d → (given' : Bool) (version' e' c' a' : ℕ) (d' : Datum) → WriteFits version' e' c' a' d' → write_message cache_edition x given' version' e' c' a' d' ≡ message → (e ≡ e') × (c ≡ c') × (a ≡ a')
   one-path f given' version' e' c' a' d' f' q = (told (λ y. y.endpoint), told (λ y. y.cluster), told (λ y. y.attribute))
     where
-      meant : List ℕ → Opt (WriteOf Tree)
+      meant : List ℕ → Option (WriteOf Tree)
       meant m = map_o (write_tree 7 (drop envelope_length m)) (write_in (drop envelope_length m))
 
-      same : just (write_means given version e c a d) ≡ just (write_means given' version' e' c' a' d')
+      same : Some (write_means given version e c a d) ≡ Some (write_means given' version' e' c' a' d')
       same =
           sym (write-meant cache_edition x given version e c a d f.version-fits f.path f.writable) ∙ ap meant (sym q)
           ∙ write-meant cache_edition x given' version' e' c' a' d' f'.version-fits f'.path f'.writable
 
-      told : (g : EntryOf Tree → ℕ) → first g (just (write_means given version e c a d)) ≡ first g (just (write_means given' version' e' c' a' d'))
+      told : (g : EntryOf Tree → ℕ) → first g (Some (write_means given version e c a d)) ≡ first g (Some (write_means given' version' e' c' a' d'))
       told g = ap (first g) same
 
   -- A WRITE BEGUN: its exchange is new, so any write of it is this one

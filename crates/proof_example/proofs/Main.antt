@@ -1,5 +1,6 @@
 -- THE THEOREMS SAY SOMETHING: the computed run is a run of the ends, calm, and each of its messages arrives. The cluster that did not change is called whole, and stays so until the cache
 -- begins something; it is as the server held it. The one that changed between the parts is not called whole.
+use Rattle.std.specs.Prelude.{Some}
 use mathlib.Core.Path.{◌≡◌, refl, sym, ap, ◌∙◌, subst}
 use mathlib.Core.Logic.{inl, inr}
 use mathlib.Core.List.Memᴰ
@@ -8,7 +9,6 @@ use Prim.Native.Nat.{ℕ, ◌^◌, ◌≤◌, ◌<◌}
 use native.Mathlib.Omega.{arith}
 use lib.ListN.{get_or}
 use Rattle.tlv_reader.specs.declared.Value.TheVariants.{Text}
-use Rattle.tlv_reader.specs.Decode.Opt.{just}
 use Rattle.im_envelope.specs.Envelope.{max_message}
 use Rattle.server_replies.specs.Row.{standing_in}
 use Rattle.server.specs.Start.{fresh_row}
@@ -152,12 +152,12 @@ stays-whole =
     some : MayReadSome plan changed 1 6
     some = (0, server-calls.may-read6.0, omega arith, rw changed-holds.server-is server-calls.may-read6.1)
 
-    version5 : version_of plan changed 1 6 ≡ just 5
-    version5 = rw (server-calls.row6, changed-holds.server-is) (ap just server-calls.stands.2)
+    version5 : version_of plan changed 1 6 ≡ Some 5
+    version5 = rw (server-calls.row6, changed-holds.server-is) (ap Some server-calls.stands.2)
 
 -- and by the first half the server has held version 5 of cluster 6, and the cache's entries are what it may read there, as held then
-pub held : ((x : World) × Visits (join reach run) x × (version_of plan x 1 6 ≡ just 5))
-    × ((x : World) → Visits (join reach run) x → version_of plan x 1 6 ≡ just 5
+pub held : ((x : World) × Visits (join reach run) x × (version_of plan x 1 6 ≡ Some 5))
+    × ((x : World) → Visits (join reach run) x → version_of plan x 1 6 ≡ Some 5
     → (attribute : ℕ) → attribute < 2 ^ 32 → says_entry ended.page ended.cache 1 6 attribute ≡ entry_said (entry_for (shown plan x 1 6 attribute)))
 held = first-half plan start ended (join reach run) 1 6 5 (omega arith) (omega arith) few whole
   where

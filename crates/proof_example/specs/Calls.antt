@@ -1,10 +1,8 @@
 -- THE CALLS of the run, each with all that it answers and leaves.
-use Rattle.std.specs.Prelude.{◌≡◌, true, List, [], ◌∷◌, ℕ, ◌*◌, ◌^◌, length, get_or}
+use Rattle.std.specs.Prelude.{◌≡◌, true, List, [], ◌∷◌, ℕ, ◌*◌, ◌^◌, length, get_or, Some}
 use Rattle.base_utf8.specs.Bytewise.{all_below}
 use Rattle.tlv_reader.specs.declared.Value.TheVariants.{Text}
-use Rattle.tlv_reader.specs.Decode.Opt.{just}
 use Rattle.im_envelope.specs.Envelope.{max_message}
-use Rattle.node_schema.specs.declared.Found.TheVariants.{At}
 use Rattle.node_schema.specs.Layout.{text_size}
 use Rattle.node_schema.specs.Check.{count_of_texts}
 use Rattle.node_schema.specs.Find.{find_cluster}
@@ -66,8 +64,8 @@ pub record ServerCalls : Type 0 where
   pub part1-sent : Sent part1
   pub part2-sent : Sent part2
   -- cluster 6 has something to read, and is at version 5 throughout
-  pub row6 : find_cluster plan.words 1 6 ≡ At 0
-  pub may-read6 : (e : CacheEntry) × (entry_for (block_of plan.words sign2.values plan.defaults sign2.edits (asked 1 6 0) (concrete_item plan.words (granted plan) [] (asked 1 6 0))) ≡ just e)
+  pub row6 : find_cluster plan.words 1 6 ≡ Some 0
+  pub may-read6 : (e : CacheEntry) × (entry_for (block_of plan.words sign2.values plan.defaults sign2.edits (asked 1 6 0) (concrete_item plan.words (granted plan) [] (asked 1 6 0))) ≡ Some e)
   pub stands : (version6 sign0 ≡ 5) × (version6 sign1 ≡ 5) × (version6 sign2 ≡ 5) × (version6 sign3 ≡ 5)
 
 -- a cache reacts so

@@ -1,4 +1,5 @@
 -- The hypotheses of the second half can always be met: whatever has happened, all messages of a read that begins can arrive.
+use Rattle.std.specs.Prelude.{Some, None, Option}
 use mathlib.Core.Path.{◌≡◌, refl, sym, ap, ◌∙◌, subst}
 use mathlib.Core.Logic.{◌⊎◌, inl, inr}
 use mathlib.Core.Bool.{Bool, true, false, ◌&&◌}
@@ -8,9 +9,6 @@ use native.Mathlib.Omega.{arith}
 use lib.Dec.{T, eqb}
 use lib.ListN.{length}
 use Rattle.tlv_reader.specs.Value.{Datum}
-use Rattle.tlv_reader.specs.Decode.Opt.{just}
-use Rattle.im_envelope.specs.declared.Envelope.{Envelope}
-use Rattle.im_envelope.specs.declared.Envelope.TheVariants.{Whole, Short}
 use Rattle.im_envelope.specs.Envelope.{envelope_in, max_message}
 use Rattle.cache_state.specs.Reaction.{CacheReaction}
 use Rattle.cache_state.specs.Begin as begin
@@ -42,6 +40,7 @@ use Rattle.proof_promises.specs.Follows.{ReplyOf, part, answer, Stands, node}
 use Rattle.proof_promises.proofs.Stands.{with_cases, with-new, with_none, server-stands}
 use Rattle.proof_promises.proofs.StepLaws.{rules, older, serves-as, takes_part_lem, taken, receive-same, some-message, begun}
 use Rattle.proof_promises.proofs.FirstLaws.{just-same, nothing-just, from-fresh}
+use Rattle.im_envelope.specs.declared.Fields.{Fields}
 
 longer : {A : Type 0} (x : A) (l : List A) → l ≡ x ∷ l → ⊥
 longer x l h = let z : length l ≡ suc (length l) = ap length h in omega (arith, z)
@@ -253,18 +252,18 @@ module _ (p : Plan) (b : Start p) where
     v = after_cache u z
 
     -- an exchange that was used is not the new one
-    abbrev Below : Envelope → Type 0
-    Below Short = Unit {0}
-    Below (Whole f) = f.exchange ≤ s.cache.exchange
+    abbrev Below : Option Fields → Type 0
+    Below None = Unit {0}
+    Below (Some f) = f.exchange ≤ s.cache.exchange
 
     request-below : (m : List ℕ) → Memᴰ m u.requests → Below (envelope_in m)
     request-below m i =
         let r = older p b u s stands follows m i in
         go (envelope_in m) (message-in w m r.0 r.1) r.2
       where
-        go : {n : ℕ} (e : Envelope) → InExchange n e → n ≤ s.cache.exchange → Below e
-        go Short h l = tt
-        go (Whole f) h l = omega (arith, h, l)
+        go : {n : ℕ} (e : (Option Fields)) → InExchange n e → n ≤ s.cache.exchange → Below e
+        go None h l = tt
+        go (Some f) h l = omega (arith, h, l)
 
     reply-below : (m : List ℕ) → Memᴰ m u.replies → Below (envelope_in m)
     reply-below m i = go (stands.replies m i)
@@ -277,9 +276,9 @@ module _ (p : Plan) (b : Start p) where
             subst Below (sym (ap envelope_in e ∙ answer-envelope n o fn))
             (subst Below (write-envelope cache_edition n wrote.given wrote.version o.endpoint o.cluster o.attribute wrote.value (omega arith) fn) (request-below _ wrote.there))
 
-    not_new : (n : ℕ) (e : Envelope) → Below e → claims.exchange_of e ≡ just n → s.cache.exchange < n → ⊥
-    not_new n Short h q l = nothing-just n q
-    not_new n (Whole f) h q l = let same : f.exchange ≡ n = just-same f.exchange n q in omega (arith, h, same, l)
+    not_new : (n : ℕ) (e : (Option Fields)) → Below e → claims.exchange_of e ≡ Some n → s.cache.exchange < n → ⊥
+    not_new n None h q l = nothing-just n q
+    not_new n (Some f) h q l = let same : f.exchange ≡ n = just-same f.exchange n q in omega (arith, h, same, l)
 
     begins : z.number ≡ 0 → Complete p v
     unfolding begin_read after_cache

@@ -1,4 +1,5 @@
 -- What the ends answer, in the terms of the protocol: which cluster is called whole, what may be read of one path, what the cache has for it.
+use Rattle.std.specs.Prelude.{Some, None, Option}
 use mathlib.Core.Path.{◌≡◌, refl, sym, ap, ◌∙◌}
 use mathlib.Core.Bool.{Bool, true, false, not, true≢false}
 use mathlib.Core.List.{List, [], ◌∷◌}
@@ -7,10 +8,6 @@ use native.Mathlib.Omega.{arith}
 use borrow.Author.Tests.{lt-ltb}
 use lib.Dec.{eqb}
 use lib.ListN.{get_or}
-use Rattle.tlv_reader.specs.Decode.{Opt}
-use Rattle.tlv_reader.specs.Decode.Opt.{just, nothing}
-use Rattle.node_schema.specs.declared.Found.{Found}
-use Rattle.node_schema.specs.declared.Found.TheVariants as found
 use Rattle.node_schema.specs.Rows.{cluster_row, attribute_row, count_of_clusters, count_of_attributes}
 use Rattle.node_schema.specs.Rules.{AttributePath, path, path_at, Rules}
 use Rattle.node_schema.specs.Find.{find_cluster}
@@ -40,26 +37,26 @@ use Rattle.proof_promises.specs.World.{Plan, World, granted}
 use Rattle.proof_promises.specs.Claims.{on_row, version_of, changes_of, asked, shown, entry_for}
 
 -- A CLUSTER IS CALLED WHOLE exactly if it is coherent
-version-said : (o : Opt ℕ) (v : ℕ) → version_said o ≡ said 0 (v ∷ []) → o ≡ just v
-version-said nothing v h = let z : ◌≡◌ {A = ℕ} 1 0 = ap (λ (x : Said). x.number) h in absurd (omega (arith, z))
-version-said (just x) v h = ap just (ap (λ (y : Said). get_or y.values 0 0) h)
+version-said : (o : Option ℕ) (v : ℕ) → version_said o ≡ said 0 (v ∷ []) → o ≡ Some v
+version-said None v h = let z : ◌≡◌ {A = ℕ} 1 0 = ap (λ (x : Said). x.number) h in absurd (omega (arith, z))
+version-said (Some x) v h = ap Some (ap (λ (y : Said). get_or y.values 0 0) h)
 
 -- what has a version is shown
-versioned-all : (o : Opt CacheEntry) → ((x : CacheEntry) → o ≡ just x → x.version < no_version) → versioned o ≡ o
-versioned-all nothing h = refl
-versioned-all (just x) h = rw (lt-ltb x.version no_version (h x refl)) refl
+versioned-all : (o : Option CacheEntry) → ((x : CacheEntry) → o ≡ Some x → x.version < no_version) → versioned o ≡ o
+versioned-all None h = refl
+versioned-all (Some x) h = rw (lt-ltb x.version no_version (h x refl)) refl
 
 module _ (page : List ℕ) (s : CacheState) (valid : ValidCache page s) where
   says-version : (e c : ℕ) → says_whole page s e c ≡ version_said (coherent_of s.held (cluster_word e c))
   says-version e c = rw (valid-right page s valid) refl
 
-  pub whole-coherent : (e c v : ℕ) → says_whole page s e c ≡ said 0 (v ∷ []) → coherent_of s.held (cluster_word e c) ≡ just v
+  pub whole-coherent : (e c v : ℕ) → says_whole page s e c ≡ said 0 (v ∷ []) → coherent_of s.held (cluster_word e c) ≡ Some v
   whole-coherent e c v h = version-said (coherent_of s.held (cluster_word e c)) v (sym (says-version e c) ∙ h)
 
-  pub coherent-whole : (e c v : ℕ) → coherent_of s.held (cluster_word e c) ≡ just v → says_whole page s e c ≡ said 0 (v ∷ [])
+  pub coherent-whole : (e c v : ℕ) → coherent_of s.held (cluster_word e c) ≡ Some v → says_whole page s e c ≡ said 0 (v ∷ [])
   coherent-whole e c v h = says-version e c ∙ ap version_said h
 
-  pub says-held : (e c a : ℕ) → ((x : CacheEntry) → lookup s.held page e c a ≡ just x → x.version < no_version) → says_entry page s e c a ≡ entry_said (lookup s.held page e c a)
+  pub says-held : (e c a : ℕ) → ((x : CacheEntry) → lookup s.held page e c a ≡ Some x → x.version < no_version) → says_entry page s e c a ≡ entry_said (lookup s.held page e c a)
   says-held e c a h = rw (valid-right page s valid) (ap entry_said (versioned-all (lookup s.held page e c a) h))
 
 module _ (p : Plan) (rules : Rules p.words) where
@@ -67,16 +64,16 @@ module _ (p : Plan) (rules : Rules p.words) where
   w = p.words
 
   -- THE ROW of a cluster
-  pub row-found : (k : ℕ) → k < count_of_clusters w → (e c : ℕ) → (cluster_row w k).endpoint ≡ e → (cluster_row w k).cluster ≡ c → find_cluster w e c ≡ found.At k
+  pub row-found : (k : ℕ) → k < count_of_clusters w → (e c : ℕ) → (cluster_row w k).endpoint ≡ e → (cluster_row w k).cluster ≡ c → find_cluster w e c ≡ Some k
   row-found k l e c qe qc = go (find_cluster w e c) refl
     where
-      go : (f : Found) → find_cluster w e c ≡ f → find_cluster w e c ≡ found.At k
-      go (found.At j) h = let r = cluster-found w e c j h in h ∙ ap found.At (one-cluster w rules j k r.0 l (r.1 ∙ sym qe) (r.2 ∙ sym qc))
-      go found.Nothing h = absurd (cluster-none w e c h k l qe qc)
+      go : (f : (Option ℕ)) → find_cluster w e c ≡ f → find_cluster w e c ≡ Some k
+      go (Some j) h = let r = cluster-found w e c j h in h ∙ ap Some (one-cluster w rules j k r.0 l (r.1 ∙ sym qe) (r.2 ∙ sym qc))
+      go None h = absurd (cluster-none w e c h k l qe qc)
 
-  module _ (k e c : ℕ) (h : find_cluster w e c ≡ found.At k) where
-    pub version-at : (u : World) → version_of p u e c ≡ just (get_or u.server.values.versions k 0)
-    version-at u = ap (on_row nothing (λ (j : ℕ). just (get_or u.server.values.versions j 0))) h
+  module _ (k e c : ℕ) (h : find_cluster w e c ≡ Some k) where
+    pub version-at : (u : World) → version_of p u e c ≡ Some (get_or u.server.values.versions k 0)
+    version-at u = ap (on_row None (λ (j : ℕ). Some (get_or u.server.values.versions j 0))) h
 
     pub changes-at : (u : World) → changes_of p u e c ≡ u.changes k
     changes-at u = ap (on_row 0 u.changes) h
@@ -93,8 +90,8 @@ module _ (p : Plan) (rules : Rules p.words) where
   -- WHAT MAY BE READ of one path
   pub data Sees (u : World) (e c a : ℕ) : Type 0 where
     value : (i : ℕ) → i < count_of_attributes w → path_at w i ≡ path e c a → may_read w (granted p) i ≡ true
-        → entry_for (shown p u e c a) ≡ just (record { version = version_at w u.server.values i; value = datum_at w p.defaults u.server.edits u.server.values i }) → Sees u e c a
-    none : entry_for (shown p u e c a) ≡ nothing → ((i : ℕ) → i < count_of_attributes w → path_at w i ≡ path e c a → may_read w (granted p) i ≡ true → ⊥) → Sees u e c a
+        → entry_for (shown p u e c a) ≡ Some (record { version = version_at w u.server.values i; value = datum_at w p.defaults u.server.edits u.server.values i }) → Sees u e c a
+    none : entry_for (shown p u e c a) ≡ None → ((i : ℕ) → i < count_of_attributes w → path_at w i ≡ path e c a → may_read w (granted p) i ≡ true → ⊥) → Sees u e c a
 
   -- attribute i, by whether it may be read
   item-read : (i : ℕ) → may_read w (granted p) i ≡ true → read_item w (granted p) [] i ≡ item.Value i

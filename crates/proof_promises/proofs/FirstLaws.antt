@@ -1,13 +1,11 @@
 -- THE FIRST HALF: what the cache calls whole is what the server held.
+use Rattle.std.specs.Prelude.{Some, None, Option}
 use mathlib.Core.Path.{◌≡◌, refl, sym, ap, ◌∙◌}
 use mathlib.Core.List.{List, Memᴰ}
 use Prim.Native.Nat.{ℕ, ◌^◌, ◌<◌}
 use native.Mathlib.Omega.{arith}
 use lib.ListN.{get_or}
 use Rattle.tlv_reader.specs.Value.{Datum}
-use Rattle.tlv_reader.specs.Decode.{Opt}
-use Rattle.tlv_reader.specs.Decode.Opt.{just, nothing}
-use Rattle.node_schema.specs.declared.Found.TheVariants as found
 use Rattle.node_schema.specs.Rows.{cluster_row, attribute_row, count_of_clusters}
 use Rattle.node_schema.specs.Rules.{AttributePath, path, path_at}
 use Rattle.node_schema.specs.Find.{find_cluster}
@@ -33,15 +31,15 @@ use Rattle.proof_promises.proofs.StepLaws.{rules, stands-fresh}
 use Rattle.proof_promises.proofs.RunLaws.{follow}
 use Rattle.proof_promises.proofs.AskLaws.{whole-coherent, says-held, row-found, version-at, changes-at, of-cluster, Sees, value, none, sees}
 
-pub just-same : {A : Type 0} (x y : A) → just x ≡ just y → x ≡ y
+pub just-same : {A : Type 0} (x y : A) → Some x ≡ Some y → x ≡ y
 just-same x y h = cc
 
-pub nothing-just : {A : Type 0} (x : A) → nothing ≡ just x → ⊥
+pub nothing-just : {A : Type 0} (x : A) → None ≡ Some x → ⊥
 nothing-just x h = let z : ◌≡◌ {A = ℕ} 0 1 = cc in omega (arith, z)
 
-nothing-or : {A : Type 0} (o : Opt A) → ((x : A) → o ≡ just x → ⊥) → o ≡ nothing
-nothing-or nothing f = refl
-nothing-or (just x) f = absurd (f x refl)
+nothing-or : {A : Type 0} (o : Option A) → ((x : A) → o ≡ Some x → ⊥) → o ≡ None
+nothing-or None f = refl
+nothing-or (Some x) f = absurd (f x refl)
 
 module _ (p : Plan) (b : Start p) where
   abbrev w : List ℕ
@@ -52,8 +50,8 @@ module _ (p : Plan) (b : Start p) where
   from-fresh run = follow p b run (model.start (node p b)) (stands-fresh p b) steps.none
 
   -- the cache and the server agree on one path
-  module _ (u : World) (s : System Datum) (hu : Stands p u s) (reach : steps.Reach (node p b) s) (x : World) (t : System Datum) (hx : Stands p x t) (k e c v : ℕ) (row : find_cluster w e c ≡ found.At k) (fe : e < 2 ^ 16) (fc : c < 2 ^ 32)
-      (version : version_of p x e c ≡ just v) (exact : Exact (node p b) k v (t.clusters k).values s.cache.entries) where
+  module _ (u : World) (s : System Datum) (hu : Stands p u s) (reach : steps.Reach (node p b) s) (x : World) (t : System Datum) (hx : Stands p x t) (k e c v : ℕ) (row : find_cluster w e c ≡ Some k) (fe : e < 2 ^ 16) (fc : c < 2 ^ 32)
+      (version : version_of p x e c ≡ Some v) (exact : Exact (node p b) k v (t.clusters k).values s.cache.entries) where
     held-version : get_or x.server.values.versions k 0 ≡ v
     held-version = just-same _ _ (sym (version-at p (rules p b) k e c row x) ∙ version)
 
@@ -78,7 +76,7 @@ module _ (p : Plan) (b : Start p) where
             only : (Memᴰ d.place (node p b).readable) × (d.version ≡ v) × (d.value ≡ (t.clusters k).values d.place.attribute)
             only = exact.only d had.1 (ap (λ (z : ConcretePath). z.cluster) had.2 ∙ cluster)
 
-            there : lookup u.cache.held u.page e c a ≡ just (record { version = d.version; value = d.value })
+            there : lookup u.cache.held u.page e c a ≡ Some (record { version = d.version; value = d.value })
             there =
                 let z : path_at w d.place.attribute ≡ path e c a = ap (path_at w) row_is ∙ q in
                 (λ j. lookup u.cache.held u.page (sym (ap (λ (y : AttributePath). y.endpoint) z) j) (sym (ap (λ (y : AttributePath). y.cluster) z) j) (sym (ap (λ (y : AttributePath). y.attribute) z) j)) ∙ hu.cache.held.has d had.1
@@ -89,11 +87,11 @@ module _ (p : Plan) (b : Start p) where
             dated : d.version ≡ version_at w x.server.values i
             dated = only.1 ∙ sym held-version ∙ ap (λ (n : ℕ). get_or x.server.values.versions n 0) (sym cluster)
 
-            same : ◌≡◌ {A = Opt cached.CacheEntry} (just (record { version = d.version; value = d.value })) (just (record { version = version_at w x.server.values i; value = datum_at w p.defaults x.server.edits x.server.values i }))
-            same j = just (record { version = dated j; value = holds j })
+            same : ◌≡◌ {A = Option cached.CacheEntry} (Some (record { version = d.version; value = d.value })) (Some (record { version = version_at w x.server.values i; value = datum_at w p.defaults x.server.edits x.server.values i }))
+            same j = Some (record { version = dated j; value = holds j })
         go (none is never) = nothing-or (lookup u.cache.held u.page e c a) no ∙ sym is
           where
-            no : (y : cached.CacheEntry) → lookup u.cache.held u.page e c a ≡ just y → ⊥
+            no : (y : cached.CacheEntry) → lookup u.cache.held u.page e c a ≡ Some y → ⊥
             no y h =
                 let f : Found w s.cache.entries e c a y = hu.cache.held.only e c a fe fc fa y h in
                 let d = f.entry in
@@ -109,7 +107,7 @@ first-half p b u run e c v fe fc few whole = (held, exactly)
     s : System Datum
     s = f.end
 
-    coherent : coherent_of u.cache.held (cluster_word e c) ≡ just v
+    coherent : coherent_of u.cache.held (cluster_word e c) ≡ Some v
     coherent = whole-coherent u.page u.cache f.stands.cache.valid e c v whole
 
     at : (k : ℕ) × (k < count_of_clusters p.words) × ((cluster_row p.words k).endpoint ≡ e) × ((cluster_row p.words k).cluster ≡ c)
@@ -118,7 +116,7 @@ first-half p b u run e c v fe fc few whole = (held, exactly)
     k : ℕ
     k = at.0
 
-    row : find_cluster p.words e c ≡ found.At k
+    row : find_cluster p.words e c ≡ Some k
     row = row-found p (rules p b) k at.1 e c at.2 at.3
 
     is : CoherentIn s.cache k v
@@ -131,19 +129,19 @@ first-half p b u run e c v fe fc few whole = (held, exactly)
         × ((t : System Datum) → steps.Visits f.follows t → (t.clusters k).version ≡ v → Exact (node p b) k v (t.clusters k).values s.cache.entries)
     law = protocol.first-half Datum (node p b) s f.follows k v changed is
 
-    held : (x : World) × Visits run x × (version_of p x e c ≡ just v)
+    held : (x : World) × Visits run x × (version_of p x e c ≡ Some v)
     held =
         let t = law.0 in
         let x = f.origin t.0 t.1 in
-        (x.0, x.1, version-at p (rules p b) k e c row x.0 ∙ ap just (sym (x.2.server.held.versions k at.1) ∙ t.2))
+        (x.0, x.1, version-at p (rules p b) k e c row x.0 ∙ ap Some (sym (x.2.server.held.versions k at.1) ∙ t.2))
 
     -- what is held is of the server, and so has a version
-    has-version : (a : ℕ) → a < 2 ^ 32 → (y : cached.CacheEntry) → lookup u.cache.held u.page e c a ≡ just y → y.version < 2 ^ 32
+    has-version : (a : ℕ) → a < 2 ^ 32 → (y : cached.CacheEntry) → lookup u.cache.held u.page e c a ≡ Some y → y.version < 2 ^ 32
     has-version a fa y h =
         let i = f.stands.cache.held.only e c a fe fc fa y h in
         omega (arith, i.version, (f.stands.cache.held.right i.entry i.there).version)
 
-    exactly : (x : World) → Visits run x → version_of p x e c ≡ just v → (a : ℕ) → a < 2 ^ 32 → says_entry u.page u.cache e c a ≡ entry_said (entry_for (shown p x e c a))
+    exactly : (x : World) → Visits run x → version_of p x e c ≡ Some v → (a : ℕ) → a < 2 ^ 32 → says_entry u.page u.cache e c a ≡ entry_said (entry_for (shown p x e c a))
     exactly x i version a fa =
         let t = f.visited x i in
         let same : (t.0.clusters k).version ≡ v = t.2.server.held.versions k at.1 ∙ just-same _ _ (sym (version-at p (rules p b) k e c row x) ∙ version) in

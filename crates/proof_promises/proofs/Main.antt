@@ -1,10 +1,9 @@
 -- DEMAND 3, proved over both ends as they are: the statements stand in specs/Claims.antt.
+use Rattle.std.specs.Prelude.{Some, None, Option}
 use mathlib.Core.Path.{◌≡◌, sym, ap, ◌∙◌}
 use Prim.Native.Nat.{ℕ, ◌≤◌, max}
 use native.Mathlib.Omega.{arith}
 use Rattle.node_schema.specs.Rows.{count_of_attributes}
-use Rattle.im_envelope.specs.declared.Envelope.{Envelope}
-use Rattle.im_envelope.specs.declared.Envelope.TheVariants.{Whole, Short}
 use Rattle.im_envelope.specs.Envelope.{envelope_in}
 use Rattle.proof_protocol.specs.Model as Model
 use Rattle.proof_protocol.proofs.Inductive.{reach-inv}
@@ -21,6 +20,7 @@ use Rattle.proof_promises.proofs.OnceLaws as single
 use Rattle.proof_promises.proofs.SecondLaws as second
 use Rattle.proof_promises.proofs.ArriveLaws as arrive
 use Rattle.proof_promises.proofs.NeverLaws as fair
+use Rattle.im_envelope.specs.declared.Fields.{Fields}
 
 -- RULES 0.3 b
 pub first-half : FirstHalf
@@ -45,9 +45,9 @@ few-parts p b u reach m i k e o = go (f.stands.replies m i)
     f : Follows p b reach (Model.start (node p b))
     f = from-fresh p b reach
 
-    turn_in : Envelope → ℕ
-    turn_in Short = 0
-    turn_in (Whole x) = x.turn
+    turn_in : Option Fields → ℕ
+    turn_in None = 0
+    turn_in (Some x) = x.turn
 
     go : ReplyOf p.words u.requests f.end.parts m → k.turn ≤ max 1 (count_of_attributes p.words)
     go (part q j z) =

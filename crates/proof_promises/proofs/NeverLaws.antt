@@ -1,4 +1,5 @@
 -- NEVER 2 along a run, and never 6 or 7 to what the server sent.
+use Rattle.std.specs.Prelude.{Some, None, Option}
 use mathlib.Core.Path.{◌≡◌, refl, sym, ap, ◌∙◌, subst}
 use mathlib.Core.Bool.{Bool}
 use mathlib.Core.Logic.{◌⊎◌, inl, inr}
@@ -10,8 +11,6 @@ use lib.Dec.{ltb}
 use Rattle.tlv_reader.specs.declared.Value.{Value}
 use Rattle.tlv_reader.specs.Value.{Datum}
 use Rattle.tlv_reader.proofs.Picks.{pick-elim}
-use Rattle.node_schema.specs.declared.Found.{Found}
-use Rattle.node_schema.specs.declared.Found.TheVariants as found
 use Rattle.node_schema.specs.Find.{find_cluster, find_attribute, has_endpoint}
 use Rattle.node_schema.proofs.BoolLaws.{by-test}
 use Rattle.node_kinds.specs.declared.Verdict.{Verdict}
@@ -57,13 +56,13 @@ located-code : (w : List ℕ) (e c a : ℕ) → NotTwo (located w e c a)
 unfolding located
 located-code w e c a = pick-elim NotTwo (has_endpoint w e) _ _ (λ _. in-cluster (find_cluster w e c)) (λ _ z. omega (arith, z))
   where
-    in-attribute : (f : Found) → NotTwo (attribute_found f)
-    in-attribute (found.At i) = tt
-    in-attribute found.Nothing = λ z. omega (arith, z)
+    in-attribute : (f : (Option ℕ)) → NotTwo (attribute_found f)
+    in-attribute (Some i) = tt
+    in-attribute None = λ z. omega (arith, z)
 
-    in-cluster : (f : Found) → NotTwo (cluster_found w a f)
-    in-cluster (found.At k) = in-attribute (find_attribute w k a)
-    in-cluster found.Nothing = λ z. omega (arith, z)
+    in-cluster : (f : (Option ℕ)) → NotTwo (cluster_found w a f)
+    in-cluster (Some k) = in-attribute (find_attribute w k a)
+    in-cluster None = λ z. omega (arith, z)
 
 changed-code : (w defaults : List ℕ) (h : HeldValues) (e c a : ℕ) (src : List ℕ) (new : Value) → (changed w defaults h e c a src new).code ≡ 2 → ⊥
 unfolding changed offered status_code

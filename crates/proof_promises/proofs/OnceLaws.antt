@@ -1,4 +1,5 @@
 -- EACH STEP THAT THE SECOND HALF SPEAKS OF is the only one of its kind in a run.
+use Rattle.std.specs.Prelude.{Some, None, Option}
 use mathlib.Core.Path.{◌≡◌, refl, sym, ap, ◌∙◌, subst}
 use mathlib.Core.Logic.{◌⊎◌, inl, inr}
 use mathlib.Core.Bool.{true, false, true≢false}
@@ -9,8 +10,6 @@ use borrow.Author.Tests.{eq-eqb, ne_eqb}
 use lib.Dec.{eqb}
 use Rattle.tlv_reader.specs.Value.{Datum}
 use Rattle.im_envelope.specs.declared.Fields.{Fields}
-use Rattle.im_envelope.specs.declared.Envelope.{Envelope}
-use Rattle.im_envelope.specs.declared.Envelope.TheVariants.{Whole, Short}
 use Rattle.im_envelope.specs.Envelope.{envelope_in}
 use Rattle.im_exchange.specs.Rules.{report_opcode}
 use Rattle.cache_state.specs.State.{reading, last_part}
@@ -155,15 +154,15 @@ module _ (p : Plan) (b : Start p) where
       (one-reply k.at (passes-reach reach run k.at k.next k.passes).0 m m' k.room l.room k.made there k.before.0 (subst (λ (y : World). y.cache.asked.stage ≡ last_part) k.taken k.after.0) ends, same)
 
   -- a report of an exchange is made when that is taken
-  report-taken : {u : World} → Reach p b u → (m : List ℕ) → Memᴰ m u.replies → (f : Fields) → envelope_in m ≡ Whole f → f.opcode ≡ report_opcode → Taken f.exchange u
+  report-taken : {u : World} → Reach p b u → (m : List ℕ) → Memᴰ m u.replies → (f : Fields) → envelope_in m ≡ Some f → f.opcode ≡ report_opcode → Taken f.exchange u
   report-taken {u} reach m i f e o = go (g.stands.replies m i)
     where
       g : Follows p b reach (start (node p b))
       g = from-fresh p b reach
 
-      exchange_in : Envelope → ℕ
-      exchange_in Short = 0
-      exchange_in (Whole x) = x.exchange
+      exchange_in : Option Fields → ℕ
+      exchange_in None = 0
+      exchange_in (Some x) = x.exchange
 
       go : ReplyOf p.words u.requests g.end.parts m → Taken f.exchange u
       go (part q j z) =

@@ -1,4 +1,5 @@
 -- THE SECOND HALF: a read whose messages all arrive ends, and leaves every unchanged cluster whole.
+use Rattle.std.specs.Prelude.{Some, None, Option}
 use mathlib.Core.Path.{◌≡◌, refl, sym, ap, ◌∙◌, subst}
 use mathlib.Core.Logic.{◌⊎◌, inl, inr}
 use mathlib.Core.Bool.{Bool, true, false, true≢false}
@@ -9,9 +10,7 @@ use borrow.Author.Tests.{eq-eqb}
 use lib.Dec.{eqb, eqb→eq}
 use Rattle.tlv_reader.specs.Value.{Datum}
 use Rattle.tlv_reader.specs.Octet.{pick}
-use Rattle.tlv_reader.specs.Decode.Opt.{just}
 use Rattle.im_members.specs.Scalar.{ABSENT}
-use Rattle.node_schema.specs.declared.Found.TheVariants as found
 use Rattle.node_schema.specs.Rows.{cluster_row, attribute_row, count_of_clusters, count_of_attributes}
 use Rattle.node_schema.specs.Rules.{AttributePath, path, path_at}
 use Rattle.node_schema.specs.Find.{find_cluster}
@@ -19,8 +18,6 @@ use Rattle.node_schema.proofs.RulesLaws.{path-word}
 use Rattle.node_schema.proofs.PathLaws.{cluster-there}
 use Rattle.im_responses.specs.Report.{part_in}
 use Rattle.im_exchange.specs.Rules.{report_opcode}
-use Rattle.im_envelope.specs.declared.Envelope.{Envelope}
-use Rattle.im_envelope.specs.declared.Envelope.TheVariants.{Whole, Short}
 use Rattle.im_envelope.specs.Envelope.{envelope_in}
 use Rattle.cache_entries.specs.Entries.{cluster_word}
 use Rattle.cache_state.specs.State.{reading, last_part}
@@ -55,11 +52,12 @@ use Rattle.proof_promises.proofs.AskLaws as asks
 use Rattle.proof_promises.proofs.StageLaws.{Goes, run-goes, Handed, begins-none-step}
 use Rattle.proof_promises.proofs.FirstLaws.{nothing-just, from-fresh}
 use Rattle.proof_promises.proofs.TakenLaws.{ended_by_lem}
+use Rattle.im_envelope.specs.declared.Fields.{Fields}
 
 -- a message of an exchange, as the claims have it and as the protocol has it
-in-exchange : (x : ℕ) (e : Envelope) → InExchange x e → exchange_of e ≡ just x
-in-exchange x Short h = absurd h
-in-exchange x (Whole f) h = ap just h
+in-exchange : (x : ℕ) (e : (Option Fields)) → InExchange x e → exchange_of e ≡ Some x
+in-exchange x None h = absurd h
+in-exchange x (Some f) h = ap Some h
 
 -- what was got in a run was there
 last : {n : model.Node Datum} {s t : System Datum} (run : steps.Run n s t) → steps.Visits run t
@@ -82,9 +80,9 @@ got-there {n} {s} (steps.then {t = t'} run x) q g = go (got-there run q) g
     go f (inr k) = (t', inl (last run), step-there x q k)
 
 -- the exchange and turn of a part are in its bytes
-abbrev fields_in : Envelope → ℕ × ℕ
-fields_in Short = (0, 0)
-fields_in (Whole f) = (f.exchange, f.turn)
+abbrev fields_in : Option Fields → ℕ × ℕ
+fields_in None = (0, 0)
+fields_in (Some f) = (f.exchange, f.turn)
 
 same-part : (w : List ℕ) (q r : Part Datum) → PartRight w q → PartRight w r → part_bytes w q ≡ part_bytes w r → (q.exchange ≡ r.exchange) × (q.turn ≡ r.turn)
 same-part w q r a c e =
@@ -139,7 +137,7 @@ module _ (p : Plan) (b : Start p) {u v : World} (reach : Reach p b u) (exchange 
   got : (q : Part Datum) → Memᴰ q t.parts → q.exchange ≡ s.cache.exchange → steps.Got q g.follows
   got q i e =
       let r = g.stands.parts q i in
-      let here : In u.cache.asked.exchange (part_bytes w q) = ap exchange_of (part-envelope w q r.1) ∙ ap just (e ∙ own) in
+      let here : In u.cache.asked.exchange (part_bytes w q) = ap exchange_of (part-envelope w q r.1) ∙ ap Some (e ∙ own) in
       let k : Took p b (part_bytes w q) g.follows = g.got (part_bytes w q) (arrived.replies (part_bytes w q) r.0 here) q r.1 refl in
       let at = got-there g.follows k.part-got k.got-it in
       let there : Memᴰ k.part-got t.parts = none-begun-parts (node p b) g.follows none-begun-model at.0 at.1 k.part-got at.2 in
@@ -301,12 +299,12 @@ module _ (p : Plan) (b : Start p) {u v : World} (reach : Reach p b u) (exchange 
 
   -- THE CLUSTERS
   settled : (e c : ℕ) → MayReadSome p made_at.0 e c → changes_of p taken_at.0 e c ≡ changes_of p made_at.0 e c
-      → (version : ℕ) × (version_of p made_at.0 e c ≡ just version) × Stays p ended_at.1 (λ z. CallsWhole z e c version)
+      → (version : ℕ) × (version_of p made_at.0 e c ≡ Some version) × Stays p ended_at.1 (λ z. CallsWhole z e c version)
   settled e c some still = go (sees p (rules p b) made_at.0 e c some.0)
     where
-      go : Sees p (rules p b) made_at.0 e c some.0 → (version : ℕ) × (version_of p made_at.0 e c ≡ just version) × Stays p ended_at.1 (λ z. CallsWhole z e c version)
+      go : Sees p (rules p b) made_at.0 e c some.0 → (version : ℕ) × (version_of p made_at.0 e c ≡ Some version) × Stays p ended_at.1 (λ z. CallsWhole z e c version)
       go (asks.none is never) = absurd (nothing-just some.1 (sym is ∙ some.3))
-      go (value i l path-is may is) = ((made.at.clusters k).version, version-at p (rules p b) k e c row made_at.0 ∙ ap just (sym (made_at.3.server.held.versions k low)), λ z on begins-none. whole-then z on begins-none e c some.0 i l path-is may unchanged)
+      go (value i l path-is may is) = ((made.at.clusters k).version, version-at p (rules p b) k e c row made_at.0 ∙ ap Some (sym (made_at.3.server.held.versions k low)), λ z on begins-none. whole-then z on begins-none e c some.0 i l path-is may unchanged)
         where
           k : ℕ
           k = (attribute_row w i).index_of_cluster
@@ -317,7 +315,7 @@ module _ (p : Plan) (b : Start p) {u v : World} (reach : Reach p b u) (exchange 
           word : path (cluster_row w k).endpoint (cluster_row w k).cluster (attribute_row w i).id ≡ path e c some.0
           word = sym (path-word w i low) ∙ path-is
 
-          row : find_cluster w e c ≡ found.At k
+          row : find_cluster w e c ≡ Some k
           row = row-found p (rules p b) k low e c (ap (λ (x : AttributePath). x.endpoint) word) (ap (λ (x : AttributePath). x.cluster) word)
 
           unchanged : (took.at.clusters k).changes ≡ (made.at.clusters k).changes
@@ -329,7 +327,7 @@ pub second-half : SecondHalf
 unfolding taking making ending
 second-half p b u v reach exchange open-read run none-begun arrived = (
   part_bytes p.words (q p b reach exchange open-read run none-begun arrived),
-  ap exchange_of (part-envelope p.words (q p b reach exchange open-read run none-begun arrived) (right p b reach exchange open-read run none-begun arrived)) ∙ ap just (in-exchange-of p b reach exchange open-read run none-begun arrived),
+  ap exchange_of (part-envelope p.words (q p b reach exchange open-read run none-begun arrived) (right p b reach exchange open-read run none-begun arrived)) ∙ ap Some (in-exchange-of p b reach exchange open-read run none-begun arrived),
   last_one p b reach exchange open-read run none-begun arrived,
   taking p b reach exchange open-read run none-begun arrived,
   making p b reach exchange open-read run none-begun arrived,

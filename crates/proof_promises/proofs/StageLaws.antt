@@ -1,4 +1,5 @@
 -- A read that is open, while the cache begins nothing, is open still or has ended on its last part: no status ends it.
+use Rattle.std.specs.Prelude.{Some, None, Option}
 use mathlib.Core.Path.{◌≡◌, refl, sym, ap, ◌∙◌, subst}
 use mathlib.Core.Logic.{◌⊎◌, inl, inr}
 use mathlib.Core.Bool.{Bool, true, false, ◌&&◌}
@@ -9,15 +10,11 @@ use borrow.Author.Tests.{eqb-true, ne_eqb}
 use lib.Dec.{eqb, ltb, leb}
 use lib.ListN.{length, drop}
 use Rattle.tlv_reader.specs.declared.Value.{Value}
-use Rattle.tlv_reader.specs.Decode.{Opt}
-use Rattle.tlv_reader.specs.Decode.Opt.{just, nothing}
 use Rattle.tlv_reader.specs.Value.{Datum}
 use Rattle.tlv_reader.proofs.Picks.{pick-elim}
 use Rattle.node_schema.proofs.BoolLaws.{right, by-test}
 use Rattle.im_responses.specs.Report.{PartOf, part_in}
 use Rattle.im_envelope.specs.declared.Fields.{Fields}
-use Rattle.im_envelope.specs.declared.Envelope.{Envelope}
-use Rattle.im_envelope.specs.declared.Envelope.TheVariants.{Whole, Short}
 use Rattle.im_envelope.specs.Envelope.{envelope_in, envelope_length, max_message}
 use Rattle.im_exchange.specs.Rules.{status_opcode, report_opcode}
 use Rattle.cache_report.specs.Part.{blocks_in, judged_all}
@@ -44,9 +41,9 @@ not-writing s (inl e) h = omega (arith, e, h)
 not-writing s (inr e) h = omega (arith, e, h)
 
 -- a message that is no Status Response
-abbrev NoStatus : Envelope → Type 0
-NoStatus Short = Unit {0}
-NoStatus (Whole f) = f.opcode ≡ status_opcode → ⊥
+abbrev NoStatus : Option Fields → Type 0
+NoStatus None = Unit {0}
+NoStatus (Some f) = f.opcode ≡ status_opcode → ⊥
 
 module _ (page : List ℕ) (s : CacheState) (g : Goes s) where
   abbrev Keeps : CacheReaction → Type 0
@@ -56,9 +53,9 @@ module _ (page : List ℕ) (s : CacheState) (g : Goes s) where
   unfolding takes_part goes_on begin.keeping ended_as
   part-goes payload = go (part_in payload)
     where
-      go : (o : Opt (PartOf ℕ)) → Keeps (part_taken page s payload o)
-      go nothing = g
-      go (just q) =
+      go : (o : Option (PartOf ℕ)) → Keeps (part_taken page s payload o)
+      go None = g
+      go (Some q) =
           pick-elim Keeps (past_turns q.more s.asked.turn) _ _ (λ _. g)
           (λ _. pick-elim Keeps (eqb (judged_all payload (record { number = 0; held = s.held }) (blocks_in payload)).number 0) _ _
           (λ _. pick-elim Keeps (eqb q.more 1) _ _ (λ _. g) (λ _. inr refl)) (λ _. g))
@@ -81,9 +78,9 @@ module _ (page : List ℕ) (s : CacheState) (g : Goes s) where
   reply-goes m room n =
       pick-elim Keeps (cache_right page s) _ _ (λ _. pick-elim Keeps (ltb room max_message) _ _ (λ _. g) (λ _. go (envelope_in m) n)) (λ _. g)
     where
-      go : (e : Envelope) → NoStatus e → Keeps (in_envelope page s m e)
-      go Short h = g
-      go (Whole f) h =
+      go : (e : (Option Fields)) → NoStatus e → Keeps (in_envelope page s m e)
+      go None h = g
+      go (Some f) h =
           pick-elim Keeps (leb (length m) max_message && for_cache f.edition f.opcode) _ _
           (λ _. by-test (awaited s.asked f) (λ t. rw t (takes_goes f h t (drop envelope_length m))) (λ z. rw z g)) (λ _. g)
 

@@ -1,4 +1,5 @@
 -- What keeps both ends in bytes standing for a state of the protocol.
+use Rattle.std.specs.Prelude.{Some, None, Option}
 use mathlib.Core.Path.{◌≡◌, refl, sym, ap, ◌∙◌, subst}
 use mathlib.Core.Logic.{◌⊎◌, inl, inr}
 use mathlib.Core.List.Memᴰ
@@ -8,8 +9,6 @@ use native.Mathlib.Omega.{arith}
 use Rattle.tlv_reader.specs.Value.{Datum}
 use Rattle.node_schema.specs.Rows.{count_of_clusters}
 use Rattle.proof_round_trip.specs.Meant.{WriteStatus, OutcomeFits}
-use Rattle.im_envelope.specs.declared.Envelope.{Envelope}
-use Rattle.im_envelope.specs.declared.Envelope.TheVariants.{Whole, Short}
 use Rattle.im_envelope.specs.Envelope.{envelope_in}
 use Rattle.server_replies.specs.Server as server
 use Rattle.cache_state.specs.declared.CacheState.{CacheState}
@@ -22,6 +21,7 @@ use Rattle.im_writer.specs.Envelope.{exchange_limit}
 use Rattle.proof_promises.specs.World.{Plan, World, granted, server_of, with, after_server, after_cache}
 use Rattle.proof_promises.specs.Follows.{ReplyOf, part, answer, Stands}
 use Rattle.proof_promises.proofs.MessageLaws.{part-envelope}
+use Rattle.im_envelope.specs.declared.Fields.{Fields}
 
 -- WHAT IS SENT GROWS
 -- a message that is there was there, or is the new one
@@ -42,11 +42,11 @@ pub with_none : (m : List ℕ) (l : List (List ℕ)) → m ≡ [] → with m l �
 with_none m l e = ap (λ (x : List ℕ). with x l) e
 
 -- nothing is not an envelope
-some-envelope : (m : List ℕ) (e : Envelope) → envelope_in m ≡ e → (e ≡ Short → ⊥) → m ≡ [] → ⊥
+some-envelope : (m : List ℕ) (e : (Option Fields)) → envelope_in m ≡ e → (e ≡ None → ⊥) → m ≡ [] → ⊥
 unfolding envelope_in
 some-envelope m e h n z = n (sym h ∙ ap envelope_in z)
 
-whole-not-short : {e : Envelope} {f : _} → e ≡ Whole f → e ≡ Short → ⊥
+whole-not-short : {e : (Option Fields)} {f : _} → e ≡ Some f → e ≡ None → ⊥
 whole-not-short h k = let q : ◌≡◌ {A = ℕ} 0 1 = cc in omega (arith, q)
 
 pub part-some : (w : List ℕ) (q : Part Datum) → PartRight w q → part_bytes w q ≡ [] → ⊥

@@ -1,4 +1,5 @@
 -- EVERY STEP OF THE ENDS IS A STEP OF THE PROTOCOL, or leaves it as it was.
+use Rattle.std.specs.Prelude.{Some, None, Option}
 use mathlib.Core.Path.{◌≡◌, refl, sym, ap, ◌∙◌, subst}
 use mathlib.Core.Logic.{◌⊎◌, inl, inr}
 use mathlib.Core.Bool.{Bool, true}
@@ -20,8 +21,6 @@ use Rattle.node_schema.proofs.BoolLaws.{by-test}
 use Rattle.node_kinds.specs.Stored.{Sized}
 use Rattle.im_writer.specs.Spelling.{primitive_d}
 use Rattle.im_writer.specs.Meaning.{PathFits}
-use Rattle.im_envelope.specs.declared.Envelope.{Envelope}
-use Rattle.im_envelope.specs.declared.Envelope.TheVariants.{Whole, Short}
 use Rattle.proof_round_trip.specs.Meant.{WriteStatus}
 use Rattle.im_envelope.specs.Envelope.{envelope_in, max_message}
 use Rattle.im_exchange.specs.Rules.{max_turn}
@@ -59,6 +58,7 @@ use Rattle.proof_promises.proofs.MessageLaws.{InExchange, message-one, message-i
 use Rattle.proof_promises.proofs.ReadableLaws.{readable-few, parts-few}
 use Rattle.proof_promises.specs.Follows.{ReplyOf, part, answer, Stands, node}
 use Rattle.proof_promises.proofs.Stands.{Told, nothing-sent, known, new-one, server-stands, cache-stands, cache-known, with_none}
+use Rattle.im_envelope.specs.declared.Fields.{Fields}
 
 -- a value as the code's types have it can be stored and written
 pub typed-sized : (v : Value) → Typed v → Sized v
@@ -87,7 +87,7 @@ other-kept P page s e c a given version src room f =
     pick-elim P (cache_right page s) _ _ (λ _. pick-elim P (ltb room max_message) _ _ (λ _. f 3) (λ _. pick-elim P (ltb s.asked.used (exchange_limit - 1)) _ _ (λ _. f 10) (λ _. f 8))) (λ _. f 2)
 
 -- no bytes are no envelope
-no-envelope : envelope_in [] ≡ Short
+no-envelope : envelope_in [] ≡ None
 unfolding envelope_in
 no-envelope = refl
 
@@ -95,9 +95,9 @@ with-some : (m : List ℕ) (l : List (List ℕ)) → (m ≡ [] → ⊥) → with
 with-some [] l n = absurd (n refl)
 with-some (d ∷ m) l n = refl
 
-abbrev pub opcode_in : Envelope → ℕ
-opcode_in Short = 0
-opcode_in (Whole f) = f.opcode
+abbrev pub opcode_in : Option Fields → ℕ
+opcode_in None = 0
+opcode_in (Some f) = f.opcode
 
 -- an answer to a write is no part
 pub other-reply : {w : List ℕ} (q : Part Datum) → PartRight w q → (x : ℕ) (o : WriteStatus) → x < exchange_limit → part_bytes w q ≡ answer_bytes x o → ⊥

@@ -1,18 +1,12 @@
 -- DEMAND 3 OF THE PRODUCT (RULES 0.3), over both ends as they are. First half: what the cache calls whole at a version is what the server held at it. Second
 -- half: a read whose messages all arrive leaves whole what did not change.
-use Rattle.std.specs.Prelude.{◌≡◌, false, ℕ, ◌^◌, ◌<◌, ◌≤◌, max, get_or, drop}
+use Rattle.std.specs.Prelude.{◌≡◌, false, ℕ, ◌^◌, ◌<◌, ◌≤◌, max, get_or, drop, Some, None, Option}
 use mathlib.Core.List.{List, [], ◌∷◌, Memᴰ}
 use Rattle.base_bounds.specs.Bounds.{version_limit}
-use Rattle.tlv_reader.specs.Decode.{Opt}
-use Rattle.tlv_reader.specs.Decode.Opt.{just, nothing}
 use Rattle.im_envelope.specs.declared.Fields.{Fields}
-use Rattle.im_envelope.specs.declared.Envelope.{Envelope}
-use Rattle.im_envelope.specs.declared.Envelope.TheVariants.{Whole, Short}
 use Rattle.im_envelope.specs.Envelope.{envelope_in, envelope_length}
 use Rattle.im_responses.specs.Report.{PartOf, part_in}
 use Rattle.im_writer.specs.Block.{Block}
-use Rattle.node_schema.specs.declared.Found.{Found}
-use Rattle.node_schema.specs.declared.Found.TheVariants.{At, Nothing}
 use Rattle.node_schema.specs.Rows.{count_of_attributes}
 use Rattle.node_schema.specs.Find.{find_cluster}
 use Rattle.server_selection.specs.declared.asked.Asked.{Asked}
@@ -34,12 +28,12 @@ abbrev pub CallsWhole : World → ℕ → ℕ → ℕ → Type 0
 CallsWhole u endpoint cluster version = says_whole u.page u.cache endpoint cluster ≡ said 0 (version ∷ [])
 
 -- the version of a cluster of the schema, and how often it has changed
-abbrev pub on_row : {A : Type 0} → A → (ℕ → A) → Found → A
-on_row none f (At k) = f k
-on_row none f Nothing = none
+abbrev pub on_row : {A : Type 0} → A → (ℕ → A) → Option ℕ → A
+on_row none f (Some k) = f k
+on_row none f None = none
 
-abbrev pub version_of : Plan → World → ℕ → ℕ → Opt ℕ
-version_of p u endpoint cluster = on_row nothing (λ k. just (get_or u.server.values.versions k 0)) (find_cluster p.words endpoint cluster)
+abbrev pub version_of : Plan → World → ℕ → ℕ → Option ℕ
+version_of p u endpoint cluster = on_row None (λ k. Some (get_or u.server.values.versions k 0)) (find_cluster p.words endpoint cluster)
 
 abbrev pub changes_of : Plan → World → ℕ → ℕ → ℕ
 changes_of p u endpoint cluster = on_row 0 u.changes (find_cluster p.words endpoint cluster)
@@ -49,30 +43,30 @@ abbrev pub asked : ℕ → ℕ → ℕ → Asked
 asked endpoint cluster attribute =
     record { any_endpoint = false; endpoint = endpoint; any_cluster = false; cluster = cluster; any_attribute = false; attribute = attribute }
 
-abbrev pub shown : Plan → World → ℕ → ℕ → ℕ → Opt Block
+abbrev pub shown : Plan → World → ℕ → ℕ → ℕ → Option Block
 shown p u endpoint cluster attribute =
     block_of p.words u.server.values p.defaults u.server.edits (asked endpoint cluster attribute) (concrete_item p.words (granted p) [] (asked endpoint cluster attribute))
 
 -- what it may read, as an entry: a status is none
-abbrev pub entry_for : Opt Block → Opt CacheEntry
-entry_for nothing = nothing
-entry_for (just (Block.value version endpoint cluster attribute d)) = just (record { version = version; value = d })
-entry_for (just (Block.status endpoint cluster attribute code)) = nothing
+abbrev pub entry_for : Option Block → Option CacheEntry
+entry_for None = None
+entry_for (Some (Block.value version endpoint cluster attribute d)) = Some (record { version = version; value = d })
+entry_for (Some (Block.status endpoint cluster attribute code)) = None
 
 abbrev pub MayReadSome : Plan → World → ℕ → ℕ → Type 0
-MayReadSome p u endpoint cluster = (attribute : ℕ) × (e : CacheEntry) × (attribute < 2 ^ 32) × (entry_for (shown p u endpoint cluster attribute) ≡ just e)
+MayReadSome p u endpoint cluster = (attribute : ℕ) × (e : CacheEntry) × (attribute < 2 ^ 32) × (entry_for (shown p u endpoint cluster attribute) ≡ Some e)
 
 -- the exchange of a message
-abbrev pub exchange_of : Envelope → Opt ℕ
-exchange_of Short = nothing
-exchange_of (Whole f) = just f.exchange
+abbrev pub exchange_of : Option Fields → Option ℕ
+exchange_of None = None
+exchange_of (Some f) = Some f.exchange
 
 abbrev pub In : ℕ → List ℕ → Type 0
-In exchange m = exchange_of (envelope_in m) ≡ just exchange
+In exchange m = exchange_of (envelope_in m) ≡ Some exchange
 
 -- a last part: a report that does not promise more
 abbrev pub Last : List ℕ → Type 0
-Last m = (x : PartOf ℕ) × (part_in (drop envelope_length m) ≡ just x) × (x.more ≡ 1 → ⊥)
+Last m = (x : PartOf ℕ) × (part_in (drop envelope_length m) ≡ Some x) × (x.more ≡ 1 → ⊥)
 
 -- THE FIRST HALF: in every state that a run can reach, with fewer than 2^32 changes to the cluster
 abbrev pub FirstHalf : Type 0
@@ -80,8 +74,8 @@ FirstHalf =
     (p : Plan) (b : Start p) (u : World) (run : Reach p b u) (endpoint cluster version : ℕ) → endpoint < 2 ^ 16 → cluster < 2 ^ 32
     → changes_of p u endpoint cluster < version_limit
     → CallsWhole u endpoint cluster version
-    → ((x : World) × Visits run x × (version_of p x endpoint cluster ≡ just version))
-    × ((x : World) → Visits run x → version_of p x endpoint cluster ≡ just version
+    → ((x : World) × Visits run x × (version_of p x endpoint cluster ≡ Some version))
+    × ((x : World) → Visits run x → version_of p x endpoint cluster ≡ Some version
     → (attribute : ℕ) → attribute < 2 ^ 32 → says_entry u.page u.cache endpoint cluster attribute ≡ entry_said (entry_for (shown p x endpoint cluster attribute)))
 
 -- THE SECOND HALF
@@ -134,7 +128,7 @@ pub record Once : Type 0 where
       → Same run k.at k.next l.at l.next k.passes l.passes
   pub ending : (p : Plan) (b : Start p) (u v : World) → Reach p b u → (run : Run p u v) (exchange : ℕ) (m m' : List ℕ) (k : Ending run exchange m) (l : Ending run exchange m')
       → (m ≡ m') × Same run k.at k.next l.at l.next k.passes l.passes
-  pub order : (p : Plan) (b : Start p) (u : World) (run : Reach p b u) (m : List ℕ) (f : Fields) → envelope_in m ≡ Whole f → f.opcode ≡ report_opcode
+  pub order : (p : Plan) (b : Start p) (u : World) (run : Reach p b u) (m : List ℕ) (f : Fields) → envelope_in m ≡ Some f → f.opcode ≡ report_opcode
       → (k : Taking run f.exchange) (l : Making run m) → index_of run k.at k.next k.passes ≤ index_of run l.at l.next l.passes
 
 -- it is so in this state, and for as long as the cache begins nothing
@@ -153,7 +147,7 @@ SecondHalf =
     × Stays p ending.next (λ z. Ended z exchange)
     × ((endpoint cluster : ℕ) → endpoint < 2 ^ 16 → cluster < 2 ^ 32 → MayReadSome p making.at endpoint cluster
     → changes_of p taking.at endpoint cluster ≡ changes_of p making.at endpoint cluster
-    → (version : ℕ) × (version_of p making.at endpoint cluster ≡ just version) × Stays p ending.next (λ z. CallsWhole z endpoint cluster version))
+    → (version : ℕ) × (version_of p making.at endpoint cluster ≡ Some version) × Stays p ending.next (λ z. CallsWhole z endpoint cluster version))
 
 -- a run from u in which all of that has arrived
 pub record Complete (p : Plan) (u : World) : Type 0 where
@@ -171,5 +165,5 @@ Possible =
 -- no read has more parts than the schema has attributes, and one if it has none
 abbrev pub FewParts : Type 0
 FewParts =
-    (p : Plan) (b : Start p) (u : World) → Reach p b u → (m : List ℕ) → Memᴰ m u.replies → (f : Fields) → envelope_in m ≡ Whole f → f.opcode ≡ report_opcode
+    (p : Plan) (b : Start p) (u : World) → Reach p b u → (m : List ℕ) → Memᴰ m u.replies → (f : Fields) → envelope_in m ≡ Some f → f.opcode ≡ report_opcode
     → f.turn ≤ max 1 (count_of_attributes p.words)

@@ -1,8 +1,7 @@
 -- A cache's state as it stands for the protocol's.
-use Rattle.std.specs.Prelude.{◌≡◌, true, ℕ, ◌^◌, ◌<◌, eqb, get_or}
+use Rattle.std.specs.Prelude.{◌≡◌, true, ℕ, ◌^◌, ◌<◌, eqb, get_or, Some}
 use mathlib.Core.List.{List, Memᴰ}
 use Rattle.tlv_reader.specs.Value.{Datum}
-use Rattle.tlv_reader.specs.Decode.Opt.{just}
 use Rattle.node_schema.specs.Rows.{cluster_row, count_of_clusters}
 use Rattle.node_schema.specs.Rules.{path, path_at}
 use Rattle.cache_entries.specs.declared.Cached.{Cached}
@@ -39,8 +38,8 @@ pub record HeldAs (w page : List ℕ) (c : Cached) (entries : List (Entry Datum)
   pub keys-once : DistinctKeys c
   pub cluster-rows : ClusterRows w c
   pub right : (e : Entry Datum) → Memᴰ e entries → EntryRight w e
-  pub has : (e : Entry Datum) → Memᴰ e entries → let q = path_at w e.place.attribute in lookup c page q.endpoint q.cluster q.attribute ≡ just (record { version = e.version; value = e.value })
-  pub only : (endpoint cluster attribute : ℕ) → endpoint < 2 ^ 16 → cluster < 2 ^ 32 → attribute < 2 ^ 32 → (x : cached.CacheEntry) → lookup c page endpoint cluster attribute ≡ just x → Found w entries endpoint cluster attribute x
+  pub has : (e : Entry Datum) → Memᴰ e entries → let q = path_at w e.place.attribute in lookup c page q.endpoint q.cluster q.attribute ≡ Some (record { version = e.version; value = e.value })
+  pub only : (endpoint cluster attribute : ℕ) → endpoint < 2 ^ 16 → cluster < 2 ^ 32 → attribute < 2 ^ 32 → (x : cached.CacheEntry) → lookup c page endpoint cluster attribute ≡ Some x → Found w entries endpoint cluster attribute x
 
 -- the open write is of this path: no other write has its exchange
 pub record Writing (sent : List (List ℕ)) (s : CacheState) : Type 0 where

@@ -1,9 +1,7 @@
 -- A server's schema and what it grants, in the terms of the protocol: its paths, those that the cache may read, its first values, filters.
-use Rattle.std.specs.Prelude.{◌≡◌, Bool, not, ◌&&◌, List, [], ◌∷◌, map, ℕ, zero, suc, ◌+◌, ◌<◌, eqb, get_or}
+use Rattle.std.specs.Prelude.{◌≡◌, Bool, not, ◌&&◌, List, [], ◌∷◌, map, ℕ, zero, suc, ◌+◌, ◌<◌, eqb, get_or, Some, None, Option}
 use Rattle.tlv_reader.specs.Octet.{pick}
 use Rattle.tlv_reader.specs.Value.{Datum}
-use Rattle.node_schema.specs.declared.Found.{Found}
-use Rattle.node_schema.specs.declared.Found.TheVariants.{At, Nothing}
 use Rattle.node_schema.specs.Rows.{attribute_row, count_of_clusters, count_of_attributes}
 use Rattle.node_schema.specs.Find.{find_cluster}
 use Rattle.node_access.specs.declared.Grants.{Grants}
@@ -37,9 +35,9 @@ node_of w defaults edits g =
     }
 
 -- the row of a cluster; past all rows where there is none
-abbrev pub row_found : ℕ → Found → ℕ
-row_found n (At k) = k
-row_found n Nothing = n
+abbrev pub row_found : ℕ → Option ℕ → ℕ
+row_found n (Some k) = k
+row_found n None = n
 
 unfoldable pub cluster_number : List ℕ → ℕ → ℕ → ℕ
 cluster_number w endpoint cluster = row_found (count_of_clusters w) (find_cluster w endpoint cluster)

@@ -1,4 +1,5 @@
 -- WHAT ONE END WRITES, THE OTHER READS AS IT WAS MEANT: every kind of message, whatever it is written of that fits.
+use Rattle.std.specs.Prelude.{Some, Option}
 use mathlib.Core.Path.{◌≡◌, refl, ap, ◌∙◌}
 use mathlib.Core.Bool.{Bool, true, false}
 use mathlib.Core.List.{List, [], ◌∷◌, map, map-id}
@@ -8,8 +9,7 @@ use borrow.Author.Tests.{le-ltb, lt-ltb, ne_eqb}
 use Rattle.tlv_reader.specs.Octet.{pick}
 use Rattle.tlv_reader.specs.Tree.Tag.{anonymous}
 use Rattle.tlv_reader.specs.Value.{Datum}
-use Rattle.tlv_reader.specs.Decode.{Opt, bind_o, fold_t}
-use Rattle.tlv_reader.specs.Decode.Opt.{just}
+use Rattle.tlv_reader.specs.Decode.{bind_o, fold_t}
 use Rattle.tlv_writer.specs.Meaning.{Writable}
 use Rattle.im_members.specs.Fields.{place_of, put_t, field_m, fields_t}
 use Rattle.im_members.specs.Scalar.{ABSENT, number_t, flag_t}
@@ -41,68 +41,68 @@ use Rattle.proof_round_trip.specs.Meant.{status_octets, VersionFilterFits, versi
 use Rattle.proof_round_trip.proofs.ListLaws.{each_map, list_of}
 
 -- STATUS RESPONSE
-status-means : (code : ℕ) → code < 2 ^ 8 → response_t (status_members code) ≡ just code
+status-means : (code : ℕ) → code < 2 ^ 8 → response_t (status_members code) ≡ Some code
 unfolding response_t response_slots status_members revision fields_t fold_t field_m put_t place_of number_t
 status-means code fits = rw (le-ltb 255 code (omega arith), lt-ltb code ABSENT (omega arith)) refl
 
-pub status-back : (code : ℕ) → code < 2 ^ 8 → response_in (status_octets code) ≡ just code
+pub status-back : (code : ℕ) → code < 2 ^ 8 → response_in (status_octets code) ≡ Some code
 status-back code fits = response-law (status_members code) (status_octets code) (status-spells code fits) ∙ status-means code fits
 
 -- READ REQUEST
-asked-means : asked_t wildcard_tree ≡ just everything
+asked-means : asked_t wildcard_tree ≡ Some everything
 unfolding asked_t asked_of askable_p banned loose
 asked-means = rw wildcard-means refl
 
-version-filter-means : (f : VersionFilter) → VersionFilterFits f → version_filter_t (version_filter_tree f) ≡ just f
+version-filter-means : (f : VersionFilter) → VersionFilterFits f → version_filter_t (version_filter_tree f) ≡ Some f
 unfolding version_filter_t version_filter_if local_f
 version-filter-means f h =
-    ap (λ (o : Opt Filter). bind_o o version_filter_if) (filter-means f.endpoint f.cluster f.version h.endpoint-fits h.cluster-fits h.version-fits)
+    ap (λ (o : Option Filter). bind_o o version_filter_if) (filter-means f.endpoint f.cluster f.version h.endpoint-fits h.cluster-fits h.version-fits)
 
 listed-version-filter : (f : VersionFilter) → VersionFilterFits f → ListedTree (version_filter_tree f)
 listed-version-filter f h = listed-filter f.endpoint f.cluster f.version h.endpoint-fits h.cluster-fits h.version-fits
 
-read-means : (fs : List VersionFilter) → Each VersionFilterFits fs → read_t (read_members (map version_filter_tree fs)) ≡ just (read_means fs)
+read-means : (fs : List VersionFilter) → Each VersionFilterFits fs → read_t (read_members (map version_filter_tree fs)) ≡ Some (read_means fs)
 unfolding read_t read_slots read_members filter_members paths_tree revision fields_t fold_t field_m put_t place_of number_t flag_t optional_t each_t
 read-means [] h = rw asked-means refl
 read-means (f ∷ fs) h = rw (asked-means, list_of VersionFilterFits version_filter_tree version_filter_t (λ x. x) version-filter-means (f ∷ fs) h, map-id fs) refl
 
-pub read_back : (fs : List VersionFilter) → Each VersionFilterFits fs → read_in (read_octets fs) ≡ just (read_means fs)
+pub read_back : (fs : List VersionFilter) → Each VersionFilterFits fs → read_in (read_octets fs) ≡ Some (read_means fs)
 read_back fs h =
     read-law (read_members (map version_filter_tree fs)) (read_octets fs) (read-spells (map version_filter_tree fs) (each_map VersionFilterFits version_filter_tree ListedTree listed-version-filter fs h))
     ∙ read-means fs h
 
 -- WRITE REQUEST
 module _ (given : Bool) (version e c a : ℕ) (d : Datum) (fv : version < 2 ^ 32) (p : PathFits e c a) where
-  entry_read_lem : entry_t (entry_tree given version e c a d) ≡ just (entry_for (exact_data (pick given version ABSENT) e c a d))
+  entry_read_lem : entry_t (entry_tree given version e c a d) ≡ Some (entry_for (exact_data (pick given version ABSENT) e c a d))
   unfolding entry_t exact_p banned
   entry_read_lem =
       rw (entry-means e c a p.endpoint-fits p.cluster-fits p.attribute-fits d version fv given, ne_eqb e ABSENT (λ q. omega (arith, p.endpoint-fits)), ne_eqb c ABSENT (λ q. omega (arith, p.cluster-fits)), ne_eqb a ABSENT (λ q. omega (arith, p.attribute-fits)))
       refl
 
-  write-means : write_t (write_members (entry_tree given version e c a d)) ≡ just (write_means given version e c a d)
+  write-means : write_t (write_members (entry_tree given version e c a d)) ≡ Some (write_means given version e c a d)
   unfolding write_t write_slots write_members revision fields_t fold_t field_m put_t place_of number_t flag_t required_t each_t unchunked
   write-means = rw entry_read_lem refl
 
-  pub write-back : Writable (primitive_d d) → map_o (write_tree 7 (write_octets given version e c a d)) (write_in (write_octets given version e c a d)) ≡ just (write_means given version e c a d)
+  pub write-back : Writable (primitive_d d) → map_o (write_tree 7 (write_octets given version e c a d)) (write_in (write_octets given version e c a d)) ≡ Some (write_means given version e c a d)
   write-back w =
       write-law (write_members (entry_tree given version e c a d)) (write_octets given version e c a d) (write-spells given version e c a d fv p.endpoint-fits p.cluster-fits p.attribute-fits w)
       ∙ write-means
 
 -- REPORT
-report-means : (l : List Block) (m : Bool) → Each Fits l → part_t (report_members (map block_tree l) m) ≡ just (report_means l m)
+report-means : (l : List Block) (m : Bool) → Each Fits l → part_t (report_members (map block_tree l) m) ≡ Some (report_means l m)
 unfolding part_t part_slots report_members report_ending revision fields_t fold_t field_m put_t place_of number_t flag_t optional_t
 report-means [] true h = refl
 report-means [] false h = refl
 report-means (b ∷ l) true h = rw (list_of Fits block_tree report_t block_means block-means (b ∷ l) h) refl
 report-means (b ∷ l) false h = rw (list_of Fits block_tree report_t block_means block-means (b ∷ l) h) refl
 
-pub report-back : (l : List Block) (m : Bool) → Each Fits l → map_o (part_tree 6 (report_octets l m)) (part_in (report_octets l m)) ≡ just (report_means l m)
+pub report-back : (l : List Block) (m : Bool) → Each Fits l → map_o (part_tree 6 (report_octets l m)) (part_in (report_octets l m)) ≡ Some (report_means l m)
 report-back l m h =
     part-law (report_members (map block_tree l) m) (report_octets l m) (report-spells (map block_tree l) m (each_map Fits block_tree ListedTree listed-block l h))
     ∙ report-means l m h
 
 -- WRITE RESPONSE
-outcome-means : (o : WriteStatus) → OutcomeFits o → answer_t (outcome_tree o) ≡ just (outcome_means o)
+outcome-means : (o : WriteStatus) → OutcomeFits o → answer_t (outcome_tree o) ≡ Some (outcome_means o)
 unfolding answer_tree
 outcome-means o h =
     let p = h.path-fits in

@@ -1,5 +1,5 @@
 -- Of each message: what it is written of, its octets as they are written, and what the reader at the other end is to make of them.
-use Rattle.std.specs.Prelude.{ℕ, ◌^◌, ◌<◌, Bool, true, List, [], ◌∷◌, map, length}
+use Rattle.std.specs.Prelude.{ℕ, ◌^◌, ◌<◌, Bool, true, List, [], ◌∷◌, map, length, Some, Option}
 use Rattle.base_bounds.specs.Bounds.{version_limit}
 use Rattle.tlv_reader.specs.Octet.{pick}
 use Rattle.tlv_reader.specs.Tree.{Tree}
@@ -104,5 +104,5 @@ write_answer given version endpoint cluster attribute place = record {
 }
 
 -- a part whose first block stands at a place
-abbrev pub part_answer : List Block → Bool → PartRead
-part_answer l more-follow = record { good = true; more = pick more-follow 1 ABSENT; blocks = length l }
+abbrev pub part_answer : List Block → Bool → Option PartRead
+part_answer l more-follow = Some (record { more = pick more-follow 1 ABSENT; blocks = length l })

@@ -1,4 +1,5 @@
 -- Filters skip an attribute in the protocol exactly if they skip its cluster's row.
+use Rattle.std.specs.Prelude.{Some, None, Option}
 use mathlib.Core.Path.{◌≡◌, refl, sym, ap, ◌∙◌}
 use mathlib.Core.Bool.{true, not, ◌&&◌, ◌||◌}
 use mathlib.Core.List.{List, [], ◌∷◌}
@@ -6,8 +7,6 @@ use Prim.Native.Nat.{ℕ, ◌<◌}
 use native.Mathlib.Omega.{arith}
 use borrow.Author.Tests.{eqb-true, eq-eqb}
 use lib.Dec.{eqb}
-use Rattle.node_schema.specs.declared.Found.{Found}
-use Rattle.node_schema.specs.declared.Found.TheVariants.{At, Nothing}
 use Rattle.node_schema.specs.Rows.{cluster_row, count_of_clusters}
 use Rattle.node_schema.specs.Rules.{Rules}
 use Rattle.node_schema.specs.Find.{find_cluster}
@@ -34,17 +33,17 @@ module _ (w : List ℕ) (rules : Rules w) (k : ℕ) (there : k < count_of_cluste
       same _ _ (λ t. to (find_cluster w f.endpoint f.cluster) refl (eqb-true f.endpoint endpoint (left _ _ t)) (eqb-true f.cluster cluster (right (eqb f.endpoint endpoint) _ t)))
       (from (find_cluster w f.endpoint f.cluster) refl)
     where
-      to : (x : Found) → find_cluster w f.endpoint f.cluster ≡ x → f.endpoint ≡ endpoint → f.cluster ≡ cluster → eqb (row_found (count_of_clusters w) x) k ≡ true
-      to (At i) e p q = let r = cluster-found w f.endpoint f.cluster i e in eq-eqb i k (one-cluster w rules i k r.0 there (r.1 ∙ p) (r.2 ∙ q))
-      to Nothing e p q = absurd (cluster-none w f.endpoint f.cluster e k there (sym p) (sym q))
+      to : (x : (Option ℕ)) → find_cluster w f.endpoint f.cluster ≡ x → f.endpoint ≡ endpoint → f.cluster ≡ cluster → eqb (row_found (count_of_clusters w) x) k ≡ true
+      to (Some i) e p q = let r = cluster-found w f.endpoint f.cluster i e in eq-eqb i k (one-cluster w rules i k r.0 there (r.1 ∙ p) (r.2 ∙ q))
+      to None e p q = absurd (cluster-none w f.endpoint f.cluster e k there (sym p) (sym q))
 
-      from : (x : Found) → find_cluster w f.endpoint f.cluster ≡ x → eqb (row_found (count_of_clusters w) x) k ≡ true → (eqb f.endpoint endpoint && eqb f.cluster cluster) ≡ true
-      from (At i) e t =
+      from : (x : (Option ℕ)) → find_cluster w f.endpoint f.cluster ≡ x → eqb (row_found (count_of_clusters w) x) k ≡ true → (eqb f.endpoint endpoint && eqb f.cluster cluster) ≡ true
+      from (Some i) e t =
           let r = cluster-found w f.endpoint f.cluster i e in
           let p : (cluster_row w i).endpoint ≡ endpoint = ap (λ (j : ℕ). (cluster_row w j).endpoint) (eqb-true i k t) in
           let q : (cluster_row w i).cluster ≡ cluster = ap (λ (j : ℕ). (cluster_row w j).cluster) (eqb-true i k t) in
           both _ _ (eq-eqb _ _ (sym r.1 ∙ p)) (eq-eqb _ _ (sym r.2 ∙ q))
-      from Nothing e t = absurd (omega (arith, eqb-true (count_of_clusters w) k t))
+      from None e t = absurd (omega (arith, eqb-true (count_of_clusters w) k t))
 
   some-any : (fs : List VersionFilter) → some endpoint cluster fs ≡ any (λ (f : Filter). eqb f.cluster k) (filters_as w fs)
   unfolding some

@@ -1,4 +1,5 @@
 -- A REQUEST and A SUCCESS, whatever they ask: the exchange rules decide what the server does, and the protocol decides the same.
+use Rattle.std.specs.Prelude.{Some}
 use mathlib.Core.Path.{◌≡◌, refl, sym, ap, ◌∙◌}
 use mathlib.Core.Bool.{Bool, true, false, cond}
 use mathlib.Core.List.{List, []}
@@ -8,7 +9,6 @@ use lib.Dec.{eqb, ltb}
 use lib.ListN.{length, drop}
 use Rattle.tlv_reader.specs.Octet.{pick}
 use Rattle.tlv_reader.specs.Value.{Datum}
-use Rattle.tlv_reader.specs.Decode.Opt.{just}
 use Rattle.im_envelope.specs.Envelope.{envelope_in}
 use Rattle.im_requests.specs.Status.{response_in}
 use Rattle.node_schema.proofs.BoolLaws.{left, right}
@@ -72,7 +72,7 @@ module _ {g : Grants} {sent : List (List ℕ)} (here : Standing g sent) (node : 
         go false e valid = (0, [], rw (e 0 []) (repeat-as here (fields opcode x 0) payload action (repeats now x)))
 
   -- A SUCCESS: the next part, or the kept reply again
-  module _ (x turn : ℕ) (found : envelope_in m ≡ envelope_as cache_edition status_opcode x turn) (status : response_in payload ≡ just 0) where
+  module _ (x turn : ℕ) (found : envelope_in m ≡ envelope_as cache_edition status_opcode x turn) (status : response_in payload ≡ Some 0) where
     abbrev then : Step → ServerReaction
     then = reacted n g (fields status_opcode x turn) payload Status
 

@@ -1,4 +1,5 @@
 -- THE EXCHANGE RULES: the tests of the code and those of the protocol are the same.
+use Rattle.std.specs.Prelude.{Some}
 use mathlib.Core.Path.{◌≡◌, refl}
 use mathlib.Core.Bool.{Bool, true, false, not, ◌&&◌, and-false, and_assoc, and_comm, not-not}
 use mathlib.Core.List.{List}
@@ -9,7 +10,6 @@ use borrow.Author.Tests.{eqb-true, ne_eqb}
 use lib.Dec.{eqb, ltb, leb}
 use Rattle.tlv_reader.specs.Octet.{pick}
 use Rattle.tlv_reader.specs.Value.{Datum}
-use Rattle.tlv_reader.specs.Decode.Opt.{just}
 use Rattle.im_envelope.specs.declared.Fields.{Fields}
 use Rattle.im_requests.specs.Status.{response_in}
 use Rattle.node_schema.proofs.BoolLaws.{left}
@@ -49,7 +49,7 @@ module _ (p : Progress) (turn : ℕ) where
   abbrev pub earlier : Bool
   earlier = leb first_reply turn && eqb (turn + 1) p.turn
 
-  pub success-step : (x : ℕ) (payload : List ℕ) → response_in payload ≡ just 0 → step_of p Status (fields status_opcode x turn) payload ≡ pick (own p x) (pick newest (pick (ltb p.turn max_turn) Next Silence) (pick earlier Repeat Silence)) Silence
+  pub success-step : (x : ℕ) (payload : List ℕ) → response_in payload ≡ Some 0 → step_of p Status (fields status_opcode x turn) payload ≡ pick (own p x) (pick newest (pick (ltb p.turn max_turn) Next Silence) (pick earlier Repeat Silence)) Silence
   unfolding step_of on_status
   success-step x payload h = rw h refl
 

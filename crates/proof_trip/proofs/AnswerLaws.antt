@@ -1,10 +1,10 @@
 -- A WRITE ENDS WITH THE STATUS THAT THE SERVER WROTE, if it is of the path that was written; a status of another path is refused.
+use Rattle.std.specs.Prelude.{Some}
 use mathlib.Core.Path.{◌≡◌, refl, sym, ap, ◌∙◌}
 use mathlib.Core.Bool.{true}
 use mathlib.Core.List.{[], ◌∷◌}
 use Prim.Native.Nat.{ℕ, ◌^◌, ◌<◌}
 use borrow.Author.Tests.{eq-eqb, lt-ltb}
-use Rattle.tlv_reader.specs.Decode.Opt.{just}
 use Rattle.im_responses.specs.Answered.{answered_in}
 use Rattle.im_writer.specs.Spelling.{Each}
 use Rattle.im_writer.specs.Meaning.{exact_path}
@@ -17,7 +17,7 @@ use Rattle.cache_receive.specs.Receive.{ended_with, of_write, answer_taken, by_a
 use Rattle.proof_trip.specs.Taken.{OfPath, ended_by}
 use Rattle.proof_trip.proofs.TakenLaws.{path-exact}
 
-pub answer-read : (o : WriteStatus) → OutcomeFits o → answered_in (outcomes_octets (o ∷ [])) ≡ just (outcome_means o)
+pub answer-read : (o : WriteStatus) → OutcomeFits o → answered_in (outcomes_octets (o ∷ [])) ≡ Some (outcome_means o)
 unfolding Each
 answer-read o h = answers-back (o ∷ []) (h, tt)
 

@@ -1,4 +1,5 @@
 -- WHAT THE CACHE BEGINS IS READ AS IT WAS MEANT: reads, writes and the successes between the parts of a report.
+use Rattle.std.specs.Prelude.{Some, None, Option}
 use mathlib.Core.Path.{◌≡◌, refl, ap, ◌∙◌}
 use mathlib.Core.Bool.{Bool}
 use mathlib.Core.List.{List, ◌++◌}
@@ -7,12 +8,8 @@ use native.Mathlib.Omega.{arith}
 use lib.ListN.{length, get_or, drop, length-append}
 use lib.Seq.{drop_at}
 use Rattle.tlv_reader.specs.Value.{Datum, value_in, datum_in}
-use Rattle.tlv_reader.specs.Decode.{Opt}
-use Rattle.tlv_reader.specs.Decode.Opt.{just, nothing}
 use Rattle.tlv_writer.specs.Meaning.{Writable}
 use Rattle.im_members.specs.Array.{map_o}
-use Rattle.node_schema.specs.declared.Found.{Found}
-use Rattle.node_schema.specs.declared.Found.TheVariants.{At, Nothing}
 use Rattle.im_requests.specs.declared.VersionFilter.{VersionFilter}
 use Rattle.im_requests.specs.Status.{response_in}
 use Rattle.im_requests.specs.Read.{read_in, read_read}
@@ -46,16 +43,16 @@ after-envelope edition opcode exchange turn q = drop_at (envelope_octets edition
 -- THE FILTERS of a cache fit, and are no more than its clusters
 module _ (c : Cached) where
   -- a coherent cluster has a version
-  version-fits : (k v : ℕ) → coherent_at c k ≡ just v → v < 2 ^ 32
+  version-fits : (k v : ℕ) → coherent_at c k ≡ Some v → v < 2 ^ 32
   version-fits k v e = ((coherent-exactly c k v).0 e).1
 
   one-fits : (k word : ℕ) → Each VersionFilterFits (filter_for c k word)
   unfolding filter_for Each
   one-fits k word = go (coherent_at c k) refl
     where
-      go : (o : Opt ℕ) → coherent_at c k ≡ o → Each VersionFilterFits (version_filter_if word o)
-      go nothing e = tt
-      go (just v) e =
+      go : (o : Option ℕ) → coherent_at c k ≡ o → Each VersionFilterFits (version_filter_if word o)
+      go None e = tt
+      go (Some v) e =
           (record { endpoint-fits = omega arith; cluster-fits = omega arith; version-fits = version-fits k v e }, tt)
 
   from-fit : (m bound : ℕ) → Each VersionFilterFits (filters_from c m bound)
@@ -63,9 +60,9 @@ module _ (c : Cached) where
   from-fit zero bound = tt
   from-fit (suc m) bound = go (least_by c.clusters bound c.cluster_count) (from-fit m)
     where
-      go : (r : Found) → ((b : ℕ) → Each VersionFilterFits (filters_from c m b)) → Each VersionFilterFits (onwards c (λ b. filters_from c m b) r)
-      go Nothing rest = tt
-      go (At k) rest =
+      go : (r : (Option ℕ)) → ((b : ℕ) → Each VersionFilterFits (filters_from c m b)) → Each VersionFilterFits (onwards c (λ b. filters_from c m b) r)
+      go None rest = tt
+      go (Some k) rest =
           each_both VersionFilterFits (filter_for c k (get_or c.clusters k 0)) (filters_from c m (get_or c.clusters k 0 + 1)) (one-fits k (get_or c.clusters k 0)) (rest (get_or c.clusters k 0 + 1))
 
   pub filters-fit : Each VersionFilterFits (filters_of c)
@@ -76,18 +73,18 @@ module _ (c : Cached) where
   unfolding filter_for
   one-few k word = go (coherent_at c k)
     where
-      go : (o : Opt ℕ) → length (version_filter_if word o) ≤ 1
-      go nothing = omega arith
-      go (just v) = omega arith
+      go : (o : Option ℕ) → length (version_filter_if word o) ≤ 1
+      go None = omega arith
+      go (Some v) = omega arith
 
   from-few : (m bound : ℕ) → length (filters_from c m bound) ≤ m
   unfolding filters_from
   from-few zero bound = omega arith
   from-few (suc m) bound = go (least_by c.clusters bound c.cluster_count) (from-few m)
     where
-      go : (r : Found) → ((b : ℕ) → length (filters_from c m b) ≤ m) → length (onwards c (λ b. filters_from c m b) r) ≤ suc m
-      go Nothing rest = omega arith
-      go (At k) rest =
+      go : (r : (Option ℕ)) → ((b : ℕ) → length (filters_from c m b) ≤ m) → length (onwards c (λ b. filters_from c m b) r) ≤ suc m
+      go None rest = omega arith
+      go (Some k) rest =
           omega (arith, length-append (filter_for c k (get_or c.clusters k 0)) (filters_from c m (get_or c.clusters k 0 + 1)), one-few k (get_or c.clusters k 0), rest (get_or c.clusters k 0 + 1))
 
   pub filters-few : length (filters_of c) ≤ c.cluster_count
@@ -122,7 +119,7 @@ module _ (edition exchange : ℕ) (given : Bool) (version e c a : ℕ) (d : Datu
   write-payload = after-envelope edition write_opcode exchange 0 (write_octets given version e c a d)
 
   module _ (fv : version < 2 ^ 32) (p : PathFits e c a) (w : Writable (primitive_d d)) where
-    pub write-meant : map_o (write_tree 7 (drop envelope_length m)) (write_in (drop envelope_length m)) ≡ just (write_means given version e c a d)
+    pub write-meant : map_o (write_tree 7 (drop envelope_length m)) (write_in (drop envelope_length m)) ≡ Some (write_means given version e c a d)
     write-meant = rw write-payload (write-back given version e c a d fv p w)
 
     -- one entry, of the path and version meant, and at its place the value meant
@@ -136,7 +133,7 @@ module _ (edition exchange : ℕ) (given : Bool) (version e c a : ℕ) (d : Datu
 
 -- A SUCCESS
 module _ (edition exchange turn : ℕ) where
-  pub success-meant : response_in (drop envelope_length (success_message edition exchange turn)) ≡ just 0
+  pub success-meant : response_in (drop envelope_length (success_message edition exchange turn)) ≡ Some 0
   unfolding success_message
   success-meant = ap response_in (after-envelope edition status_opcode exchange turn (status_octets 0)) ∙ status-back 0 (omega arith)
 

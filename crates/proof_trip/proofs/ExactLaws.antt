@@ -1,4 +1,5 @@
 -- THE FILTERS OF A READ ARE EXACTLY THE COHERENT CLUSTERS, IN RISING ORDER.
+use Rattle.std.specs.Prelude.{Some, None, Option}
 use mathlib.Core.Path.{◌≡◌, refl, sym, ap, subst}
 use mathlib.Core.Bool.{true, false}
 use mathlib.Core.List.{List, [], ◌∷◌, ◌++◌, Memᴰ}
@@ -8,11 +9,7 @@ use borrow.Author.Tests.{eqb-true, eqb-false, ltb-true, ltb-false, le-ltb, lt-lt
 use lib.Dec.{eqb, ltb}
 use lib.ListN.{get_or}
 use Rattle.tlv_reader.specs.Octet.{pick}
-use Rattle.tlv_reader.specs.Decode.{Opt}
-use Rattle.tlv_reader.specs.Decode.Opt.{just, nothing}
 use Rattle.tlv_reader.proofs.Picks.{pick-elim}
-use Rattle.node_schema.specs.declared.Found.{Found}
-use Rattle.node_schema.specs.declared.Found.TheVariants.{At, Nothing}
 use Rattle.node_schema.proofs.BoolLaws.{by-test}
 use Rattle.im_requests.specs.declared.VersionFilter.{VersionFilter}
 use Rattle.im_writer.specs.Spelling.{Each}
@@ -90,18 +87,18 @@ module _ (c : Cached) where
   unfolding filter_for Each
   one-exact k b = go (coherent_at c k) refl
     where
-      go : (o : Opt ℕ) → coherent_at c k ≡ o → Each (FilterOf c) (version_filter_if (word k) o)
-      go nothing e = tt
-      go (just v) e = (record { place = k; version = v; there = b; coherent = e; same = refl }, tt)
+      go : (o : Option ℕ) → coherent_at c k ≡ o → Each (FilterOf c) (version_filter_if (word k) o)
+      go None e = tt
+      go (Some v) e = (record { place = k; version = v; there = b; coherent = e; same = refl }, tt)
 
   from-exact : (m bound : ℕ) → Each (FilterOf c) (filters_from c m bound)
   unfolding filters_from Each
   from-exact zero bound = tt
   from-exact (suc m) bound = go (least_by c.clusters bound n) (least c.clusters bound n) (from-exact m)
     where
-      go : (r : Found) → Least c.clusters bound n r → ((b : ℕ) → Each (FilterOf c) (filters_from c m b)) → Each (FilterOf c) (onwards c (λ b. filters_from c m b) r)
-      go Nothing h rest = tt
-      go (At k) h rest = each_both (FilterOf c) (filter_for c k (word k)) (filters_from c m (word k + 1)) (one-exact k h.0) (rest (word k + 1))
+      go : (r : (Option ℕ)) → Least c.clusters bound n r → ((b : ℕ) → Each (FilterOf c) (filters_from c m b)) → Each (FilterOf c) (onwards c (λ b. filters_from c m b) r)
+      go None h rest = tt
+      go (Some k) h rest = each_both (FilterOf c) (filter_for c k (word k)) (filters_from c m (word k + 1)) (one-exact k h.0) (rest (word k + 1))
 
   pub filters-exact : Each (FilterOf c) (filters_of c)
   unfolding filters_of
@@ -122,21 +119,21 @@ module _ (c : Cached) where
     from-rise zero bound = tt
     from-rise (suc m) bound = go (least_by c.clusters bound n) (least c.clusters bound n) (from-rise m)
       where
-        with-filter : (k : ℕ) → k < n → bound ≤ word k → Rising (word k + 1) (filters_from c m (word k + 1)) → (o : Opt ℕ) → Rising bound (version_filter_if (word k) o ++ filters_from c m (word k + 1))
-        with-filter k b low rest nothing = lower-bound bound (word k + 1) (filters_from c m (word k + 1)) (omega (arith, low)) rest
-        with-filter k b low rest (just v) =
+        with-filter : (k : ℕ) → k < n → bound ≤ word k → Rising (word k + 1) (filters_from c m (word k + 1)) → (o : Option ℕ) → Rising bound (version_filter_if (word k) o ++ filters_from c m (word k + 1))
+        with-filter k b low rest None = lower-bound bound (word k + 1) (filters_from c m (word k + 1)) (omega (arith, low)) rest
+        with-filter k b low rest (Some v) =
             (omega (arith, low, word_back k v b), subst (λ (w : ℕ). Rising (w + 1) (filters_from c m (word k + 1))) (sym (word_back k v b)) rest)
 
-        go : (r : Found) → Least c.clusters bound n r → ((b : ℕ) → Rising b (filters_from c m b)) → Rising bound (onwards c (λ b. filters_from c m b) r)
-        go Nothing h rest = tt
-        go (At k) h rest = with-filter k h.0 h.1 (rest (word k + 1)) (coherent_at c k)
+        go : (r : (Option ℕ)) → Least c.clusters bound n r → ((b : ℕ) → Rising b (filters_from c m b)) → Rising bound (onwards c (λ b. filters_from c m b) r)
+        go None h rest = tt
+        go (Some k) h rest = with-filter k h.0 h.1 (rest (word k + 1)) (coherent_at c k)
 
     pub filters-rise : Rising 0 (filters_of c)
     unfolding filters_of
     filters-rise = from-rise n 0
 
   -- NONE IS MISSING
-  module _ (distinct : Distinct c) (k v : ℕ) (b : k < c.cluster_count) (e : coherent_at c k ≡ just v) where
+  module _ (distinct : Distinct c) (k v : ℕ) (b : k < c.cluster_count) (e : coherent_at c k ≡ Some v) where
     abbrev Has : List VersionFilter → Type 0
     Has l = Memᴰ (version_filter_as (word k) v) l
 
@@ -145,9 +142,9 @@ module _ (c : Cached) where
     from-complete zero bound few low = absurd (omega (arith, few, left-some c.clusters bound n k b low))
     from-complete (suc m) bound few low = go (least_by c.clusters bound n) (least c.clusters bound n) (from-complete m)
       where
-        go : (r : Found) → Least c.clusters bound n r → ((d : ℕ) → left c.clusters d n ≤ m → d ≤ word k → Has (filters_from c m d)) → Has (onwards c (λ d. filters_from c m d) r)
-        go Nothing h rest = absurd (omega (arith, low, h k b))
-        go (At j) h rest = by-test (eqb (word j) (word k))
+        go : (r : (Option ℕ)) → Least c.clusters bound n r → ((d : ℕ) → left c.clusters d n ≤ m → d ≤ word k → Has (filters_from c m d)) → Has (onwards c (λ d. filters_from c m d) r)
+        go None h rest = absurd (omega (arith, low, h k b))
+        go (Some j) h rest = by-test (eqb (word j) (word k))
             (λ t. let q : j ≡ k = distinct j k h.0 b (eqb-true (word j) (word k) t) in
             subst (λ (i : ℕ). Has (filter_for c i (word i) ++ filters_from c m (word i + 1))) (sym q) (rw e (Memᴰ.head refl)))
             (λ t. mem-right (filter_for c j (word j)) (filters_from c m (word j + 1)) (rest (word j + 1) (omega (arith, few, left-drops c.clusters bound (word j + 1) (omega (arith, h.1)) n j h.0 h.1 (omega arith))) (omega (arith, eqb-false (word j) (word k) t, h.2 k b low))))

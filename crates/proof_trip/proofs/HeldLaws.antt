@@ -1,4 +1,5 @@
 -- WHAT THE SERVER WROTE IS WHAT THE CACHE THEN HOLDS: of every path, what the last block of that path says, else what was held before.
+use Rattle.std.specs.Prelude.{Some, None, Option, Ok, Err}
 use mathlib.Core.Path.{◌≡◌, refl, sym, ap, ◌∙◌}
 use mathlib.Core.Logic.{◌⊎◌, inl, inr}
 use mathlib.Core.Bool.{Bool, true, false, ◌&&◌}
@@ -9,7 +10,6 @@ use borrow.Author.Tests.{eqb-true, eq-eqb}
 use lib.Dec.{eqb}
 use Rattle.tlv_reader.specs.Octet.{pick}
 use Rattle.tlv_reader.specs.Value.{Datum, datum_in}
-use Rattle.tlv_reader.specs.Decode.{Opt}
 use Rattle.tlv_reader.proofs.Picks.{pick-elim}
 use Rattle.im_blocks.specs.Data.{ReportOf, report_struct}
 use Rattle.im_blocks.proofs.BlockLaws.{never}
@@ -20,10 +20,8 @@ use Rattle.proof_round_trip.specs.Meant.{report_octets}
 use Rattle.cache_entries.specs.declared.Cached.{Cached}
 use Rattle.cache_entries.specs.Entries.{CacheEntry, lookup}
 use Rattle.cache_report.specs.declared.block.NewEntry.{NewEntry}
-use Rattle.cache_report.specs.declared.block.Judgement.{Judgement}
-use Rattle.cache_report.specs.declared.block.Judgement.TheVariants.{Taken, Long, Unusable}
-use Rattle.cache_report.specs.declared.position.Position.{Position}
-use Rattle.cache_report.specs.declared.position.Position.TheVariants as position
+use Rattle.cache_report.specs.Block.{Judgement}
+use Rattle.cache_report.specs.declared.block.Unfit.TheVariants.{Long, Unusable}
 use Rattle.cache_report.specs.Entry.{position_of, position_number, held_at, held_for, number_for, worse, page_at, page_for, ItemRight, Good}
 use Rattle.cache_report.specs.Part.{Judged, blocks_in, judgement_in, judged_next, judged_all, held_all, page_all}
 use Rattle.cache_report.proofs.RightLaws.{item-right, block-right}
@@ -39,19 +37,19 @@ RoomFor s c [] = Unit {0}
 RoomFor s c (r ∷ m) = (number_for c (judgement_in s r) ≡ 0) × RoomFor s (held_for c (judgement_in s r)) m
 
 module _ (s : List ℕ) (e cl a : ℕ) (fe : e < 2 ^ 16) (fl : cl < 2 ^ 32) (fa : a < 2 ^ 32) where
-  position-after : (c : Cached) (page : List ℕ) → Good page c → (x : NewEntry) → ItemRight s x → (p : Position) → position_of c x ≡ p → position_number p ≡ 0 → lookup (held_at c x p) (page_at s c page x p) e cl a ≡ pick (same_path x.endpoint x.cluster x.attribute e cl a) (holding x.version (datum_in s x.value)) (lookup c page e cl a)
-  position-after c page g x item position.Full q n = absurd (omega (arith, n))
-  position-after c page g x item (position.At k i) q n = pick-elim (λ (o : Opt CacheEntry). lookup held texts e cl a ≡ o) (same_path x.endpoint x.cluster x.attribute e cl a) (holding x.version (datum_in s x.value)) (lookup c page e cl a)
+  position-after : (c : Cached) (page : List ℕ) → Good page c → (x : NewEntry) → ItemRight s x → (p : (Option (ℕ × ℕ))) → position_of c x ≡ p → position_number p ≡ 0 → lookup (held_at c x p) (page_at s c page x p) e cl a ≡ pick (same_path x.endpoint x.cluster x.attribute e cl a) (holding x.version (datum_in s x.value)) (lookup c page e cl a)
+  position-after c page g x item None q n = absurd (omega (arith, n))
+  position-after c page g x item (Some (k, i)) q n = pick-elim (λ (o : Option CacheEntry). lookup held texts e cl a ≡ o) (same_path x.endpoint x.cluster x.attribute e cl a) (holding x.version (datum_in s x.value)) (lookup c page e cl a)
       (λ t. let rest : (eqb x.cluster cl && eqb x.attribute a) ≡ true = right (eqb x.endpoint e) _ t in
       let here : lookup held texts x.endpoint x.cluster x.attribute ≡ lookup held texts e cl a = λ j. lookup held texts (eqb-true x.endpoint e (left _ _ t) j) (eqb-true x.cluster cl (left _ _ rest) j) (eqb-true x.attribute a (right (eqb x.cluster cl) _ rest) j) in
       sym here ∙ set_same s page c x k i item g.right g.whole q)
       (λ f. set_other s page c x k i item g.right g.whole q e cl a fe fl fa (λ u v w. never (let same : same_path x.endpoint x.cluster x.attribute e cl a ≡ true = both _ _ (eq-eqb x.endpoint e (sym u)) (both _ _ (eq-eqb x.cluster cl (sym v)) (eq-eqb x.attribute a (sym w))) in let clash : true ≡ false = sym same ∙ f in cc)))
     where
       held : Cached
-      held = held_at c x (position.At k i)
+      held = held_at c x (Some (k, i))
 
       texts : List ℕ
-      texts = page_at s c page x (position.At k i)
+      texts = page_at s c page x (Some (k, i))
 
   -- ONE BLOCK
   pub block_held : (c : Cached) (page : List ℕ) → Good page c → (version e' cl' a' : ℕ) (d : Datum) (r : ReportOf ℕ) → TakenAs s (Block.value version e' cl' a' d) r → number_for c (judgement_in s r) ≡ 0 → lookup (held_for c (judgement_in s r)) (page_for s c page (judgement_in s r)) e cl a ≡ pick (same_path e' cl' a' e cl a) (holding version d) (lookup c page e cl a)
@@ -69,7 +67,7 @@ module _ (s : List ℕ) (e cl a : ℕ) (fe : e < 2 ^ 16) (fl : cl < 2 ^ 32) (fa 
   all_after (b ∷ l) [] h c page g room = absurd h
   all_after (Block.value version e' cl' a' d ∷ l) (r ∷ m) h c page g room =
       all_after l m h.1 (held_for c (judgement_in s r)) (page_for s c page (judgement_in s r)) (block-right s page c g (report_struct r)) room.1
-      ∙ ap (λ (o : Opt CacheEntry). after e cl a o l) (block_held c page g version e' cl' a' d r h.0 room.0)
+      ∙ ap (λ (o : Option CacheEntry). after e cl a o l) (block_held c page g version e' cl' a' d r h.0 room.0)
   all_after (Block.status e' cl' a' code ∷ l) (r ∷ m) h c page g room =
       let z : ◌≡◌ {A = ℕ} 6 0 = sym (ap (number_for c) h.0) ∙ room.0 in absurd (omega (arith, z))
 
@@ -89,13 +87,13 @@ bad_last a b (inr e) = by-test (eqb a 6) (λ t. inl (six-first a b (eqb-true a 6
 
 number_is : (c : Cached) (f : Judgement) → (number_for c f ≡ 0) ⊎ Bad (number_for c f)
 unfolding number_for
-number_is c Unusable = inr (inl refl)
-number_is c Long = inr (inr refl)
-number_is c (Taken x) = go (position_of c x)
+number_is c (Err Unusable) = inr (inl refl)
+number_is c (Err Long) = inr (inr refl)
+number_is c (Ok x) = go (position_of c x)
   where
-    go : (p : Position) → (position_number p ≡ 0) ⊎ Bad (position_number p)
-    go (position.At k i) = inl refl
-    go position.Full = inr (inr refl)
+    go : (p : (Option (ℕ × ℕ))) → (position_number p ≡ 0) ⊎ Bad (position_number p)
+    go (Some (k, i)) = inl refl
+    go None = inr (inr refl)
 
 module _ (s : List ℕ) where
   bad-stays : (m : List (ReportOf ℕ)) (j : Judged) → Bad j.number → (judged_all s j m).number ≡ 0 → ⊥

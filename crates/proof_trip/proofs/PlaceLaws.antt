@@ -1,4 +1,5 @@
 -- The value at a place of a message: what the tree there means, and its text in the message.
+use Rattle.std.specs.Prelude.{Some, None, Option}
 use mathlib.Core.Path.{◌≡◌, refl, ap, ◌∙◌}
 use mathlib.Core.Bool.{true, false}
 use mathlib.Core.List.{List}
@@ -9,8 +10,6 @@ use lib.ListN.{length, get_or}
 use lib.Dec.{ltb, eqb}
 use Rattle.base_octets.specs.Number.{number_at, Bytes}
 use Rattle.tlv_reader.specs.declared.Element.{Element}
-use Rattle.tlv_reader.specs.declared.Head.{Head}
-use Rattle.tlv_reader.specs.declared.Head.TheVariants.{Found, Malformed}
 use Rattle.tlv_reader.specs.declared.Value.{Value}
 use Rattle.tlv_reader.specs.declared.Value.TheVariants as value
 use Rattle.tlv_reader.specs.Octet.{pick, tag_width, number_width, is_string}
@@ -33,13 +32,13 @@ module _ (d : ℕ) (s : List ℕ) (bytes : Bytes s) (at : ℕ) {tag : Tag} {x : 
   unfolding value_in tree_at
   place-means e = by-head (head_at s at) refl e
     where
-      by-tree : {y : Element} → head_at s at ≡ Found y → (g : Got Tree) → tree_of d s y ≡ g → or_none g ≡ primitive tag x → datum_in s (value_of y) ≡ datum_p x
+      by-tree : {y : Element} → head_at s at ≡ Some y → (g : Got Tree) → tree_of d s y ≡ g → or_none g ≡ primitive tag x → datum_in s (value_of y) ≡ datum_p x
       by-tree h bad w e = never (cc)
       by-tree h (got t n) w e = value-means d s bytes at h w ∙ ap datum_t e
 
-      by-head : (h : Head) → head_at s at ≡ h → or_none (headed bad (tree_of d s) h) ≡ primitive tag x → datum_in s (headed value.Other value_of h) ≡ datum_p x
-      by-head Malformed h e = never (cc)
-      by-head (Found y) h e = by-tree h (tree_of d s y) refl e
+      by-head : (h : (Option Element)) → head_at s at ≡ h → or_none (headed bad (tree_of d s) h) ≡ primitive tag x → datum_in s (headed value.Other value_of h) ≡ datum_p x
+      by-head None h e = never (cc)
+      by-head (Some y) h e = by-tree h (tree_of d s y) refl e
 
 -- a text lies in the message
 element-inside : (s : List ℕ) (e : Element) → (is_string e.kind ≡ true → e.body + e.number ≤ length s) → InPage s (value_of e)
@@ -57,7 +56,7 @@ element-inside s e h =
     (λ _. pick-elim P (eqb k 20) _ _ (λ _. tt) (λ _. tt))))))))
 
 module _ (s : List ℕ) where
-  abbrev Inside : Head → Type 0
+  abbrev Inside : Option Element → Type 0
   Inside h = InPage s (headed value.Other value_of h)
 
   closed-inside : (form kind tag number body : ℕ) → body ≤ length s → Inside (closed_at (length s) form kind tag number body)
@@ -74,10 +73,10 @@ module _ (s : List ℕ) where
       let kind = get_or s at 0 % 32 in
       let tw = tag_width form in
       let nw = number_width kind in
-      pick-elim Inside (ltb at (length s)) (formed_at s at form kind) Malformed
-      (λ e1. pick-elim Inside (ltb 24 kind) Malformed _ (λ _. tt)
-      (λ _. pick-elim Inside (pick (eqb kind 24) (ltb 0 form) false) Malformed _ (λ _. tt)
-      (λ _. pick-elim Inside (ltb (length s - (at + 1)) (tw + nw)) Malformed _ (λ _. tt)
+      pick-elim Inside (ltb at (length s)) (formed_at s at form kind) None
+      (λ e1. pick-elim Inside (ltb 24 kind) None _ (λ _. tt)
+      (λ _. pick-elim Inside (pick (eqb kind 24) (ltb 0 form) false) None _ (λ _. tt)
+      (λ _. pick-elim Inside (ltb (length s - (at + 1)) (tw + nw)) None _ (λ _. tt)
       (λ e2. closed-inside form kind (number_at tw s (at + 1)) (number_at nw s (at + 1 + tw)) (at + 1 + tw + nw)
       (omega (arith, ltb-true at (length s) e1, ltb-false (length s - (at + 1)) (tw + nw) e2))))))
       (λ _. tt)

@@ -1,4 +1,5 @@
 -- Whole messages of the server, received: the reply awaited is taken; a report with a status block is refused whole, one without is never refused as unusable.
+use Rattle.std.specs.Prelude.{Some, None, Option, Ok}
 use mathlib.Core.Path.{◌≡◌, refl, sym, ap, ◌∙◌}
 use mathlib.Core.Bool.{Bool, true, false}
 use mathlib.Core.List.{List, [], ◌∷◌, ◌++◌}
@@ -9,7 +10,6 @@ use lib.Dec.{eqb, leb, ltb}
 use lib.ListN.{length, length-append}
 use Rattle.base_bounds.specs.Bounds.{payload_limit}
 use Rattle.tlv_reader.specs.Octet.{pick}
-use Rattle.tlv_reader.specs.Decode.Opt.{just}
 use Rattle.tlv_reader.proofs.Picks.{pick-elim}
 use Rattle.im_members.specs.Scalar.{ABSENT}
 use Rattle.im_responses.specs.Report.{PartOf}
@@ -29,9 +29,6 @@ use Rattle.im_envelope.proofs.BigLaws.{envelope-read}
 use Rattle.cache_entries.specs.declared.Cached.{Cached}
 use Rattle.cache_entries.specs.Valid.{held_right}
 use Rattle.cache_report.specs.declared.block.NewEntry.{NewEntry}
-use Rattle.cache_report.specs.declared.block.Judgement.TheVariants.{Taken}
-use Rattle.cache_report.specs.declared.position.Position.{Position}
-use Rattle.cache_report.specs.declared.position.Position.TheVariants.{At, Full}
 use Rattle.cache_report.specs.Part.{Judged, blocks_in, judgement_in, judged_next, judged_all}
 use Rattle.cache_report.specs.Entry.{position_of, position_number, number_for, worse}
 use Rattle.cache_state.specs.declared.CacheState.{CacheState}
@@ -58,13 +55,13 @@ unfolding worse
 not-six a b na nb h =
     pick-elim (λ (x : ℕ). x ≡ 6 → ⊥) (eqb a 7) 7 b (λ _ q. omega (arith, q)) (λ _ q. nb q) (rw (ne_eqb a 6 na, ne_eqb b 6 nb) at h)
 
-taken-not-six : (c : Cached) (x : NewEntry) → number_for c (Taken x) ≡ 6 → ⊥
+taken-not-six : (c : Cached) (x : NewEntry) → number_for c (Ok x) ≡ 6 → ⊥
 unfolding number_for
 taken-not-six c x = go (position_of c x)
   where
-    go : (r : Position) → position_number r ≡ 6 → ⊥
-    go (At k i) q = omega (arith, q)
-    go Full q = omega (arith, q)
+    go : (r : (Option (ℕ × ℕ))) → position_number r ≡ 6 → ⊥
+    go (Some (k, i)) q = omega (arith, q)
+    go None q = omega (arith, q)
 
 module _ (s : List ℕ) where
   six-stays : (m : List (ReportOf ℕ)) (j : Judged) → j.number ≡ 6 → (judged_all s j m).number ≡ 6
@@ -101,7 +98,7 @@ module _ (l : List Block) (m : Bool) (h : Each Sent l) (page : List ℕ) (s : Ca
       ∙ pick-elim (λ (r : CacheReaction). r ≡ refusal 6 s page) (past_turns p.more s.asked.turn) _ _ (λ _. refl) (λ _. rw six refl)
 
   -- where there is room it is taken: with more promised a success is sent, and on the last part the read has ended
-  part-as : (p : PartOf ℕ) (b : Bool) → p.more ≡ pick b 1 ABSENT → (b ≡ true → s.asked.turn ≡ max_turn → ⊥) → judged_for s.held l m ≡ 0 → part_taken page s (report_octets l m) (just p) ≡ pick b (goes_on (held_with s.held l m) s.asked (page_with s.held page l m)) (ends (held_with s.held l m) s.asked (page_with s.held page l m))
+  part-as : (p : PartOf ℕ) (b : Bool) → p.more ≡ pick b 1 ABSENT → (b ≡ true → s.asked.turn ≡ max_turn → ⊥) → judged_for s.held l m ≡ 0 → part_taken page s (report_octets l m) (Some p) ≡ pick b (goes_on (held_with s.held l m) s.asked (page_with s.held page l m)) (ends (held_with s.held l m) s.asked (page_with s.held page l m))
   unfolding past_turns
   part-as p true e n z = rw (e, ne_eqb s.asked.turn max_turn (n refl), z) refl
   part-as p false e n z = rw (e, z) refl

@@ -1,4 +1,5 @@
 -- WHAT THE SERVER WRITES IS TAKEN AS IT WAS MEANT: every block of a report, whatever it is written of that fits.
+use Rattle.std.specs.Prelude.{Some, Ok}
 use mathlib.Core.Path.{◌≡◌, refl, sym, ap, subst, ◌∙◌}
 use mathlib.Core.Bool.{Bool, true, false}
 use mathlib.Core.List.{List}
@@ -13,7 +14,6 @@ use Rattle.tlv_reader.specs.declared.Value.TheVariants as value
 use Rattle.tlv_reader.specs.Octet.{pick}
 use Rattle.tlv_reader.specs.Tree.{Tree}
 use Rattle.tlv_reader.specs.Value.{value_in, datum_in}
-use Rattle.tlv_reader.specs.Decode.Opt.{just}
 use Rattle.tlv_writer.specs.Element.{InPage}
 use Rattle.im_members.specs.Scalar.{ABSENT}
 use Rattle.im_blocks.specs.declared.Path.{Path}
@@ -30,7 +30,6 @@ use Rattle.proof_round_trip.specs.Meant.{report_octets}
 use Rattle.proof_round_trip.proofs.BackLaws.{report-back}
 use Rattle.proof_round_trip.proofs.ReaderLaws.{through}
 use Rattle.cache_entries.specs.Limits.{text_size}
-use Rattle.cache_report.specs.declared.block.Judgement.TheVariants.{Taken}
 use Rattle.im_responses.specs.Kept.{concrete_p}
 use Rattle.cache_entries.specs.Values.{inside_usable, usable_in, long_v}
 use Rattle.cache_report.specs.Block.{item_of, judgement_by, judgement_of}
@@ -67,7 +66,7 @@ module _ (s : List ℕ) where
       (both _ _ (le-leb n (length s) (omega (arith, i))) (both _ _ (le-leb a _ (omega (arith, i))) h.0), le-ltb text_size n (omega (arith, whole, h.1)))
   value-usable value.Other i h = absurd h
 
-  judgement-taken : (p : Path) (version : ℕ) (v : Value) → concrete_p p ≡ true → version < 2 ^ 32 → usable_in s v ≡ true → long_v v ≡ false → judgement_by s p version v ≡ Taken (item_of p version v)
+  judgement-taken : (p : Path) (version : ℕ) (v : Value) → concrete_p p ≡ true → version < 2 ^ 32 → usable_in s v ≡ true → long_v v ≡ false → judgement_by s p version v ≡ Ok (item_of p version v)
   unfolding judgement_by
   judgement-taken p version v c n u l = rw (c, lt-ltb version (2 ^ 32) n, u, l) refl
 
@@ -97,7 +96,7 @@ module _ (s : List ℕ) where
     block-taken (Block.status e c a code) h (refused z) q = refl
 
 -- THE LAW
-pub report-taken : (l : List Block) (m : Bool) → Each Sent l → (p : PartOf ℕ) × (part_in (report_octets l m) ≡ just p) × (p.more ≡ pick m 1 ABSENT) × InStep (TakenAs (report_octets l m)) l (blocks_in (report_octets l m))
+pub report-taken : (l : List Block) (m : Bool) → Each Sent l → (p : PartOf ℕ) × (part_in (report_octets l m) ≡ Some p) × (p.more ≡ pick m 1 ABSENT) × InStep (TakenAs (report_octets l m)) l (blocks_in (report_octets l m))
 unfolding blocks_in
 report-taken l m h =
     let s : List ℕ = report_octets l m in

@@ -1,5 +1,5 @@
 -- What a cache that begins a request has, and what its message is to say at the server.
-use Rattle.std.specs.Prelude.{◌≡◌, Bool, List, ℕ, ◌+◌, ◌≤◌, drop}
+use Rattle.std.specs.Prelude.{◌≡◌, Bool, List, ℕ, ◌+◌, ◌≤◌, drop, Some, Option}
 use Rattle.base_bounds.specs.Bounds.{filter_limit}
 use Rattle.tlv_reader.specs.Value.{Datum, value_in, datum_in}
 use Rattle.im_requests.specs.Read.{read_in, read_read}
@@ -7,19 +7,18 @@ use Rattle.im_requests.specs.Write.{write_in, write_read}
 use Rattle.proof_round_trip.specs.Meant.{read_answer, write_answer}
 use Rattle.im_exchange.specs.Rules.{read_opcode, write_opcode}
 use Rattle.im_writer.specs.Envelope.{cache_edition}
-use Rattle.im_envelope.specs.declared.Envelope.{Envelope}
-use Rattle.im_envelope.specs.declared.Envelope.TheVariants.{Whole}
 use Rattle.im_envelope.specs.Envelope.{envelope_in, envelope_length}
 use Rattle.cache_entries.specs.declared.Cached.{Cached}
 use Rattle.cache_messages.specs.Filters.{filters_of}
 use Rattle.cache_state.specs.declared.CacheState.{CacheState}
+use Rattle.im_envelope.specs.declared.Fields.{Fields}
 
 -- no more clusters than a read may have filters
 pub record Sendable (c : Cached) : Type 0 where
   pub clusters : c.cluster_count ≤ filter_limit
 
-abbrev pub envelope_as : ℕ → ℕ → ℕ → ℕ → Envelope
-envelope_as edition opcode exchange turn = Whole (record { edition = edition; opcode = opcode; exchange = exchange; turn = turn })
+abbrev pub envelope_as : ℕ → ℕ → ℕ → ℕ → Option Fields
+envelope_as edition opcode exchange turn = Some (record { edition = edition; opcode = opcode; exchange = exchange; turn = turn })
 
 -- a read begun: turn 0 of the next exchange, with no ground to refuse it, and the cache's filters
 pub record ReadBegun (s : CacheState) (m : List ℕ) : Type 0 where

@@ -1,6 +1,5 @@
 -- The filters of a read (RULES 7.3), said of the list of filters: each is for a whole cluster, they rise, none is missing.
-use Rattle.std.specs.Prelude.{◌≡◌, List, [], ◌∷◌, ℕ, ◌+◌, ◌≤◌, ◌<◌, get_or}
-use Rattle.tlv_reader.specs.Decode.Opt.{just}
+use Rattle.std.specs.Prelude.{◌≡◌, List, [], ◌∷◌, ℕ, ◌+◌, ◌≤◌, ◌<◌, get_or, Some}
 use Rattle.im_requests.specs.declared.VersionFilter.{VersionFilter}
 use Rattle.cache_entries.specs.declared.Cached.{Cached}
 use Rattle.cache_entries.specs.Entries.{cluster_word}
@@ -12,7 +11,7 @@ pub record FilterOf (c : Cached) (f : VersionFilter) : Type 0 where
   pub place : ℕ
   pub version : ℕ
   pub there : place < c.cluster_count
-  pub coherent : coherent_at c place ≡ just version
+  pub coherent : coherent_at c place ≡ Some version
   pub same : f ≡ version_filter_as (get_or c.clusters place 0) version
 
 -- a filter's cluster on its endpoint, as one number

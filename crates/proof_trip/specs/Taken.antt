@@ -1,5 +1,5 @@
 -- What a cache is to make of what a server writes: a block with a value is taken as it was meant, one with a status is not taken, and a write ends with its status.
-use Rattle.std.specs.Prelude.{◌≡◌, Bool, true, false, List, [], ◌∷◌, ◌++◌, ℕ, ◌≤◌, length}
+use Rattle.std.specs.Prelude.{◌≡◌, Bool, true, false, List, [], ◌∷◌, ◌++◌, ℕ, ◌≤◌, length, Ok, Err}
 use Rattle.tlv_reader.specs.Value.{Datum, datum_in, null, boolean, unsigned, signed, float, text, other}
 use Rattle.base_utf8.specs.WellFormed.{well_formed}
 use Rattle.im_blocks.specs.Data.{ReportOf}
@@ -10,7 +10,7 @@ use Rattle.proof_round_trip.specs.Meant.{WriteStatus, report_octets}
 use Rattle.cache_entries.specs.declared.Cached.{Cached}
 use Rattle.cache_entries.specs.Limits.{text_size}
 use Rattle.cache_report.specs.declared.block.NewEntry.{NewEntry}
-use Rattle.cache_report.specs.declared.block.Judgement.TheVariants.{Taken, Unusable}
+use Rattle.cache_report.specs.declared.block.Unfit.TheVariants.{Unusable}
 use Rattle.cache_report.specs.Part.{blocks_in, judgement_in, judged_all, held_all, page_all}
 use Rattle.cache_state.specs.declared.Request.{Request}
 use Rattle.cache_state.specs.declared.CacheState.{CacheState}
@@ -44,8 +44,8 @@ pub record Says (s : List ℕ) (version endpoint cluster attribute : ℕ) (d : D
 -- a block as it was written, and as it is read from the message s
 unfoldable pub TakenAs : List ℕ → Block → ReportOf ℕ → Type 0
 TakenAs s (value version endpoint cluster attribute d) r =
-    (x : NewEntry) × (judgement_in s r ≡ Taken x) × Says s version endpoint cluster attribute d x
-TakenAs s (status endpoint cluster attribute code) r = judgement_in s r ≡ Unusable
+    (x : NewEntry) × (judgement_in s r ≡ Ok x) × Says s version endpoint cluster attribute d x
+TakenAs s (status endpoint cluster attribute code) r = judgement_in s r ≡ Err Unusable
 
 -- a status among blocks
 unfoldable pub any_status : List Block → Bool

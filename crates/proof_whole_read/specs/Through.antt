@@ -1,9 +1,8 @@
 -- A READ OF A SERVER THAT NOBODY ELSE TOUCHES (RULES 3.6 to 3.13, 5.10 to 5.12): the request, and then a success for each reply that promises more.
-use Rattle.std.specs.Prelude.{◌≡◌, Bool, true, false, List, [], ◌∷◌, ◌++◌, ℕ, zero, suc, ◌+◌, ◌≤◌, ◌<◌, eqb, length, get_or, drop}
+use Rattle.std.specs.Prelude.{◌≡◌, Bool, true, false, List, [], ◌∷◌, ◌++◌, ℕ, zero, suc, ◌+◌, ◌≤◌, ◌<◌, eqb, length, get_or, drop, Some}
 use Rattle.tlv_reader.specs.Octet.{pick}
 use Rattle.im_requests.specs.Read.{read_in, read_read}
 use Rattle.im_envelope.specs.declared.Fields.{Fields}
-use Rattle.im_envelope.specs.declared.Envelope.TheVariants.{Whole}
 use Rattle.im_envelope.specs.Envelope.{envelope_in}
 use Rattle.im_writer.specs.Envelope.{cache_edition, envelope_octets}
 use Rattle.im_writer.specs.Spelling.{spelling}
@@ -60,7 +59,7 @@ messages_of exchange k (p ∷ l) = part_message exchange k p (some l) ∷ messag
 
 -- a Read Request of the one who is served, in an exchange above the last, that is not refused
 pub record Asks (s : Server) (c : Caller) (m : List ℕ) (e : Fields) : Type 0 where
-  pub found : envelope_in m ≡ Whole e
+  pub found : envelope_in m ≡ Some e
   pub fits : length m ≤ max_message
   pub edition : e.edition ≡ cache_edition
   pub opcode : e.opcode ≡ read_opcode

@@ -1,30 +1,23 @@
 -- The messages that lines hand over, and what a line without an answer says.
-use Rattle.std.specs.Prelude.{List, Bool, true, false, ◌&&◌, ℕ, min, eqb, ltb, take, replicate}
+use Rattle.std.specs.Prelude.{List, Bool, ◌&&◌, ℕ, min, eqb, ltb, take, replicate, None, Option, Ok, Err, Result}
 use Rattle.base_octets.specs.Store.{store}
 use Rattle.tlv_reader.specs.Octet.{pick}
 use Rattle.script_lines.specs.declared.Scan.{Scan}
 use Rattle.script_lines.specs.declared.hex.Bytes.{Bytes}
 use Rattle.script_lines.specs.Words.{is_done}
 use Rattle.script_lines.specs.Bytes.{rest_at, rest_kept}
-use Rattle.script_answer.specs.declared.LineSaid.{LineSaid}
-use Rattle.script_answer.specs.declared.LineSaid.TheVariants.{Nothing, Wrong}
+use Rattle.script_answer.specs.declared.AnswerLine.{AnswerLine}
+use Rattle.script_answer.specs.declared.Fault.{Fault}
+use Rattle.script_answer.specs.declared.Fault.TheVariants.{Unreadable}
 use Rattle.script_answer.specs.declared.message.MessageWords.{MessageWords}
-use Rattle.script_answer.specs.declared.message.Handed.{Handed}
 
--- a line that could not be read
-abbrev pub unreadable : ℕ
-unreadable = 1
-
--- no message of the cache, no reply of the server to hand over
-abbrev pub not_sent : ℕ
-not_sent = 3
-
-abbrev pub not_replied : ℕ
-not_replied = 4
+-- a line of answer: its number, and how many bytes follow
+abbrev pub answer : ℕ → ℕ → AnswerLine
+answer n len = record { number = n; len = len }
 
 -- what a line without an answer says, if it could be read
-abbrev pub silent : Bool → LineSaid
-silent ok = pick ok Nothing (Wrong unreadable)
+abbrev pub silent : Bool → Result (Option AnswerLine) Fault
+silent ok = pick ok (Ok None) (Err Unreadable)
 
 -- bytes that a line can spell, and one more, to tell an overlong message
 abbrev pub spelled_max : ℕ
@@ -51,20 +44,14 @@ no_message = message zeros 0
 abbrev pub newer_of : MessageWords → List ℕ → ℕ → MessageWords
 newer_of old out n = pick (eqb n 0) old (message (store zeros 0 out) (min n message_max))
 
-abbrev pub handed : MessageWords → Handed
-handed m = record { message = m; fault = 0 }
-
-abbrev pub not_handed : ℕ → Handed
-not_handed fault = record { message = no_message; fault = fault }
-
 -- the bytes that were read, if they are a message
-abbrev pub handed_by : List ℕ → Bytes → Handed
-handed_by bytes b = pick (b.ok && ltb b.len spelled_max) (handed (message bytes b.len)) (not_handed unreadable)
+abbrev pub handed_by : List ℕ → Bytes → Result MessageWords Fault
+handed_by bytes b = pick (b.ok && ltb b.len spelled_max) (Ok (message bytes b.len)) (Err Unreadable)
 
 -- the message that the rest of a line spells
-unfoldable pub spelled_at : List ℕ → Scan → Handed
+unfoldable pub spelled_at : List ℕ → Scan → Result MessageWords Fault
 spelled_at line s = handed_by (rest_kept line s zeros) (rest_at line s spelled_max)
 
 -- the newest message of an end, for a line that has no word more; none if it has made none
-abbrev pub newest_of : Scan → MessageWords → ℕ → Handed
-newest_of s m none = pick (is_done s) (pick (eqb m.len 0) (not_handed none) (handed m)) (not_handed unreadable)
+abbrev pub newest_of : Scan → MessageWords → Fault → Result MessageWords Fault
+newest_of s m none = pick (is_done s) (pick (eqb m.len 0) (Err none) (Ok m)) (Err Unreadable)

@@ -1,11 +1,10 @@
 // The messages that lines hand over: spelled on the line, or the newest one that an end has made.
 ghost use Rattle.std.specs.Prelude.{◌≡◌};
-ghost use Rattle.script_answer.specs.Messages.{no_message, newer_of, not_handed, spelled_at, newest_of};
+ghost use Rattle.script_answer.specs.Messages.{no_message, newer_of, spelled_at, newest_of};
 
-use super::UNREADABLE;
+use super::Fault;
 use im_envelope::MAX_MESSAGE;
 use script_lines::hex::{SPELLED, rest};
-use script_lines::sizes::least;
 use script_lines::{Scan, is_done};
 
 // The first len of the bytes; an end that has made no message yet has one of length 0.
@@ -13,13 +12,6 @@ use script_lines::{Scan, is_done};
 pub struct MessageWords {
     pub bytes: [u8; SPELLED],
     pub len: usize,
-}
-
-// The message that a line hands over, or what is wrong with the line.
-#[derive(Clone, Copy)]
-pub struct Handed {
-    pub message: MessageWords,
-    pub fault: u8,
 }
 
 pub fn no_message() -> MessageWords
@@ -42,49 +34,34 @@ pub fn newer(old: MessageWords, out: &[u8; MAX_MESSAGE], len: usize) -> MessageW
     base_octets::put_bytes(&mut bytes, 0, out);
     MessageWords {
         bytes,
-        len: least(len, MAX_MESSAGE),
+        len: len.min(MAX_MESSAGE),
     }
 }
 
-fn nothing(fault: u8) -> Handed
-    ensures { result ≡ not_handed fault }
-{
-    Handed {
-        message: no_message(),
-        fault,
-    }
-}
-
-// The bytes on the rest of the line.
-pub fn spelled(line: &[u8], s: Scan) -> Handed
+// The message that the rest of the line spells.
+pub fn spelled(line: &[u8], s: Scan) -> Result<MessageWords, Fault>
     ensures { result ≡ spelled_at line.now s }
 {
     let mut bytes = [0u8; SPELLED];
     let b = rest(line, s, &mut bytes);
     if !b.ok {
-        return nothing(UNREADABLE);
+        return Err(Fault::Unreadable);
     }
     if SPELLED <= b.len {
-        return nothing(UNREADABLE);
+        return Err(Fault::Unreadable);
     }
-    Handed {
-        message: MessageWords { bytes, len: b.len },
-        fault: 0,
-    }
+    Ok(MessageWords { bytes, len: b.len })
 }
 
 // The newest message of an end, for a line that has no word more; what is wrong if there is none.
-pub fn newest(s: Scan, m: MessageWords, none: u8) -> Handed
+pub fn newest(s: Scan, m: MessageWords, none: Fault) -> Result<MessageWords, Fault>
     ensures { result ≡ newest_of s m none }
 {
     if !is_done(s) {
-        return nothing(UNREADABLE);
+        return Err(Fault::Unreadable);
     }
     if m.len == 0 {
-        return nothing(none);
+        return Err(none);
     }
-    Handed {
-        message: m,
-        fault: 0,
-    }
+    Ok(m)
 }

@@ -43,10 +43,8 @@ fn put_bytes(text: &mut [u8], at: usize, bytes: &[u8]) -> usize
     ensures { Stored text.old at (hex_text bytes.now) text.new result }
 {
     let mut next = at;
-    let mut i = 0;
-    while i < bytes.len() {
-        next = put_byte(text, next, bytes[i]);
-        i += 1;
+    for x in bytes {
+        next = put_byte(text, next, *x);
     }
     next
 }

@@ -1,15 +1,14 @@
 -- An entry that the cache holds can be shown: its text lies in the page, and version and value fit the buffer.
 use mathlib.Core.Path.{◌≡◌, refl}
 use mathlib.Core.List.{List}
-use Prim.Native.Nat.{ℕ, ◌+◌, ◌≤◌}
+use Prim.Native.Nat.{ℕ, ◌≤◌}
 use native.Mathlib.Omega.{arith}
-use lib.ListN.{length, take, drop, length-take}
+use lib.ListN.{length, drop, length-take}
 use Rattle.tlv_reader.specs.Octet.{pick, tag_width}
-use Rattle.tlv_reader.specs.declared.Value.{Value}
 use Rattle.tlv_reader.specs.declared.Value.TheVariants as Parsed
-use Rattle.tlv_reader.specs.Value.{Datum, datum_in}
+use Rattle.tlv_reader.specs.Value.{Datum}
 use Rattle.tlv_writer.specs.declared.Tag.TheVariants.{Anonymous}
-use Rattle.tlv_writer.specs.Element.{form_of, head_length, datum_octets, InPage}
+use Rattle.tlv_writer.specs.Element.{form_of, head_length, datum_octets}
 use Rattle.tlv_writer.proofs.Widths.{unsigned-is-width, signed-is-width}
 use Rattle.tlv_writer.proofs.Octets.{length-unsigned, length-signed, length-boolean, length-null, length_float, length-text}
 use Rattle.im_writer.specs.Block.{ShortText}

@@ -1,5 +1,6 @@
 -- What a line for the cache does, by its first word and what it spells (docs/SCRIPTS.md).
-use Rattle.std.specs.Prelude.{◌≡◌, List, ℕ, eqb, length}
+use Rattle.std.specs.Prelude.{◌≡◌, List, ℕ, length, Option, is_some, Ok, Err, Result, IsOkAnd}
+use Rattle.std.specs.Option.{unwrap_or}
 use Rattle.tlv_reader.specs.Octet.{pick}
 use Rattle.tlv_reader.specs.declared.Value.{Value}
 use Rattle.node_kinds.specs.Stored.{equal}
@@ -17,11 +18,11 @@ use Rattle.script_lines.specs.Paths.{id_max, path_at}
 use Rattle.script_lines.specs.Bytes.{stored_in}
 use Rattle.script_lines.specs.Values.{value_at, value_kept}
 use Rattle.script_answer.specs.declared.message.MessageWords.{MessageWords}
-use Rattle.script_answer.specs.declared.message.Handed.{Handed}
-use Rattle.script_answer.specs.Messages.{unreadable, not_replied, spelled_max, zeros, content_of, spelled_at, newest_of}
+use Rattle.script_answer.specs.declared.Fault.{Fault}
+use Rattle.script_answer.specs.declared.Fault.TheVariants.{Unreadable, NotReplied}
+use Rattle.script_answer.specs.Messages.{spelled_max, zeros, content_of, spelled_at, newest_of}
 use Rattle.script_cache.specs.declared.CacheMemory.{CacheMemory}
 use Rattle.script_cache.specs.declared.CacheAnswered.{CacheAnswered}
-use Rattle.script_cache.specs.declared.Acted.{Acted}
 use Rattle.script_cache.specs.Lines.{resend_name, write_name, back_name, begins_request, state_of}
 
 -- THE CALLS, in a memory and with a page of texts; `room` is the buffer's length
@@ -38,19 +39,19 @@ resends_by m page room = in_memory m page (resends page (state_of m) room)
 abbrev pub receives_by : CacheMemory → List ℕ → List ℕ → ℕ → CacheReaction
 receives_by m page message room = in_memory m page (received page (state_of m) message room)
 
-abbrev pub writes_by : CacheMemory → List ℕ → PathWords → MarkedNumber → List ℕ → Value → ℕ → CacheReaction
+abbrev pub writes_by : CacheMemory → List ℕ → PathWords → Option ℕ → List ℕ → Value → ℕ → CacheReaction
 writes_by m page a version src v room =
-    in_memory m page (begins_write page (state_of m) a.endpoint a.cluster a.attribute version.given version.value src v room)
+    in_memory m page (begins_write page (state_of m) a.endpoint a.cluster a.attribute (is_some version) (unwrap_or version 0) src v room)
 
 -- WHAT A LINE SAYS: what is wrong with it, or what is to be done
 pub data CacheTurn : Type 0 where
-  fault : ℕ → CacheTurn
+  fault : Fault → CacheTurn
   does : CacheReaction → CacheTurn
 
 -- write: a path, a version or the mark -, the byte 45, and a value
 abbrev pub write_by : List ℕ → CacheMemory → List ℕ → ℕ → PathWords → MarkedNumber → Parsed → CacheTurn
 write_by line m page room a version v =
-    pick v.ok (CacheTurn.does (writes_by m page a version (value_kept line version.next zeros) v.value room)) (CacheTurn.fault unreadable)
+    pick v.ok (CacheTurn.does (writes_by m page a version.value (value_kept line version.next zeros) v.value room)) (CacheTurn.fault Unreadable)
 
 abbrev pub version_at : List ℕ → PathWords → MarkedNumber
 version_at line a = marked_at line a.next 45 id_max
@@ -67,15 +68,15 @@ asked_again name m page room = pick (equal name resend_name) (resends_by m page 
 unfoldable pub begin_turn : List ℕ → List ℕ → Scan → CacheMemory → List ℕ → ℕ → CacheTurn
 begin_turn name line s m page room =
     pick (equal name write_name) (write_turn line s m page room)
-    (pick (is_done s) (CacheTurn.does (asked_again name m page room)) (CacheTurn.fault unreadable))
+    (pick (is_done s) (CacheTurn.does (asked_again name m page room)) (CacheTurn.fault Unreadable))
 
 -- back: the server's newest reply; panel: the message that the line spells
-abbrev pub handed_at : List ℕ → List ℕ → Scan → MessageWords → Handed
-handed_at name line s replied = pick (equal name back_name) (newest_of s replied not_replied) (spelled_at line s)
+abbrev pub handed_at : List ℕ → List ℕ → Scan → MessageWords → Result MessageWords Fault
+handed_at name line s replied = pick (equal name back_name) (newest_of s replied NotReplied) (spelled_at line s)
 
-abbrev pub hand_turn : Handed → CacheMemory → List ℕ → ℕ → CacheTurn
-hand_turn h m page room =
-    pick (eqb h.fault 0) (CacheTurn.does (receives_by m page (content_of h.message) room)) (CacheTurn.fault h.fault)
+abbrev pub hand_turn : Result MessageWords Fault → CacheMemory → List ℕ → ℕ → CacheTurn
+hand_turn (Ok message) m page room = CacheTurn.does (receives_by m page (content_of message) room)
+hand_turn (Err e) m page room = CacheTurn.fault e
 
 unfoldable pub turn_at : List ℕ → List ℕ → Scan → CacheMemory → MessageWords → List ℕ → ℕ → CacheTurn
 turn_at name line s m replied page room =
@@ -96,22 +97,12 @@ pub record ReactsIn (room : ℕ) (x : CacheReaction) (m : CacheMemory) (page old
   pub texts : page ≡ x.page
   pub buffer : new ≡ stored_in room old x.reply
 
-abbrev pub unplayed : CacheMemory → ℕ → Acted
-unplayed m n = record { answered = record { cache = m; outcome = record { number = 0; len = 0 } }; fault = n }
-
-abbrev pub played : CacheAnswered → Acted
-played r = record { answered = r; fault = 0 }
-
 -- a line with a fault leaves everything as it was
-pub record Unplayed (n : ℕ) (m : CacheMemory) (page new_page old new : List ℕ) (r : Acted) : Type 0 where
-  pub says : r ≡ unplayed m n
+pub record Unplayed (e : Fault) (page new_page old new : List ℕ) (r : Result CacheAnswered Fault) : Type 0 where
+  pub says : r ≡ Err e
   pub texts : new_page ≡ page
   pub buffer : new ≡ old
 
-pub record Plays (room : ℕ) (x : CacheReaction) (m : CacheMemory) (page old new : List ℕ) (r : Acted) : Type 0 where
-  pub clear : r.fault ≡ 0
-  pub reacts : ReactsIn room x m page old new r.answered
-
-abbrev pub ActsBy : CacheTurn → CacheMemory → ℕ → List ℕ → List ℕ → List ℕ → List ℕ → Acted → Type 0
-ActsBy (CacheTurn.fault n) m room page new_page old new r = Unplayed n m page new_page old new r
-ActsBy (CacheTurn.does x) m room page new_page old new r = Plays room x m new_page old new r
+abbrev pub ActsBy : CacheTurn → CacheMemory → ℕ → List ℕ → List ℕ → List ℕ → List ℕ → Result CacheAnswered Fault → Type 0
+ActsBy (CacheTurn.fault e) m room page new_page old new r = Unplayed e page new_page old new r
+ActsBy (CacheTurn.does x) m room page new_page old new r = IsOkAnd r (ReactsIn room x m new_page old new)

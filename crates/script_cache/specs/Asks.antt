@@ -1,5 +1,5 @@
 -- What a line that asks the cache says, by its first word and what it spells (docs/SCRIPTS.md).
-use Rattle.std.specs.Prelude.{List, [], ◌∷◌, ℕ}
+use Rattle.std.specs.Prelude.{List, [], ◌∷◌, ℕ, Ok, Result}
 use Rattle.tlv_reader.specs.Octet.{pick}
 use Rattle.node_kinds.specs.Stored.{equal}
 use Rattle.cache_state.specs.Words.{words_right}
@@ -8,6 +8,7 @@ use Rattle.cache_ask.specs.declared.EntryHeld.TheVariants as held
 use Rattle.cache_ask.specs.declared.Ended.TheVariants as ended
 use Rattle.cache_ask.specs.declared.Abandoned.TheVariants as abandoned
 use Rattle.cache_ask.specs.Ask.{whole_of, entry_of, outcome_of, unknown_of}
+use Rattle.script_answer.specs.declared.Fault.{Fault}
 use Rattle.script_lines.specs.declared.Scan.{Scan}
 use Rattle.script_lines.specs.declared.path.ClusterWords.{ClusterWords}
 use Rattle.script_lines.specs.declared.path.PathWords.{PathWords}
@@ -35,31 +36,31 @@ abbrev pub of_memory : {A : Type 0} → CacheMemory → A → A → A
 of_memory m x broken = pick (words_right m.asked) x broken
 
 -- what is said if the whole line was read
-abbrev pub when_read : Scan → Shown → Shown
-when_read s x = pick (is_done s) x unread
+abbrev pub when_read : Scan → Shown → Result Shown Fault
+when_read s x = pick (is_done s) (Ok x) unread
 
 -- of a cluster, of an attribute
-abbrev pub whole_by : CacheMemory → List ℕ → ClusterWords → Shown
+abbrev pub whole_by : CacheMemory → List ℕ → ClusterWords → Result Shown Fault
 whole_by m page p = when_read p.next (whole_shown (of_memory m (whole_of page (state_of m) p.endpoint p.cluster) whole.Broken))
 
-unfoldable pub whole_at : List ℕ → Scan → CacheMemory → List ℕ → Shown
+unfoldable pub whole_at : List ℕ → Scan → CacheMemory → List ℕ → Result Shown Fault
 whole_at line s m page = whole_by m page (place_at line s)
 
-abbrev pub entry_by : CacheMemory → List ℕ → PathWords → Shown
+abbrev pub entry_by : CacheMemory → List ℕ → PathWords → Result Shown Fault
 entry_by m page p =
     when_read p.next (entry_shown page (of_memory m (entry_of page (state_of m) p.endpoint p.cluster p.attribute) held.Broken))
 
-unfoldable pub entry_at : List ℕ → Scan → CacheMemory → List ℕ → Shown
+unfoldable pub entry_at : List ℕ → Scan → CacheMemory → List ℕ → Result Shown Fault
 entry_at line s m page = entry_by m page (path_at line s)
 
 -- of the newest request, of the newest abandoned write
-unfoldable pub outcome_at : Scan → CacheMemory → List ℕ → Shown
+unfoldable pub outcome_at : Scan → CacheMemory → List ℕ → Result Shown Fault
 outcome_at s m page = when_read s (outcome_shown (of_memory m (outcome_of page (state_of m)) ended.Broken))
 
-unfoldable pub unknown_at : Scan → CacheMemory → List ℕ → Shown
+unfoldable pub unknown_at : Scan → CacheMemory → List ℕ → Result Shown Fault
 unknown_at s m page = when_read s (unknown_shown (of_memory m (unknown_of page (state_of m)) abandoned.Broken))
 
-unfoldable pub ask_shown : List ℕ → List ℕ → Scan → CacheMemory → List ℕ → Shown
+unfoldable pub ask_shown : List ℕ → List ℕ → Scan → CacheMemory → List ℕ → Result Shown Fault
 ask_shown name line s m page =
     pick (equal name whole_name) (whole_at line s m page)
     (pick (equal name entry_name) (entry_at line s m page)

@@ -1,5 +1,5 @@
 -- What a line that asks the cache says: an answer, which is a number of RULES 6.1 and bytes, which stand at the start of the buffer; or what is wrong.
-use Rattle.std.specs.Prelude.{◌≡◌, List, [], ◌∷◌, ◌++◌, ℕ, length}
+use Rattle.std.specs.Prelude.{◌≡◌, List, [], ◌∷◌, ◌++◌, ℕ, length, Ok, Err, Result, IsOkAnd}
 use Rattle.base_octets.specs.Store.{store}
 use Rattle.tlv_reader.specs.Value.{datum_in}
 use Rattle.tlv_writer.specs.declared.Tag.TheVariants.{Anonymous}
@@ -14,20 +14,21 @@ use Rattle.cache_ask.specs.declared.Ended.{Ended}
 use Rattle.cache_ask.specs.declared.Ended.TheVariants as ended
 use Rattle.cache_ask.specs.declared.Abandoned.{Abandoned}
 use Rattle.cache_ask.specs.declared.Abandoned.TheVariants as abandoned
-use Rattle.script_answer.specs.declared.LineSaid.{LineSaid}
-use Rattle.script_answer.specs.declared.LineSaid.TheVariants.{Line, Wrong}
-use Rattle.script_answer.specs.Messages.{unreadable}
+use Rattle.script_answer.specs.declared.AnswerLine.{AnswerLine}
+use Rattle.script_answer.specs.declared.Fault.{Fault}
+use Rattle.script_answer.specs.declared.Fault.TheVariants.{Unreadable}
+use Rattle.script_answer.specs.Messages.{answer}
 
 pub record Shown : Type 0 where
-  pub said : LineSaid
+  pub number : ℕ
   pub bytes : List ℕ
 
 abbrev pub shown : ℕ → List ℕ → Shown
-shown n l = record { said = Line n (length l); bytes = l }
+shown n l = record { number = n; bytes = l }
 
 -- a line that can't be read
-abbrev pub unread : Shown
-unread = record { said = Wrong unreadable; bytes = [] }
+abbrev pub unread : Result Shown Fault
+unread = Err Unreadable
 
 -- 0 and the version's four bytes, most significant first; or 1
 abbrev pub whole_shown : Whole → Shown
@@ -55,10 +56,19 @@ unknown_shown abandoned.Broken = shown 2 []
 unknown_shown abandoned.Nothing = shown 1 []
 unknown_shown (abandoned.Exchange n) = shown 0 (big_octets 5 n)
 
--- what the code does: these bytes in the buffer, and what the line says
-pub record Shows (x : Shown) (old new : List ℕ) (said : LineSaid) : Type 0 where
-  pub line : said ≡ x.said
+-- what the code does: these bytes in the buffer, and the line's number and length
+pub record Shows (x : Shown) (old new : List ℕ) (said : AnswerLine) : Type 0 where
+  pub line : said ≡ answer x.number (length x.bytes)
   pub content : new ≡ store old 0 x.bytes
+
+-- or what is wrong, and the buffer as it was
+pub record Unsaid (e : Fault) (old new : List ℕ) (said : Result AnswerLine Fault) : Type 0 where
+  pub line : said ≡ Err e
+  pub content : new ≡ old
+
+abbrev pub Says : Result Shown Fault → List ℕ → List ℕ → Result AnswerLine Fault → Type 0
+Says (Ok x) old new said = IsOkAnd said (Shows x old new)
+Says (Err e) old new said = Unsaid e old new said
 
 -- a value that can be shown: its text lies in the page, and is no longer than a text may be
 abbrev pub Showable : List ℕ → EntryHeld → Type 0

@@ -3,8 +3,8 @@ ghost use Rattle.std.specs.Prelude.{◌≡◌, ◌≤◌};
 ghost use Rattle.base_octets.specs.Store.{store};
 ghost use Rattle.tlv_writer.specs.Element.{InPage};
 ghost use Rattle.im_writer.specs.Envelope.{big_octets};
-ghost use Rattle.script_answer.specs.declared.LineSaid.TheVariants as says;
-ghost use Rattle.script_cache.specs.Shown.{whole_shown, entry_shown, outcome_shown, unknown_shown, Shows, Showable};
+ghost use Rattle.script_answer.specs.Messages.{answer};
+ghost use Rattle.script_cache.specs.Shown.{whole_shown, entry_shown, outcome_shown, unknown_shown, Shows, Says, Showable};
 ghost use Rattle.script_cache.specs.Asks.{whole_at, entry_at, outcome_at, unknown_at, ask_shown};
 
 use super::CacheMemory;
@@ -12,7 +12,7 @@ use cache_ask::{Abandoned, Ended, EntryHeld, Whole};
 use cache_entries::PAGE_SIZE;
 use im_envelope::MAX_MESSAGE;
 use node_kinds::stored::same_bytes;
-use script_answer::{LineSaid, UNREADABLE};
+use script_answer::{AnswerLine, Fault};
 use script_lines::path::{read_path, read_place};
 use script_lines::{Scan, is_done};
 use tlv_reader::Value;
@@ -48,13 +48,13 @@ fn put_exchange(out: &mut [u8; MAX_MESSAGE], n: u64)
     put_four(out, 1, n);
 }
 
-fn said(number: u8, len: usize) -> LineSaid
-    ensures { result ≡ says.Line number len }
+fn said(number: u8, len: usize) -> AnswerLine
+    ensures { result ≡ answer number len }
 {
-    LineSaid::Line { number, len }
+    AnswerLine { number, len }
 }
 
-fn say_whole(w: Whole, out: &mut [u8; MAX_MESSAGE]) -> LineSaid
+fn say_whole(w: Whole, out: &mut [u8; MAX_MESSAGE]) -> AnswerLine
     ensures { Shows (whole_shown w) out.old out.new result }
 {
     match w {
@@ -85,7 +85,7 @@ fn held(v: Value, page: &[u8]) -> Value
 }
 
 // An entry: its value as an untagged element after the version.
-fn say_entry(h: EntryHeld, page: &[u8; PAGE_SIZE], out: &mut [u8; MAX_MESSAGE]) -> LineSaid
+fn say_entry(h: EntryHeld, page: &[u8; PAGE_SIZE], out: &mut [u8; MAX_MESSAGE]) -> AnswerLine
     requires { Showable page.now h }
     ensures { Shows (entry_shown page.now h) out.old out.new result }
 {
@@ -101,7 +101,7 @@ fn say_entry(h: EntryHeld, page: &[u8; PAGE_SIZE], out: &mut [u8; MAX_MESSAGE]) 
     }
 }
 
-fn say_outcome(e: Ended, out: &mut [u8; MAX_MESSAGE]) -> LineSaid
+fn say_outcome(e: Ended, out: &mut [u8; MAX_MESSAGE]) -> AnswerLine
     ensures { Shows (outcome_shown e) out.old out.new result }
 {
     match e {
@@ -119,7 +119,7 @@ fn say_outcome(e: Ended, out: &mut [u8; MAX_MESSAGE]) -> LineSaid
     }
 }
 
-fn say_unknown(a: Abandoned, out: &mut [u8; MAX_MESSAGE]) -> LineSaid
+fn say_unknown(a: Abandoned, out: &mut [u8; MAX_MESSAGE]) -> AnswerLine
     ensures { Shows (unknown_shown a) out.old out.new result }
 {
     match a {
@@ -138,12 +138,12 @@ fn whole_line(
     cache: CacheMemory,
     page: &[u8; PAGE_SIZE],
     out: &mut [u8; MAX_MESSAGE],
-) -> LineSaid
-    ensures { Shows (whole_at line.now s cache page.now) out.old out.new result }
+) -> Result<AnswerLine, Fault>
+    ensures { Says (whole_at line.now s cache page.now) out.old out.new result }
 {
     let a = read_place(line, s);
     if !is_done(a.next) {
-        return LineSaid::Wrong(UNREADABLE);
+        return Err(Fault::Unreadable);
     }
     let p = cache;
     let w = cache_ask::coherent(
@@ -159,7 +159,7 @@ fn whole_line(
         a.endpoint,
         a.cluster,
     );
-    say_whole(w, out)
+    Ok(say_whole(w, out))
 }
 
 fn entry_line(
@@ -168,12 +168,12 @@ fn entry_line(
     cache: CacheMemory,
     page: &[u8; PAGE_SIZE],
     out: &mut [u8; MAX_MESSAGE],
-) -> LineSaid
-    ensures { Shows (entry_at line.now s cache page.now) out.old out.new result }
+) -> Result<AnswerLine, Fault>
+    ensures { Says (entry_at line.now s cache page.now) out.old out.new result }
 {
     let a = read_path(line, s);
     if !is_done(a.next) {
-        return LineSaid::Wrong(UNREADABLE);
+        return Err(Fault::Unreadable);
     }
     let p = cache;
     let h = cache_ask::entry(
@@ -190,7 +190,7 @@ fn entry_line(
         a.cluster,
         a.attribute,
     );
-    say_entry(h, page, out)
+    Ok(say_entry(h, page, out))
 }
 
 fn outcome_line(
@@ -198,11 +198,11 @@ fn outcome_line(
     cache: CacheMemory,
     page: &[u8; PAGE_SIZE],
     out: &mut [u8; MAX_MESSAGE],
-) -> LineSaid
-    ensures { Shows (outcome_at s cache page.now) out.old out.new result }
+) -> Result<AnswerLine, Fault>
+    ensures { Says (outcome_at s cache page.now) out.old out.new result }
 {
     if !is_done(s) {
-        return LineSaid::Wrong(UNREADABLE);
+        return Err(Fault::Unreadable);
     }
     let p = cache;
     let e = cache_ask::outcome(
@@ -216,7 +216,7 @@ fn outcome_line(
         &p.lengths,
         &p.asked,
     );
-    say_outcome(e, out)
+    Ok(say_outcome(e, out))
 }
 
 fn unknown_line(
@@ -224,11 +224,11 @@ fn unknown_line(
     cache: CacheMemory,
     page: &[u8; PAGE_SIZE],
     out: &mut [u8; MAX_MESSAGE],
-) -> LineSaid
-    ensures { Shows (unknown_at s cache page.now) out.old out.new result }
+) -> Result<AnswerLine, Fault>
+    ensures { Says (unknown_at s cache page.now) out.old out.new result }
 {
     if !is_done(s) {
-        return LineSaid::Wrong(UNREADABLE);
+        return Err(Fault::Unreadable);
     }
     let p = cache;
     let a = cache_ask::unknown(
@@ -242,7 +242,7 @@ fn unknown_line(
         &p.lengths,
         &p.asked,
     );
-    say_unknown(a, out)
+    Ok(say_unknown(a, out))
 }
 
 // A line that is none of the others, if it is one at all.
@@ -253,8 +253,8 @@ pub fn ask_line(
     cache: CacheMemory,
     page: &[u8; PAGE_SIZE],
     out: &mut [u8; MAX_MESSAGE],
-) -> LineSaid
-    ensures { Shows (ask_shown name.now line.now s cache page.now) out.old out.new result }
+) -> Result<AnswerLine, Fault>
+    ensures { Says (ask_shown name.now line.now s cache page.now) out.old out.new result }
 {
     if same_bytes(name, b"whole") {
         return whole_line(line, s, cache, page, out);
@@ -268,5 +268,5 @@ pub fn ask_line(
     if same_bytes(name, b"unknown") {
         return unknown_line(s, cache, page, out);
     }
-    LineSaid::Wrong(UNREADABLE)
+    Err(Fault::Unreadable)
 }

@@ -2,11 +2,10 @@
 
 #![tactic(auto)]
 
-ghost use Rattle.std.specs.Prelude.{◌≡◌, ◌<◌, length, take};
+ghost use Rattle.std.specs.Prelude.{◌≡◌, ◌≤◌, length, take, IfSome};
 ghost use Rattle.tlv_reader.specs.Octet.{pick};
 ghost use Rattle.script_answer.specs.Messages.{content_of};
 ghost use Rattle.script_cache.specs.Lines.{begins_request, is_cache, FreshMemory, used_up};
-ghost use Rattle.script_cache.specs.Acts as acts;
 ghost use Rattle.script_cache.specs.Acts.{reads_by, resends_by, receives_by, writes_by, handed_at, write_turn, begin_turn, turn_at, Reacts, ReactsIn, ActsBy};
 
 use cache_entries::{CLUSTERS, ENTRIES, ORDER_SIZE, PAGE_SIZE, TEXT_PLACES};
@@ -16,10 +15,10 @@ use cache_state::words::{put_standing, read_standing};
 use cache_state::{ASKED_WORDS, Outcome, begin};
 use im_envelope::MAX_MESSAGE;
 use node_kinds::stored::same_bytes;
-use script_answer::message::{Handed, MessageWords, newest, spelled};
-use script_answer::{NOT_REPLIED, UNREADABLE};
+use script_answer::Fault;
+use script_answer::message::{MessageWords, newest, spelled};
 use script_lines::hex::SPELLED;
-use script_lines::number::{MarkedNumber, read_marked};
+use script_lines::number::read_marked;
 use script_lines::path::{ID_MAX, PathWords, read_path};
 use script_lines::sizes::clip;
 use script_lines::value::read_value;
@@ -47,13 +46,6 @@ pub struct CacheMemory {
 pub struct CacheAnswered {
     pub cache: CacheMemory,
     pub outcome: Outcome,
-}
-
-// That, or what is wrong with the line.
-#[derive(Clone, Copy)]
-pub struct Acted {
-    pub answered: CacheAnswered,
-    pub fault: u8,
 }
 
 // A fresh cache.
@@ -93,24 +85,6 @@ pub fn fresh() -> CacheMemory
     }
 }
 
-fn unplayed(cache: CacheMemory, fault: u8) -> Acted
-    ensures { result ≡ acts.unplayed cache fault }
-{
-    Acted {
-        answered: CacheAnswered {
-            cache,
-            outcome: Outcome { number: 0, len: 0 },
-        },
-        fault,
-    }
-}
-
-fn played(answered: CacheAnswered) -> Acted
-    ensures { result ≡ acts.played answered }
-{
-    Acted { answered, fault: 0 }
-}
-
 // The cache's exchange numbers up to n count as used; that never lowers them.
 pub fn used_up(cache: CacheMemory, n: u64) -> CacheMemory
     ensures { result ≡ used_up cache n }
@@ -128,11 +102,11 @@ pub fn used_up(cache: CacheMemory, n: u64) -> CacheMemory
 }
 
 // `cache`, or `back`: the server's newest reply.
-fn handed(name: &[u8], line: &[u8], s: Scan, replied: MessageWords) -> Handed
+fn handed(name: &[u8], line: &[u8], s: Scan, replied: MessageWords) -> Result<MessageWords, Fault>
     ensures { result ≡ handed_at name.now line.now s replied }
 {
     if same_bytes(name, b"back") {
-        return newest(s, replied, NOT_REPLIED);
+        return newest(s, replied, Fault::NotReplied);
     }
     spelled(line, s)
 }
@@ -267,13 +241,13 @@ fn change<'a>(
     page: &'a [u8],
     cache: CacheMemory,
     a: PathWords,
-    version: MarkedNumber,
+    version: Option<u64>,
     new: Value,
     src: &'a [u8],
     out: &mut [u8],
     room: usize,
 ) -> CacheAnswered
-    requires { version.value < 4294967296 }
+    requires { IfSome version (λ n. n ≤ 4294967295) }
     ensures { ReactsIn room (writes_by cache page.now a version src.now new (length (take room out.old))) cache page.now out.old out.new result }
 {
     let n = clip(room, out);
@@ -294,8 +268,8 @@ fn change<'a>(
         a.endpoint,
         a.cluster,
         a.attribute,
-        version.given,
-        version.value as u32,
+        version.is_some(),
+        version.unwrap_or(0) as u32,
         new,
         src,
         &mut out[..n],
@@ -315,7 +289,7 @@ fn write_line(
     page: &[u8; PAGE_SIZE],
     out: &mut [u8; MAX_MESSAGE],
     room: usize,
-) -> Acted
+) -> Result<CacheAnswered, Fault>
     ensures { ActsBy (write_turn line.now s cache page.now (length (take room out.old))) cache room page.now page.now out.old out.new result }
 {
     let a = read_path(line, s);
@@ -323,10 +297,10 @@ fn write_line(
     let mut bytes = [0u8; SPELLED];
     let v = read_value(line, version.next, &mut bytes);
     if !v.ok {
-        return unplayed(cache, UNREADABLE);
+        return Err(Fault::Unreadable);
     }
     let new = v.value;
-    played(change(page, cache, a, version, new, &bytes, out, room))
+    Ok(change(page, cache, a, version.value, new, &bytes, out, room))
 }
 
 // Whether a line begins a request.
@@ -364,16 +338,16 @@ fn begin_line(
     page: &[u8; PAGE_SIZE],
     out: &mut [u8; MAX_MESSAGE],
     room: usize,
-) -> Acted
+) -> Result<CacheAnswered, Fault>
     ensures { ActsBy (begin_turn name.now line.now s cache page.now (length (take room out.old))) cache room page.now page.now out.old out.new result }
 {
     if same_bytes(name, b"write") {
         return write_line(line, s, cache, page, out, room);
     }
     if !is_done(s) {
-        return unplayed(cache, UNREADABLE);
+        return Err(Fault::Unreadable);
     }
-    played(ask_again(same_bytes(name, b"resend"), page, cache, out, room))
+    Ok(ask_again(same_bytes(name, b"resend"), page, cache, out, room))
 }
 
 pub fn cache_line(
@@ -385,16 +359,12 @@ pub fn cache_line(
     page: &mut [u8; PAGE_SIZE],
     out: &mut [u8; MAX_MESSAGE],
     room: usize,
-) -> Acted
+) -> Result<CacheAnswered, Fault>
     ensures { ActsBy (turn_at name.now line.now s cache replied page.old (length (take room out.old))) cache room page.old page.new out.old out.new result }
 {
     if begins(name) {
         return begin_line(name, line, s, cache, page, out, room);
     }
-    let h = handed(name, line, s, replied);
-    if h.fault != 0 {
-        return unplayed(cache, h.fault);
-    }
-    let m = h.message;
-    played(hand(page, cache, m, out, room))
+    let m = handed(name, line, s, replied)?;
+    Ok(hand(page, cache, m, out, room))
 }

@@ -1,18 +1,17 @@
 -- Numbers of a line, from what their digits say.
-use mathlib.Core.Path.{◌≡◌, refl, sym, ap, ◌∙◌}
+use Rattle.std.specs.Prelude.{Some, None, Option}
+use mathlib.Core.Path.{◌≡◌, refl, sym, ap}
 use mathlib.Core.List.{List, [], ◌∷◌}
-use mathlib.Core.Bool.{Bool, true, false}
+use mathlib.Core.Bool.{false}
 use Prim.Native.Nat.{ℕ, suc, ◌+◌, ◌*◌, ◌-◌, ◌^◌, ◌%◌, ◌<◌, ◌≤◌}
 use native.Mathlib.Nat.{pow-suc, pow-le-pow_right}
 use native.Mathlib.Numerals.{add-one}
 use native.Mathlib.Omega.{arith}
-use borrow.Author.Tests.{lt-ltb, le-ltb, eq-eqb, ne_eqb}
+use borrow.Author.Tests.{eq-eqb, ne_eqb}
 use lib.Dec.{eqb}
 use lib.ListN.{length, take, drop, get_or, length-take, length-drop}
 use lib.Seq.{drop-cons, drop-length, take-nil, drop-drop, get_or-take, get_or-drop}
 use Rattle.script_lines.specs.declared.Scan.{Scan}
-use Rattle.script_lines.specs.declared.number.Digits.{Digits}
-use Rattle.script_lines.specs.declared.number.Digits.TheVariants.{Number, Unreadable}
 use Rattle.script_lines.specs.declared.number.Number.{Number as NumberRead}
 use Rattle.script_lines.specs.Numbers.{decimal_of, hex_digit, hex_from, read_as, unread_at, at_most, is_byte, negated_of, signed_of}
 
@@ -26,21 +25,21 @@ byte_one [] b h = absurd (omega arith)
 byte_one (c ∷ []) b h = refl
 byte_one (c ∷ d ∷ w) b h = absurd (omega arith)
 
-pub most-unread : (highest : ℕ) (next : Scan) (d : Digits) → ((n : ℕ) → d ≡ Number n → ⊥) → unread_at next ≡ at_most highest next d
-most-unread highest next (Number n) h = absurd (h n refl)
-most-unread highest next Unreadable h = refl
+pub most-unread : (highest : ℕ) (next : Scan) (d : (Option ℕ)) → ((n : ℕ) → d ≡ Some n → ⊥) → unread_at next ≡ at_most highest next d
+most-unread highest next (Some n) h = absurd (h n refl)
+most-unread highest next None h = refl
 
 -- one step of reading hex digits
 module _ (w : List ℕ) (n i : ℕ) (h : i < length w) where
-  pub hex-none : 16 ≤ hex_digit (get_or w i 0) → hex_from n (drop i w) ≡ Unreadable
+  pub hex-none : hex_digit (get_or w i 0) ≡ None → hex_from n (drop i w) ≡ None
   unfolding hex_from
-  hex-none b = rw (drop-cons w i 0 h) (simp (le-ltb _ _ b))
+  hex-none b = rw (drop-cons w i 0 h, b) refl
 
-  pub hex-more : hex_digit (get_or w i 0) < 16 → hex_from n (drop i w) ≡ hex_from (n * 16 + hex_digit (get_or w i 0)) (drop (i + 1) w)
+  pub hex-more : (d : ℕ) → hex_digit (get_or w i 0) ≡ Some d → hex_from n (drop i w) ≡ hex_from (n * 16 + d) (drop (i + 1) w)
   unfolding hex_from
-  hex-more b = rw (drop-cons w i 0 h, add-one) (simp (lt-ltb _ _ b))
+  hex-more d b = rw (drop-cons w i 0 h, add-one, b) refl
 
-pub hex-done : (w : List ℕ) (n i : ℕ) → i ≡ length w → hex_from n (drop i w) ≡ Number n
+pub hex-done : (w : List ℕ) (n i : ℕ) → i ≡ length w → hex_from n (drop i w) ≡ Some n
 unfolding hex_from
 hex-done w n i e = rw (e, drop-length)
 

@@ -1,16 +1,15 @@
 -- What the next word is, from what the tests of a line found.
-use mathlib.Core.Path.{◌≡◌, refl, sym}
+use mathlib.Core.Path.{◌≡◌, refl}
 use mathlib.Core.List.{List, [], ◌∷◌}
-use mathlib.Core.Bool.{Bool, true, false}
+use mathlib.Core.Bool.{true, false}
 use Prim.Native.Nat.{ℕ, ◌+◌, ◌<◌, ◌≤◌}
 use native.Mathlib.Omega.{arith}
 use borrow.Author.Tests.{le-leb, lt-leb}
 use lib.Dec.{eqb}
-use lib.ListN.{length, get_or, drop, length-drop}
+use lib.ListN.{length, get_or, length-drop}
 use lib.Seq.{take-length}
 use Rattle.script_lines.specs.Find.{index_of, slice}
 use Rattle.script_lines.specs.declared.Scan.{Scan}
-use Rattle.script_lines.specs.declared.Word.{Word}
 use Rattle.script_lines.specs.Words.{is_skipped, space, word_end, no_word, word_to, next_word, WordWithin}
 
 pub skipped-empty : (l : List ℕ) → length l ≡ 0 → true ≡ is_skipped l

@@ -1,5 +1,6 @@
 -- Bytes of a line: two hex digits each, a space between two, to the end of the line.
-use Rattle.std.specs.Prelude.{List, [], ◌∷◌, ◌++◌, Bool, true, false, ◌&&◌, ℕ, ◌+◌, ◌*◌, min, ltb, eqb, length, take, drop}
+use Rattle.std.specs.Prelude.{List, [], ◌∷◌, ◌++◌, Bool, false, ◌&&◌, ℕ, ◌+◌, ◌*◌, min, eqb, length, take, drop, is_some, Some, None, Option}
+use Rattle.std.specs.Option.{option_and_then, option_map}
 use Rattle.base_octets.specs.Store.{store}
 use Rattle.tlv_reader.specs.Octet.{pick}
 use Rattle.script_lines.specs.declared.Scan.{Scan}
@@ -7,18 +8,18 @@ use Rattle.script_lines.specs.declared.hex.Bytes.{Bytes}
 use Rattle.script_lines.specs.Words.{space}
 use Rattle.script_lines.specs.Numbers.{hex_digit}
 
-abbrev pub are_digits : ℕ → ℕ → Bool
-are_digits a b = ltb (hex_digit a) 16 && ltb (hex_digit b) 16
-
 -- the byte that two digits say
-abbrev pub byte_of : ℕ → ℕ → ℕ
-byte_of a b = hex_digit a * 16 + hex_digit b
+unfoldable pub byte_of : ℕ → ℕ → Option ℕ
+byte_of a b = option_and_then (λ high. option_map (λ low. high * 16 + low) (hex_digit b)) (hex_digit a)
 
--- the byte at the start of a list, 256 where two digits do not stand there
-abbrev pub byte_in : List ℕ → ℕ
-byte_in [] = 256
-byte_in (a ∷ []) = 256
-byte_in (a ∷ b ∷ cs) = pick (are_digits a b) (byte_of a b) 256
+-- the byte at the start of a list; none where two digits do not stand there
+abbrev pub byte_in : List ℕ → Option ℕ
+byte_in [] = None
+byte_in (a ∷ []) = None
+byte_in (a ∷ b ∷ cs) = byte_of a b
+
+abbrev pub are_digits : ℕ → ℕ → Bool
+are_digits a b = is_some (byte_of a b)
 
 -- whether the rest of a line is bytes, one at least
 unfoldable pub are_bytes : List ℕ → Bool
@@ -27,12 +28,17 @@ are_bytes (a ∷ []) = false
 are_bytes (a ∷ b ∷ []) = are_digits a b
 are_bytes (a ∷ b ∷ c ∷ cs) = are_digits a b && (eqb c space && are_bytes cs)
 
+-- a byte in front of others, which stand only behind one
+abbrev pub in_front : Option ℕ → List ℕ → List ℕ
+in_front None bs = []
+in_front (Some b) bs = b ∷ bs
+
 -- the bytes up to the first place where none can be read
 unfoldable pub bytes_in : List ℕ → List ℕ
 bytes_in [] = []
 bytes_in (a ∷ []) = []
-bytes_in (a ∷ b ∷ []) = pick (are_digits a b) (byte_of a b ∷ []) []
-bytes_in (a ∷ b ∷ c ∷ cs) = pick (are_digits a b) (byte_of a b ∷ pick (eqb c space) (bytes_in cs) []) []
+bytes_in (a ∷ b ∷ []) = in_front (byte_of a b) []
+bytes_in (a ∷ b ∷ c ∷ cs) = in_front (byte_of a b) (pick (eqb c space) (bytes_in cs) [])
 
 abbrev pub bytes_read : ℕ → Bool → Bytes
 bytes_read n ok = record { len = n; ok = ok }

@@ -1,44 +1,43 @@
 -- What the digits of a word say, and the numbers of a line. A digit is a byte: 0 to 9 are 48 to 57, A to F 65 to 70, a to f 97 to 102.
-use Rattle.std.specs.Prelude.{List, [], ◌∷◌, Bool, true, false, ℕ, ◌+◌, ◌*◌, ◌-◌, ◌^◌, ◌%◌, ltb, leb, eqb, length}
+use Rattle.std.specs.Prelude.{List, [], ◌∷◌, Bool, false, ℕ, ◌+◌, ◌*◌, ◌-◌, ◌^◌, ◌%◌, ltb, leb, eqb, length, Some, None, Option}
+use Rattle.std.specs.Option.{option_and_then}
 use Rattle.tlv_reader.specs.Octet.{pick}
 use Rattle.script_lines.specs.declared.Scan.{Scan}
 use Rattle.script_lines.specs.declared.Word.{Word}
-use Rattle.script_lines.specs.declared.number.Digits.{Digits}
-use Rattle.script_lines.specs.declared.number.Digits.TheVariants.{Number, Unreadable}
 use Rattle.script_lines.specs.declared.number.Number.{Number as NumberRead}
 use Rattle.script_lines.specs.declared.number.MarkedNumber.{MarkedNumber}
 use Rattle.script_lines.specs.Words.{failed_at, next_word, word_bytes}
 
 -- decimal digits after those that say n; a number has 64 bits
-unfoldable pub decimal_from : ℕ → List ℕ → Digits
-decimal_from n [] = Number n
+unfoldable pub decimal_from : ℕ → List ℕ → Option ℕ
+decimal_from n [] = Some n
 decimal_from n (c ∷ cs) =
-    pick (ltb c 48) Unreadable
-    (pick (ltb 57 c) Unreadable
-    (pick (ltb (n * 10 + (c - 48)) (2 ^ 64)) (decimal_from (n * 10 + (c - 48)) cs) Unreadable))
+    pick (ltb c 48) None
+    (pick (ltb 57 c) None
+    (pick (ltb (n * 10 + (c - 48)) (2 ^ 64)) (decimal_from (n * 10 + (c - 48)) cs) None))
 
 -- one digit at least
-abbrev pub decimal_of : List ℕ → Digits
-decimal_of w = pick (eqb (length w) 0) Unreadable (decimal_from 0 w)
+abbrev pub decimal_of : List ℕ → Option ℕ
+decimal_of w = pick (eqb (length w) 0) None (decimal_from 0 w)
 
--- the number of a hex digit in either case, 16 of a byte that is none
-unfoldable pub hex_digit : ℕ → ℕ
+-- the number of a hex digit in either case; none of a byte that is no digit
+abbrev pub hex_digit : ℕ → Option ℕ
 hex_digit c =
-    pick (ltb c 48) 16
-    (pick (leb c 57) (c - 48)
-    (pick (ltb c 65) 16
-    (pick (leb c 70) (c - 65 + 10)
-    (pick (ltb c 97) 16
-    (pick (leb c 102) (c - 97 + 10) 16)))))
+    pick (ltb c 48) None
+    (pick (leb c 57) (Some (c - 48))
+    (pick (ltb c 65) None
+    (pick (leb c 70) (Some (c - 65 + 10))
+    (pick (ltb c 97) None
+    (pick (leb c 102) (Some (c - 97 + 10)) None)))))
 
 -- hex digits after those that say n
-unfoldable pub hex_from : ℕ → List ℕ → Digits
-hex_from n [] = Number n
-hex_from n (c ∷ cs) = pick (ltb (hex_digit c) 16) (hex_from (n * 16 + hex_digit c) cs) Unreadable
+unfoldable pub hex_from : ℕ → List ℕ → Option ℕ
+hex_from n [] = Some n
+hex_from n (c ∷ cs) = option_and_then (λ d. hex_from (n * 16 + d) cs) (hex_digit c)
 
 -- eight hex digits
-abbrev pub hex_of : List ℕ → Digits
-hex_of w = pick (eqb (length w) 8) (hex_from 0 w) Unreadable
+abbrev pub hex_of : List ℕ → Option ℕ
+hex_of w = pick (eqb (length w) 8) (hex_from 0 w) None
 
 -- a number with what comes after it
 abbrev pub read_as : ℕ → Scan → NumberRead
@@ -49,9 +48,9 @@ abbrev pub unread_at : Scan → NumberRead
 unread_at next = read_as 0 (failed_at next)
 
 -- what the digits say, if it is at most the highest
-abbrev pub at_most : ℕ → Scan → Digits → NumberRead
-at_most highest next (Number n) = pick (ltb highest n) (unread_at next) (read_as n next)
-at_most highest next Unreadable = unread_at next
+abbrev pub at_most : ℕ → Scan → Option ℕ → NumberRead
+at_most highest next (Some n) = pick (ltb highest n) (unread_at next) (read_as n next)
+at_most highest next None = unread_at next
 
 -- a word as a decimal number
 abbrev pub number_in : List ℕ → ℕ → Word → NumberRead
@@ -81,10 +80,10 @@ unfoldable pub flag_at : List ℕ → Scan → NumberRead
 flag_at line s = flag_in line (next_word line s)
 
 abbrev pub marked : Scan → MarkedNumber
-marked next = record { given = false; value = 0; next = next }
+marked next = record { value = None; next = next }
 
 abbrev pub unmarked : NumberRead → MarkedNumber
-unmarked n = record { given = true; value = n.value; next = n.next }
+unmarked n = record { value = Some n.value; next = n.next }
 
 -- a word as a mark or as a decimal number
 abbrev pub marked_in : List ℕ → ℕ → ℕ → Word → MarkedNumber

@@ -1,5 +1,5 @@
 -- A value of a line, to its end: a word for its kind, and what follows by the kind.
-use Rattle.std.specs.Prelude.{List, [], ◌∷◌, Bool, true, false, ℕ, ◌^◌, ◌-◌, eqb}
+use Rattle.std.specs.Prelude.{List, [], ◌∷◌, Bool, false, ℕ, ◌^◌, ◌-◌, eqb}
 use Rattle.std.specs.Int.{w64}
 use Rattle.std.proofs.Common.{to_z}
 use Rattle.tlv_reader.specs.Octet.{pick}

@@ -9,12 +9,10 @@ pub fn find(s: &[u8], at: usize, end: usize, b: u8) -> usize
     ensures value { result ≡ at + index_of b (slice at end s.now) }
     ensures small { result ≤ end }
 {
-    let mut i = at;
-    while i < end {
+    for i in at..end {
         if s[i] == b {
             return i;
         }
-        i += 1;
     }
-    i
+    end
 }

@@ -1,5 +1,5 @@
 // Bytes of a script: two hex digits each, to the end of the line.
-ghost use Rattle.std.specs.Prelude.{◌≡◌, ◌+◌, ◌≤◌, min, length, set, drop};
+ghost use Rattle.std.specs.Prelude.{◌≡◌, ◌+◌, ◌≤◌, min, length, set};
 ghost use Rattle.script_lines.specs.Words.{Filled};
 ghost use Rattle.script_lines.specs.Bytes.{byte_in, rest_at, rest_kept};
 
@@ -28,25 +28,16 @@ fn keep(out: &mut [u8], n: usize, byte: u8) -> usize
     out.len()
 }
 
-// The byte that two hex digits say, 256 where they are none.
-fn byte_at(line: &[u8], at: usize) -> usize
-    ensures { result ≡ byte_in (drop at line.now) }
+// The byte that two hex digits at the start say.
+fn first_byte(s: &[u8]) -> Option<u8>
+    ensures { result ≡ byte_in s.now }
 {
-    if line.len() <= at {
-        return 256;
-    }
-    if line.len() - at < 2 {
-        return 256;
-    }
-    let high = hex_digit(line[at]);
-    let low = hex_digit(line[at + 1]);
-    if 16 <= high {
-        return 256;
-    }
-    if 16 <= low {
-        return 256;
-    }
-    (high * 16 + low) as usize
+    let [high, low, ..] = s else {
+        return None;
+    };
+    let high = hex_digit(*high)?;
+    let low = hex_digit(*low)?;
+    Some(high * 16 + low)
 }
 
 // The rest of the line, a byte a word. A full buffer takes no more: then len is the buffer's length, however many follow.
@@ -59,13 +50,13 @@ pub fn rest(line: &[u8], s: Scan, out: &mut [u8]) -> Bytes
         return Bytes { len: 0, ok: s.ok };
     }
     let mut n = 0;
+    // The place goes on by three, and a line that ends with a space is none.
     let mut at = s.at;
     while at < line.len() {
-        let byte = byte_at(line, at);
-        if 256 <= byte {
+        let Some(byte) = first_byte(&line[at..]) else {
             return Bytes { len: 0, ok: false };
-        }
-        n = keep(out, n, byte as u8);
+        };
+        n = keep(out, n, byte);
         if line.len() - at == 2 {
             return Bytes { len: n, ok: s.ok };
         }

@@ -1,5 +1,5 @@
 // Numbers of a script: decimal ones, and the bits of a float in hex digits.
-ghost use Rattle.std.specs.Prelude.{◌≡◌, ◌≤◌, ◌<◌};
+ghost use Rattle.std.specs.Prelude.{◌≡◌, ◌≤◌, ◌<◌, IfSome};
 ghost use Rattle.script_lines.specs.Numbers.{decimal_of, hex_digit, hex_of, unread_at, at_most, number_at, float_at, is_byte, marked_at, flag_at, negated_of, signed_at};
 
 use super::{Scan, failed, next_word};
@@ -11,19 +11,11 @@ pub struct Number {
     pub next: Scan,
 }
 
-// A number, or the mark that stands for none or any.
+// A number, or none where the mark stands, which is for none or any; and what comes after it.
 #[derive(Clone, Copy)]
 pub struct MarkedNumber {
-    pub given: bool,
-    pub value: u64,
+    pub value: Option<u64>,
     pub next: Scan,
-}
-
-// What the digits of a word say.
-#[derive(Clone, Copy)]
-pub enum Digits {
-    Number(u64),
-    Unreadable,
 }
 
 // Ten times this and a digit more is past 64 bits, or nearly so.
@@ -41,87 +33,66 @@ fn unread(s: Scan) -> Number
 }
 
 // One or more digits, nothing else, up to 64 bits. Zeros may stand in front.
-pub fn decimal(w: &[u8]) -> Digits
+pub fn decimal(w: &[u8]) -> Option<u64>
     ensures { result ≡ decimal_of w.now }
 {
     if w.len() == 0 {
-        return Digits::Unreadable;
+        return None;
     }
     let mut n: u64 = 0;
-    let mut i = 0;
-    while i < w.len() {
-        let c = w[i];
-        if c < b'0' {
-            return Digits::Unreadable;
+    for c in w {
+        if *c < b'0' {
+            return None;
         }
-        if b'9' < c {
-            return Digits::Unreadable;
+        if b'9' < *c {
+            return None;
         }
-        let d = (c - b'0') as u64;
+        let d = (*c - b'0') as u64;
         if TENTH < n {
-            return Digits::Unreadable;
+            return None;
         }
         if u64::MAX - n * 10 < d {
-            return Digits::Unreadable;
+            return None;
         }
         n = n * 10 + d;
-        i += 1;
     }
-    Digits::Number(n)
+    Some(n)
 }
 
-// The number of a hex digit in either case, 16 for a byte that is none.
-pub fn hex_digit(c: u8) -> u8
+// The number of a hex digit in either case, or none for a byte that is no digit.
+pub fn hex_digit(c: u8) -> Option<u8>
     ensures value { result ≡ hex_digit c }
-    ensures small { result ≤ 16 }
+    ensures small { IfSome result (λ n. n < 16) }
 {
-    if c < b'0' {
-        return 16;
+    match c {
+        b'0'..=b'9' => Some(c - b'0'),
+        b'A'..=b'F' => Some(c - b'A' + 10),
+        b'a'..=b'f' => Some(c - b'a' + 10),
+        _ => None,
     }
-    if c <= b'9' {
-        return c - b'0';
-    }
-    if c < b'A' {
-        return 16;
-    }
-    if c <= b'F' {
-        return c - b'A' + 10;
-    }
-    if c < b'a' {
-        return 16;
-    }
-    if c <= b'f' {
-        return c - b'a' + 10;
-    }
-    16
 }
 
 // Eight hex digits, 32 bits.
-pub fn hex8(w: &[u8]) -> Digits
+pub fn hex8(w: &[u8]) -> Option<u64>
     ensures { result ≡ hex_of w.now }
 {
     if w.len() != 8 {
-        return Digits::Unreadable;
+        return None;
     }
     let mut n: u64 = 0;
-    let mut i = 0;
-    while i < w.len() {
-        let d = hex_digit(w[i]);
-        if 16 <= d {
-            return Digits::Unreadable;
-        }
+    for c in w {
+        let d = hex_digit(*c)?;
         n = n % 268_435_456 * 16 + d as u64;
-        i += 1;
     }
-    Digits::Number(n)
+    Some(n)
 }
 
 // The number that was read, if it is at most the highest.
-fn at_most(d: Digits, highest: u64, next: Scan) -> Number
+fn at_most(d: Option<u64>, highest: u64, next: Scan) -> Number
     ensures value { result ≡ at_most highest next d }
     ensures value_le_highest { result.value ≤ highest }
 {
-    let Digits::Number(n) = d else {
+    let Some(n) = d else {
         return unread(next);
     };
     if highest < n {
@@ -165,24 +136,19 @@ fn is_byte(w: &[u8], byte: u8) -> bool
 // The next word as a mark or as a decimal number.
 pub fn read_marked(line: &[u8], s: Scan, mark: u8, highest: u64) -> MarkedNumber
     ensures value { result ≡ marked_at line.now s mark highest }
-    ensures value_le_highest { result.value ≤ highest }
+    ensures value_le_highest { IfSome result.value (λ n. n ≤ highest) }
 {
     let w = next_word(line, s);
     let start = w.start;
     let end = w.end;
     if is_byte(&line[start..end], mark) {
         let next = w.next;
-        return MarkedNumber {
-            given: false,
-            value: 0,
-            next,
-        };
+        return MarkedNumber { value: None, next };
     }
     let n = read_number(line, s, highest);
     let next = n.next;
     MarkedNumber {
-        given: true,
-        value: n.value,
+        value: Some(n.value),
         next,
     }
 }

@@ -2,17 +2,10 @@
 ghost use Rattle.std.specs.Prelude.{◌≡◌, ◌≤◌, min, length};
 ghost use Rattle.script_lines.specs.Words.{Filled};
 
-pub fn least(a: usize, b: usize) -> usize
-    ensures value { result ≡ min a b }
-    ensures upper_bound { (result ≤ a) × (result ≤ b) }
-{
-    if a < b { a } else { b }
-}
-
 // So many bytes, or as many as there are. It takes the bytes and not their number, so that the contract can speak of the part that is lent.
 pub fn clip(n: usize, s: &[u8]) -> usize
     ensures value { result ≡ min n (length s.now) }
     ensures filled { Filled result s.now }
 {
-    if n < s.len() { n } else { s.len() }
+    n.min(s.len())
 }

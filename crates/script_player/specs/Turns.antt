@@ -1,30 +1,34 @@
 -- What a line leaves behind (docs/SCRIPTS.md): the ends after it, and their newest messages.
-use Rattle.std.specs.Prelude.{List, Bool, ℕ, ◌-◌, ◌^◌, eqb}
-use Rattle.tlv_reader.specs.Octet.{pick}
+use Rattle.std.specs.Prelude.{List, Bool, ℕ, ◌-◌, ◌^◌, Some, Option, Ok, Err, Result}
 use Rattle.script_lines.specs.declared.Scan.{Scan}
 use Rattle.script_lines.specs.declared.number.Number.{Number as NumberRead}
 use Rattle.script_lines.specs.Words.{is_done}
 use Rattle.script_lines.specs.Numbers.{number_at}
-use Rattle.script_answer.specs.declared.LineSaid.{LineSaid}
-use Rattle.script_answer.specs.declared.LineSaid.TheVariants.{Line, Wrong}
+use Rattle.script_answer.specs.declared.AnswerLine.{AnswerLine}
+use Rattle.script_answer.specs.declared.Fault.{Fault}
 use Rattle.script_answer.specs.declared.message.MessageWords.{MessageWords}
-use Rattle.script_answer.specs.Messages.{silent, newer_of}
+use Rattle.script_answer.specs.Messages.{answer, silent, newer_of}
 use Rattle.script_setup.specs.declared.access.Table.{Table}
 use Rattle.script_setup.specs.declared.access.Given.{Given}
 use Rattle.script_server.specs.declared.ServerMemory.{ServerMemory}
-use Rattle.script_server.specs.declared.Replied.{Replied}
+use Rattle.script_server.specs.declared.ServerAnswered.{ServerAnswered}
 use Rattle.script_cache.specs.declared.CacheMemory.{CacheMemory}
-use Rattle.script_cache.specs.declared.Acted.{Acted}
+use Rattle.script_cache.specs.declared.CacheAnswered.{CacheAnswered}
 use Rattle.script_cache.specs.Lines.{used_up}
 use Rattle.script_player.specs.declared.ends.Player.{Player}
 use Rattle.script_player.specs.declared.ends.Played.{Played}
 
-abbrev pub played : Player → LineSaid → Played
+abbrev pub played : Player → Result (Option AnswerLine) Fault → Played
 played p said = record { player = p; said = said }
 
 -- what is wrong
-abbrev pub wrong_by : Player → ℕ → Played
-wrong_by p fault = played p (Wrong fault)
+abbrev pub wrong_by : Player → Fault → Played
+wrong_by p fault = played p (Err fault)
+
+-- a line that changes nothing
+abbrev pub asked_by : Player → Result AnswerLine Fault → Played
+asked_by p (Ok line) = played p (Ok (Some line))
+asked_by p (Err fault) = wrong_by p fault
 
 -- a line that says nothing, if it could be read
 abbrev pub silent_by : Player → Bool → Played
@@ -44,20 +48,18 @@ abbrev pub with_cache : Player → CacheMemory → MessageWords → Player
 with_cache p cache message = record { given = p.given; live = p.live; table = p.table; room = p.room; server = p.server; cache = cache; sent = message; replied = p.replied }
 
 -- the server after a line; its reply, if it made one, is its newest
-unfoldable pub replied_by : Player → Replied → List ℕ → Played
-replied_by p r out =
-    let o = r.answered.outcome in
-    pick (eqb r.fault 0)
-    (played (with_server p r.answered.server (newer_of p.replied out o.len)) (Line o.number o.len))
-    (wrong_by p r.fault)
+abbrev pub replied_by : Player → Result ServerAnswered Fault → List ℕ → Played
+replied_by p (Ok r) out =
+    let o = r.outcome in
+    played (with_server p r.server (newer_of p.replied out o.len)) (Ok (Some (answer o.number o.len)))
+replied_by p (Err fault) out = wrong_by p fault
 
 -- the cache after a line; its message, if it made one, is its newest
-unfoldable pub acted_by : Player → Acted → List ℕ → Played
-acted_by p a out =
-    let o = a.answered.outcome in
-    pick (eqb a.fault 0)
-    (played (with_cache p a.answered.cache (newer_of p.sent out o.len)) (Line o.number o.len))
-    (wrong_by p a.fault)
+abbrev pub acted_by : Player → Result CacheAnswered Fault → List ℕ → Played
+acted_by p (Ok a) out =
+    let o = a.outcome in
+    played (with_cache p a.cache (newer_of p.sent out o.len)) (Ok (Some (answer o.number o.len)))
+acted_by p (Err fault) out = wrong_by p fault
 
 -- after an access line
 abbrev pub given_by : Player → Given → Played

@@ -5,8 +5,8 @@ ghost use Rattle.script_player.specs.Ends.{FreshPlayer, StartsPlayer};
 
 use im_envelope::MAX_MESSAGE;
 use node_schema::WORDS;
-use script_answer::LineSaid;
 use script_answer::message::{MessageWords, no_message};
+use script_answer::{AnswerLine, Fault};
 use script_cache::CacheMemory;
 use script_server::{ServerMemory, no_server};
 use script_setup::PAGE;
@@ -31,7 +31,7 @@ pub struct Player {
 #[derive(Clone, Copy)]
 pub struct Played {
     pub player: Player,
-    pub said: LineSaid,
+    pub said: Result<Option<AnswerLine>, Fault>,
 }
 
 // Before any line: no server and no cache.
@@ -71,6 +71,6 @@ pub fn started<'a>(p: Player, words: &'a [u64; WORDS], defaults: &'a [u8; PAGE])
     };
     Played {
         player,
-        said: LineSaid::Line { number, len: 0 },
+        said: Ok(Some(AnswerLine { number, len: 0 })),
     }
 }

@@ -7,7 +7,7 @@ use ends::{Played, Player, started};
 use im_envelope::MAX_MESSAGE;
 use node_kinds::stored::same_bytes;
 use node_schema::WORDS;
-use script_answer::{NO_SERVER, UNREADABLE};
+use script_answer::Fault;
 use script_cache::ask::ask_line;
 use script_cache::{cache_line, is_cache};
 use script_lines::{Scan, is_done};
@@ -15,7 +15,7 @@ use script_server::{is_server, server_line};
 use script_setup::access::access_line;
 use script_setup::plan::set_schema;
 use script_setup::{PAGE, SETUP, is_setup, setup_line};
-use turns::{acted, buffer_line, given, replied, silent, used_line, wrong};
+use turns::{acted, asked, buffer_line, given, replied, silent, used_line, wrong};
 
 pub mod ends; // ends.rt: what a script has made so far
 mod turns; // turns.rt: what a line leaves behind
@@ -29,7 +29,7 @@ fn start_line(
     defaults: &[u8; PAGE],
 ) -> Played {
     if !is_done(s) {
-        return wrong(p, UNREADABLE);
+        return wrong(p, Fault::Unreadable);
     }
     set_schema(setup, words);
     started(p, words, defaults)
@@ -107,7 +107,7 @@ fn cache_turn(
         return used_line(line, s, p);
     }
     let said = ask_line(name, line, s, p.cache, page, out);
-    Played { player: p, said }
+    asked(p, said)
 }
 
 // Every line that wants a server.
@@ -123,7 +123,7 @@ fn end_line<'a>(
     out: &mut [u8; MAX_MESSAGE],
 ) -> Played {
     if !p.live {
-        return wrong(p, NO_SERVER);
+        return wrong(p, Fault::NoServer);
     }
     if is_server(name) {
         return server_turn(name, line, s, p, words, defaults, edits, out);

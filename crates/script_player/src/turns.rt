@@ -1,24 +1,37 @@
 // What a line leaves behind: the ends after it, and the newest messages.
 ghost use Rattle.std.specs.Prelude.{◌≡◌};
-ghost use Rattle.script_player.specs.Turns.{wrong_by, silent_by, replied_by, acted_by, given_by, buffer_at, used_at};
+ghost use Rattle.script_player.specs.Turns.{wrong_by, asked_by, silent_by, replied_by, acted_by, given_by, buffer_at, used_at};
 
 use super::ends::{Played, Player};
 use cache_state::begin::LAST_EXCHANGE;
 use im_envelope::MAX_MESSAGE;
 use script_answer::message::newer;
-use script_answer::{LineSaid, silently};
-use script_cache::{Acted, used_up};
+use script_answer::{AnswerLine, Fault, silently};
+use script_cache::{CacheAnswered, used_up};
 use script_lines::number::read_number;
 use script_lines::{Scan, is_done};
-use script_server::Replied;
+use script_server::ServerAnswered;
 use script_setup::access::Given;
 
-pub fn wrong(player: Player, fault: u8) -> Played
+pub fn wrong(player: Player, fault: Fault) -> Played
     ensures { result ≡ wrong_by player fault }
 {
     Played {
         player,
-        said: LineSaid::Wrong(fault),
+        said: Err(fault),
+    }
+}
+
+// What a line that changes nothing says.
+pub fn asked(player: Player, said: Result<AnswerLine, Fault>) -> Played
+    ensures { result ≡ asked_by player said }
+{
+    match said {
+        Ok(line) => Played {
+            player,
+            said: Ok(Some(line)),
+        },
+        Err(fault) => wrong(player, fault),
     }
 }
 
@@ -33,13 +46,13 @@ pub fn silent(player: Player, ok: bool) -> Played
 }
 
 // The server after a line; its reply, if it made one, is its newest.
-pub fn replied(p: Player, r: Replied, out: &[u8; MAX_MESSAGE]) -> Played
+pub fn replied(p: Player, r: Result<ServerAnswered, Fault>, out: &[u8; MAX_MESSAGE]) -> Played
     ensures { result ≡ replied_by p r out.now }
 {
-    if r.fault != 0 {
-        return wrong(p, r.fault);
-    }
-    let done = r.answered;
+    let done = match r {
+        Ok(done) => done,
+        Err(fault) => return wrong(p, fault),
+    };
     let o = done.outcome;
     let server = done.server;
     let number = o.number;
@@ -50,18 +63,18 @@ pub fn replied(p: Player, r: Replied, out: &[u8; MAX_MESSAGE]) -> Played
     player.replied = reply;
     Played {
         player,
-        said: LineSaid::Line { number, len },
+        said: Ok(Some(AnswerLine { number, len })),
     }
 }
 
 // The cache after a line; its message, if it made one, is its newest.
-pub fn acted(p: Player, a: Acted, out: &[u8; MAX_MESSAGE]) -> Played
+pub fn acted(p: Player, a: Result<CacheAnswered, Fault>, out: &[u8; MAX_MESSAGE]) -> Played
     ensures { result ≡ acted_by p a out.now }
 {
-    if a.fault != 0 {
-        return wrong(p, a.fault);
-    }
-    let done = a.answered;
+    let done = match a {
+        Ok(done) => done,
+        Err(e) => return wrong(p, e),
+    };
     let o = done.outcome;
     let cache = done.cache;
     let number = o.number;
@@ -72,7 +85,7 @@ pub fn acted(p: Player, a: Acted, out: &[u8; MAX_MESSAGE]) -> Played
     player.sent = message;
     Played {
         player,
-        said: LineSaid::Line { number, len },
+        said: Ok(Some(AnswerLine { number, len })),
     }
 }
 

@@ -1,5 +1,5 @@
 -- What a line for the server does, by its first word and what it spells (docs/SCRIPTS.md).
-use Rattle.std.specs.Prelude.{◌≡◌, List, ℕ, ◌*◌, ◌-◌, ◌^◌, eqb, length, get_or, take}
+use Rattle.std.specs.Prelude.{◌≡◌, List, ℕ, ◌*◌, ◌-◌, ◌^◌, length, get_or, take, Ok, Err, Result, IsOkAnd}
 use Rattle.tlv_reader.specs.Octet.{pick}
 use Rattle.node_kinds.specs.Stored.{equal}
 use Rattle.node_schema.specs.Layout.{text_size, subject_word}
@@ -21,12 +21,12 @@ use Rattle.script_lines.specs.Paths.{path_at}
 use Rattle.script_lines.specs.Bytes.{front_as, stored_in}
 use Rattle.script_lines.specs.Values.{value_at, value_kept}
 use Rattle.script_answer.specs.declared.message.MessageWords.{MessageWords}
-use Rattle.script_answer.specs.declared.message.Handed.{Handed}
-use Rattle.script_answer.specs.Messages.{unreadable, not_sent, spelled_max, zeros, content_of, spelled_at, newest_of}
+use Rattle.script_answer.specs.declared.Fault.{Fault}
+use Rattle.script_answer.specs.declared.Fault.TheVariants.{Unreadable, NotSent}
+use Rattle.script_answer.specs.Messages.{spelled_max, zeros, content_of, spelled_at, newest_of}
 use Rattle.script_setup.specs.declared.access.Table.{Table}
 use Rattle.script_server.specs.declared.ServerMemory.{ServerMemory}
 use Rattle.script_server.specs.declared.ServerAnswered.{ServerAnswered}
-use Rattle.script_server.specs.declared.Replied.{Replied}
 use Rattle.script_server.specs.declared.From.{From}
 use Rattle.script_server.specs.Lines.{forward_name, change_name, values_in}
 
@@ -47,31 +47,31 @@ caller_by w t subject =
 
 -- WHAT A LINE SAYS: what is wrong with it, a message that is handed over, or a change
 pub data ServerTurn : Type 0 where
-  fault : ℕ → ServerTurn
+  fault : Fault → ServerTurn
   takes : ServerReaction → ServerTurn
   alters : ServerReaction → ServerTurn
 
 -- forward: the cache's newest message, as the subject that is served; sign: a subject, and the message that the line spells
-abbrev pub from : ℕ → Handed → From
-from subject h = record { subject = subject; handed = h }
+abbrev pub from : ℕ → Result MessageWords Fault → Result From Fault
+from subject (Ok m) = Ok (record { subject = subject; message = m })
+from subject (Err e) = Err e
 
-abbrev pub spelled_from : List ℕ → NumberRead → From
+abbrev pub spelled_from : List ℕ → NumberRead → Result From Fault
 spelled_from line n = from n.value (spelled_at line n.next)
 
-abbrev pub from_at : List ℕ → List ℕ → Scan → MessageWords → ℕ → From
+abbrev pub from_at : List ℕ → List ℕ → Scan → MessageWords → ℕ → Result From Fault
 from_at name line s sent served =
-    pick (equal name forward_name) (from served (newest_of s sent not_sent)) (spelled_from line (number_at line s (2 ^ 64 - 1)))
+    pick (equal name forward_name) (from served (newest_of s sent NotSent)) (spelled_from line (number_at line s (2 ^ 64 - 1)))
 
-abbrev pub hand_turn : Server → Table → ℕ → From → ServerTurn
-hand_turn x t room f =
-    pick (eqb f.handed.fault 0) (ServerTurn.takes (received x (caller_by x.schema t f.subject) (content_of f.handed.message) room))
-    (ServerTurn.fault f.handed.fault)
+abbrev pub hand_turn : Server → Table → ℕ → Result From Fault → ServerTurn
+hand_turn x t room (Ok f) = ServerTurn.takes (received x (caller_by x.schema t f.subject) (content_of f.message) room)
+hand_turn x t room (Err e) = ServerTurn.fault e
 
 -- change: a path and a value
 abbrev pub change_by : List ℕ → Server → PathWords → Parsed → ServerTurn
 change_by line x a v =
     pick v.ok (ServerTurn.alters (altered_by x a.endpoint a.cluster a.attribute (value_kept line a.next zeros) v.value))
-    (ServerTurn.fault unreadable)
+    (ServerTurn.fault Unreadable)
 
 unfoldable pub change_turn : List ℕ → Scan → Server → ServerTurn
 change_turn line s x = let a = path_at line s in change_by line x a (value_at line a.next spelled_max)
@@ -110,28 +110,17 @@ pub record ChangesIn (size : ℕ) (x : ServerReaction) (m : ServerMemory) (edits
   pub row : r.server.row ≡ m.row
   pub kept : r.server.kept ≡ m.kept
 
-abbrev pub unplayed : ServerMemory → ℕ → Replied
-unplayed m n = record { answered = record { server = m; outcome = record { number = 0; len = 0 } }; fault = n }
-
-abbrev pub played : ServerAnswered → Replied
-played r = record { answered = r; fault = 0 }
-
 -- a line with a fault leaves everything as it was
-pub record Unplayed (n : ℕ) (m : ServerMemory) (edits new_edits old new : List ℕ) (r : Replied) : Type 0 where
-  pub says : r ≡ unplayed m n
+pub record Unplayed (e : Fault) (edits new_edits old new : List ℕ) (r : Result ServerAnswered Fault) : Type 0 where
+  pub says : r ≡ Err e
   pub texts : new_edits ≡ edits
   pub buffer : new ≡ old
 
-pub record Taken (size room : ℕ) (x : ServerReaction) (m : ServerMemory) (edits new_edits old new : List ℕ) (r : Replied) : Type 0 where
-  pub clear : r.fault ≡ 0
-  pub replies : RepliesIn size room x m edits new_edits old new r.answered
-
-pub record Altered (size : ℕ) (x : ServerReaction) (m : ServerMemory) (edits new_edits old new : List ℕ) (r : Replied) : Type 0 where
-  pub clear : r.fault ≡ 0
-  pub changes : ChangesIn size x m edits new_edits r.answered
+pub record Altered (size : ℕ) (x : ServerReaction) (m : ServerMemory) (edits new_edits old new : List ℕ) (r : ServerAnswered) : Type 0 where
+  pub changes : ChangesIn size x m edits new_edits r
   pub buffer : new ≡ old
 
-abbrev pub RepliesBy : ServerTurn → ℕ → ℕ → ServerMemory → List ℕ → List ℕ → List ℕ → List ℕ → Replied → Type 0
-RepliesBy (ServerTurn.fault n) size room m edits new_edits old new r = Unplayed n m edits new_edits old new r
-RepliesBy (ServerTurn.takes x) size room m edits new_edits old new r = Taken size room x m edits new_edits old new r
-RepliesBy (ServerTurn.alters x) size room m edits new_edits old new r = Altered size x m edits new_edits old new r
+abbrev pub RepliesBy : ServerTurn → ℕ → ℕ → ServerMemory → List ℕ → List ℕ → List ℕ → List ℕ → Result ServerAnswered Fault → Type 0
+RepliesBy (ServerTurn.fault e) size room m edits new_edits old new r = Unplayed e edits new_edits old new r
+RepliesBy (ServerTurn.takes x) size room m edits new_edits old new r = IsOkAnd r (RepliesIn size room x m edits new_edits old new)
+RepliesBy (ServerTurn.alters x) size room m edits new_edits old new r = IsOkAnd r (Altered size x m edits new_edits old new)

@@ -8,7 +8,6 @@ ghost use Rattle.server.specs.Start.{altered_by};
 ghost use Rattle.server.specs.Receive.{received};
 ghost use Rattle.script_answer.specs.Messages.{content_of};
 ghost use Rattle.script_server.specs.Lines.{is_server, no_server, StartsIn};
-ghost use Rattle.script_server.specs.Replies as replies;
 ghost use Rattle.script_server.specs.Replies.{edits_size, server_of, caller_by, from_at, change_turn, turn_at, Replies, RepliesIn, Changes, RepliesBy};
 
 use base_bounds::{ATTRIBUTES, CLUSTERS};
@@ -16,8 +15,8 @@ use im_envelope::MAX_MESSAGE;
 use node_kinds::stored::same_bytes;
 use node_schema::texts::edits_size;
 use node_schema::{TEXTS, WORDS, subject_served};
-use script_answer::message::{Handed, MessageWords, newest, spelled};
-use script_answer::{NOT_SENT, UNREADABLE};
+use script_answer::Fault;
+use script_answer::message::{MessageWords, newest, spelled};
 use script_lines::Scan;
 use script_lines::hex::SPELLED;
 use script_lines::number::read_number;
@@ -47,13 +46,6 @@ pub struct ServerMemory {
 pub struct ServerAnswered {
     pub server: ServerMemory,
     pub outcome: Outcome,
-}
-
-// That, or what is wrong with the line.
-#[derive(Clone, Copy)]
-pub struct Replied {
-    pub answered: ServerAnswered,
-    pub fault: u8,
 }
 
 // Before any server is started.
@@ -108,46 +100,30 @@ pub fn start<'a>(
     }
 }
 
-fn unplayed(server: ServerMemory, fault: u8) -> Replied
-    ensures { result ≡ replies.unplayed server fault }
-{
-    Replied {
-        answered: ServerAnswered {
-            server,
-            outcome: Outcome { number: 0, len: 0 },
-        },
-        fault,
-    }
-}
-
-fn played(answered: ServerAnswered) -> Replied
-    ensures { result ≡ replies.played answered }
-{
-    Replied { answered, fault: 0 }
-}
-
 // A message, and the subject that it comes from.
 #[derive(Clone, Copy)]
 struct From {
     subject: u64,
-    handed: Handed,
+    message: MessageWords,
 }
 
 // `server`, or `forward`: the cache's newest message, as the subject that the server serves.
-fn handed(name: &[u8], line: &[u8], s: Scan, sent: MessageWords, served: u64) -> From
+fn handed(name: &[u8], line: &[u8], s: Scan, sent: MessageWords, served: u64) -> Result<From, Fault>
     ensures { result ≡ from_at name.now line.now s sent served }
 {
     if same_bytes(name, b"forward") {
-        return From {
+        let message = newest(s, sent, Fault::NotSent)?;
+        return Ok(From {
             subject: served,
-            handed: newest(s, sent, NOT_SENT),
-        };
+            message,
+        });
     }
     let subject = read_number(line, s, u64::MAX);
-    From {
+    let message = spelled(line, subject.next)?;
+    Ok(From {
         subject: subject.value,
-        handed: spelled(line, subject.next),
-    }
+        message,
+    })
 }
 
 // The one place where the server is handed a message, with the access table.
@@ -284,18 +260,18 @@ fn change_line<'a>(
     w: &'a [u64; WORDS],
     defaults: &'a [u8; PAGE],
     edits: &mut [u8],
-) -> Replied
+) -> Result<ServerAnswered, Fault>
     ensures { (room : ℕ) (buffer : List ℕ) → RepliesBy (change_turn line.now s (server_of w.now defaults.now (take (edits_size w.now) edits.old) server)) (edits_size w.now) room server edits.old edits.new buffer buffer result }
 {
     let a = read_path(line, s);
     let mut bytes = [0u8; SPELLED];
     let v = read_value(line, a.next, &mut bytes);
     if !v.ok {
-        return unplayed(server, UNREADABLE);
+        return Err(Fault::Unreadable);
     }
     let new = v.value;
     let size = clip(edits_size(w), edits);
-    played(alter(w, defaults, &mut edits[..size], server, a, new, &bytes))
+    Ok(alter(w, defaults, &mut edits[..size], server, a, new, &bytes))
 }
 
 // Whether a line is for the server.
@@ -323,19 +299,15 @@ pub fn server_line<'a>(
     edits: &mut [u8; PAGE],
     out: &mut [u8; MAX_MESSAGE],
     room: usize,
-) -> Replied
+) -> Result<ServerAnswered, Fault>
     ensures { RepliesBy (turn_at name.now line.now s (server_of words.now defaults.now (take (edits_size words.now) edits.old) server) table sent (length (take room out.old))) (edits_size words.now) room server edits.old edits.new out.old out.new result }
 {
     if same_bytes(name, b"change") {
         return change_line(line, s, server, words, defaults, edits);
     }
-    let f = handed(name, line, s, sent, subject_served(words));
-    let h = f.handed;
-    if h.fault != 0 {
-        return unplayed(server, h.fault);
-    }
-    let m = h.message;
-    played(hand_message(
+    let f = handed(name, line, s, sent, subject_served(words))?;
+    let m = f.message;
+    Ok(hand_message(
         words, defaults, edits, server, table, f.subject, m, out, room,
     ))
 }

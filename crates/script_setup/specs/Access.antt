@@ -1,5 +1,6 @@
 -- The access table as the lines give it: a line is a privilege, then a subject, an endpoint and a cluster, * for any (docs/SCRIPTS.md).
-use Rattle.std.specs.Prelude.{List, Bool, true, false, not, ℕ, ◌+◌, ◌-◌, ◌^◌, ltb, set, replicate}
+use Rattle.std.specs.Prelude.{List, Bool, true, false, ℕ, ◌+◌, ◌-◌, ◌^◌, ltb, set, replicate, is_none}
+use Rattle.std.specs.Option.{unwrap_or}
 use Rattle.base_bounds.specs.Bounds.{entry_limit}
 use Rattle.tlv_reader.specs.Octet.{pick}
 use Rattle.node_access.specs.declared.AccessEntry.{AccessEntry}
@@ -29,7 +30,15 @@ with_entry t e =
 
 abbrev pub entry_of : NumberRead → MarkedNumber → MarkedNumber → MarkedNumber → AccessEntry
 entry_of p s e c =
-    record { privilege = p.value; any_subject = not s.given; subject = s.value; any_endpoint = not e.given; endpoint = e.value; any_cluster = not c.given; cluster = c.value }
+    record {
+      privilege = p.value;
+      any_subject = is_none s.value;
+      subject = unwrap_or s.value 0;
+      any_endpoint = is_none e.value;
+      endpoint = unwrap_or e.value 0;
+      any_cluster = is_none c.value;
+      cluster = unwrap_or c.value 0;
+    }
 
 abbrev pub given : Table → Bool → Given
 given t ok = record { table = t; ok = ok }

@@ -1,12 +1,11 @@
 -- What the line of an attribute makes of what is set up (docs/SCRIPTS.md): a row of the schema's words, and a factory text.
-use Rattle.std.specs.Prelude.{List, [], ◌∷◌, Bool, true, false, ◌&&◌, ℕ, ◌+◌, ◌*◌, ◌-◌, ◌^◌, min, ltb, leb, eqb, length, take, get_or, set, replicate}
+use Rattle.std.specs.Prelude.{List, Bool, false, ◌&&◌, ℕ, ◌+◌, ◌*◌, ◌-◌, ◌^◌, min, ltb, leb, eqb, length, take, get_or, set, replicate, Some, None, Option}
 use Rattle.base_bounds.specs.Bounds.{attribute_limit}
 use Rattle.base_octets.specs.Store.{store}
 use Rattle.tlv_reader.specs.Octet.{pick}
 use Rattle.node_kinds.specs.Stored.{equal}
 use Rattle.node_schema.specs.Layout.{text_size, text_kind, attribute_count_word, key_column, traits_column, low_column, high_column, first_column, word_count}
 use Rattle.script_lines.specs.declared.Scan.{Scan}
-use Rattle.script_lines.specs.declared.Word.{Word}
 use Rattle.script_lines.specs.declared.hex.Bytes.{Bytes}
 use Rattle.script_lines.specs.declared.number.Number.{Number as NumberRead}
 use Rattle.script_lines.specs.declared.number.MarkedNumber.{MarkedNumber}
@@ -63,8 +62,9 @@ abbrev pub limits_kept : List ℕ → Scan → List ℕ → List ℕ
 limits_kept line s old = kept_in (word_bytes line (next_word line s)) line (next_word line s).next old
 
 -- a privilege as the schema has it, 0 for none; a line's 0 is no privilege, and becomes 5, which is none either
-abbrev pub privilege_of : MarkedNumber → ℕ
-privilege_of m = pick m.given (pick (eqb m.value 0) 5 m.value) 0
+abbrev pub privilege_of : Option ℕ → ℕ
+privilege_of None = 0
+privilege_of (Some n) = pick (eqb n 0) 5 n
 
 -- the places of a line's words, one after the other: path, privileges to read and to write, nullable, kind
 abbrev pub read_at : List ℕ → Scan → MarkedNumber
@@ -78,7 +78,7 @@ nullable_at line s = flag_at line (write_at line s).next
 
 -- kind, nullable, privilege to read, privilege to write: eight bits each
 abbrev pub traits_of : KindWords → NumberRead → MarkedNumber → MarkedNumber → ℕ
-traits_of k n r w = k.code + n.value * 2 ^ 8 + privilege_of r * 2 ^ 16 + privilege_of w * 2 ^ 24
+traits_of k n r w = k.code + n.value * 2 ^ 8 + privilege_of r.value * 2 ^ 16 + privilege_of w.value * 2 ^ 24
 
 -- what a line says of an attribute
 unfoldable pub row_at : List ℕ → Scan → ℕ → AttributeLine

@@ -1,18 +1,16 @@
 -- The schema of all lines so far: the words as they were set up, with each attribute's key by its cluster's row, and of a text its rank and factory text.
-use Rattle.std.specs.Prelude.{List, ℕ, zero, suc, ◌+◌, ◌*◌, ◌/◌, ◌%◌, ◌^◌, min, ltb, get_or, set, take}
+use Rattle.std.specs.Prelude.{List, ℕ, zero, suc, ◌+◌, ◌*◌, ◌/◌, ◌%◌, ◌^◌, min, ltb, set, take, Some, None, Option}
 use Rattle.base_bounds.specs.Bounds.{cluster_limit}
 use Rattle.tlv_reader.specs.Octet.{pick}
-use Rattle.node_schema.specs.declared.Found.{Found}
-use Rattle.node_schema.specs.declared.Found.TheVariants as found
 use Rattle.node_schema.specs.Layout.{text_limit, key_column, low_column, high_column, first_column, factory_column, word_count, half}
 use Rattle.node_schema.specs.Rows.{word, attribute_row, count_of_attributes, is_text}
 use Rattle.node_schema.specs.Find.{find_cluster}
 use Rattle.script_setup.specs.Attributes.{paths_column}
 
 -- where the cluster of a path stands among the rows; past the last row where it has none, so that the schema is refused
-abbrev pub row_found : Found → ℕ
-row_found (found.At i) = min i cluster_limit
-row_found found.Nothing = cluster_limit
+abbrev pub row_found : Option ℕ → ℕ
+row_found (Some i) = min i cluster_limit
+row_found None = cluster_limit
 
 unfoldable pub row_of : List ℕ → ℕ → ℕ
 row_of w path = row_found (find_cluster w (path / half % 2 ^ 16) (path % half))

@@ -1,5 +1,5 @@
 -- What the lines of a subject and of a cluster make of the words that are set up (docs/SCRIPTS.md).
-use Rattle.std.specs.Prelude.{List, [], ◌∷◌, Bool, true, false, ℕ, ◌+◌, ◌*◌, ◌-◌, ◌^◌, ltb, get_or, set}
+use Rattle.std.specs.Prelude.{List, [], ◌∷◌, Bool, ℕ, ◌+◌, ◌*◌, ◌-◌, ◌^◌, ltb, get_or, set}
 use Rattle.base_bounds.specs.Bounds.{cluster_limit}
 use Rattle.tlv_reader.specs.Octet.{pick}
 use Rattle.node_schema.specs.Layout.{cluster_count_word, subject_word, path_column, version_column}

@@ -72,12 +72,12 @@ pub fn access_line(line: &[u8], s: Scan, table: Table) -> Given
     }
     let e = AccessEntry {
         privilege: privilege.value as u8,
-        any_subject: !subject.given,
-        subject: subject.value,
-        any_endpoint: !endpoint.given,
-        endpoint: endpoint.value as u16,
-        any_cluster: !cluster.given,
-        cluster: cluster.value as u32,
+        any_subject: subject.value.is_none(),
+        subject: subject.value.unwrap_or(0),
+        any_endpoint: endpoint.value.is_none(),
+        endpoint: endpoint.value.unwrap_or(0) as u16,
+        any_cluster: cluster.value.is_none(),
+        cluster: cluster.value.unwrap_or(0) as u32,
     };
     let more = with_entry(table, e);
     Given {

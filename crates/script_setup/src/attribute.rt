@@ -1,5 +1,5 @@
 // The setup line of an attribute: its row of the schema's words, and its factory text.
-ghost use Rattle.std.specs.Prelude.{◌≡◌, ◌≤◌, ◌<◌, ◌-◌, ◌^◌, length};
+ghost use Rattle.std.specs.Prelude.{◌≡◌, ◌≤◌, ◌<◌, ◌-◌, ◌^◌, length, IfSome};
 ghost use Rattle.base_bounds.specs.Bounds.{attribute_limit};
 ghost use Rattle.script_lines.specs.Numbers.{number_at, signed_at, float_at, flag_at};
 ghost use Rattle.script_lines.specs.Bytes.{rest_at, rest_kept};
@@ -14,9 +14,7 @@ use node_schema::{
     TRAITS, WRITE_PART,
 };
 use script_lines::hex::{SPELLED, rest};
-use script_lines::number::{
-    MarkedNumber, read_flag, read_float, read_marked, read_number, read_signed,
-};
+use script_lines::number::{read_flag, read_float, read_marked, read_number, read_signed};
 use script_lines::path::read_path;
 use script_lines::sizes::clip;
 use script_lines::{Scan, is_done, next_word};
@@ -145,18 +143,16 @@ fn read_limits(line: &[u8], s: Scan, bytes: &mut [u8]) -> KindWords
 }
 
 // The privilege as the schema has it, 0 for none. A line's 0 is no privilege: it becomes 5, which is none either and is refused.
-fn privilege(m: MarkedNumber) -> u64
-    requires { m.value < 256 }
+fn privilege(m: Option<u64>) -> u64
+    requires { IfSome m (λ n. n ≤ 255) }
     ensures value { result ≡ privilege_of m }
     ensures upper_bound { result < 256 }
 {
-    if !m.given {
-        return 0;
+    match m {
+        None => 0,
+        Some(0) => 5,
+        Some(n) => n,
     }
-    if m.value == 0 {
-        return 5;
-    }
-    m.value
 }
 
 // What a line says of an attribute. Of a text the bytes stand in a buffer.
@@ -182,8 +178,8 @@ fn read_row(line: &[u8], s: Scan, bytes: &mut [u8]) -> AttributeLine
         id: p.attribute as u64,
         traits: limits.code
             + nullable.value * NULLABLE_PART
-            + privilege(read) * READ_PART
-            + privilege(write) * WRITE_PART,
+            + privilege(read.value) * READ_PART
+            + privilege(write.value) * WRITE_PART,
         limits,
     }
 }

@@ -6,19 +6,17 @@ ghost use Rattle.script_setup.specs.Schema.{row_of, factory_set, key_set, rank_p
 use super::{PATHS, SETUP};
 use base_bounds::{ATTRIBUTES, CLUSTERS};
 use node_schema::find::find_cluster;
-use node_schema::{FACTORY, FIRST, Found, HALF, HIGH, KEY, LOW, TEXTS, WORDS, is_text};
-use script_lines::sizes::least;
+use node_schema::{FACTORY, FIRST, HALF, HIGH, KEY, LOW, TEXTS, WORDS, is_text};
 
 // Where the cluster of a path stands among the rows; past the last row where it has none, so that the schema is refused.
 fn row_of(words: &[u64; WORDS], path: u64) -> u64
     ensures value { result ≡ row_of words.now path }
     ensures upper_bound { result ≤ cluster_limit }
 {
-    let Found::At(i) = find_cluster(words, (path / HALF % 65_536) as u16, (path % HALF) as u32)
-    else {
+    let Some(i) = find_cluster(words, (path / HALF % 65_536) as u16, (path % HALF) as u32) else {
         return CLUSTERS as u64;
     };
-    least(i, CLUSTERS) as u64
+    i.min(CLUSTERS) as u64
 }
 
 // The factory text of a rank, whose start and length its row has as lowest and highest. One past the limit is not kept: the schema is then refused.
@@ -53,23 +51,17 @@ fn set_key(words: &mut [u64; WORDS], i: usize, path: u64, rank: u64) -> u64
 fn set_words(setup: &[u64; SETUP], words: &mut [u64; WORDS])
     ensures { words.new ≡ take (length words.old) setup.now }
 {
-    let mut i = 0;
-    while i < WORDS {
-        words[i] = setup[i];
-        i += 1;
-    }
+    words.copy_from_slice(&setup[..WORDS]);
 }
 
 // All clusters are known now: the keys of all attributes, and the ranks and factory texts of all texts.
 fn set_keys(setup: &[u64; SETUP], words: &mut [u64; WORDS])
     ensures { words.new ≡ keys_set setup.now words.old }
 {
-    let n = least(node_schema::attribute_count(words), ATTRIBUTES);
+    let n = node_schema::attribute_count(words).min(ATTRIBUTES);
     let mut rank = 0;
-    let mut i = 0;
-    while i < n {
+    for i in 0..n {
         rank = set_key(words, i, setup[PATHS + i], rank);
-        i += 1;
     }
 }
 

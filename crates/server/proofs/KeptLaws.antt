@@ -1,5 +1,5 @@
 -- A VALID SERVER STAYS VALID: a local change and a received message, whatever they are, leave a server that keeps the rules.
-use mathlib.Core.Path.{◌≡◌, refl, subst, sym}
+use mathlib.Core.Path.{◌≡◌, subst, sym}
 use mathlib.Core.Bool.{true}
 use mathlib.Core.List.{List}
 use Prim.Native.Nat.{ℕ, ◌<◌}

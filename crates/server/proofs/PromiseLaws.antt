@@ -1,12 +1,12 @@
 -- After a promise a success gets a part: the next one, made of what is held then, which may have no block.
+use Rattle.std.specs.Prelude.{Some}
 use mathlib.Core.Path.{◌≡◌, refl, ap, ◌∙◌}
-use mathlib.Core.Bool.{true, false, not}
+use mathlib.Core.Bool.{true}
 use mathlib.Core.List.{List, [], ◌∷◌}
 use Prim.Native.Nat.{ℕ, ◌≤◌}
 use native.Mathlib.Omega.{arith}
 use borrow.Author.Tests.{eq-eqb, lt-ltb}
 use lib.ListN.{length, drop}
-use Rattle.tlv_reader.specs.Decode.Opt.{just}
 use Rattle.im_envelope.specs.declared.Fields.{Fields}
 use Rattle.im_requests.specs.Status.{response_in}
 use Rattle.im_exchange.specs.declared.Progress.{Progress}
@@ -25,7 +25,7 @@ use Rattle.server.specs.Promise.{Success, Promised}
 use Rattle.server.proofs.ReactLaws.{kept-length, next-whole, len_of}
 use Rattle.server.proofs.ReceiveLaws.{served, right-row-of}
 
-step-next : (x : Progress) (e : Fields) (payload : List ℕ) → e.exchange ≡ x.last → e.turn ≡ x.turn → response_in payload ≡ just 0 → Promised x → step_of x Status e payload ≡ Next
+step-next : (x : Progress) (e : Fields) (payload : List ℕ) → e.exchange ≡ x.last → e.turn ≡ x.turn → response_in payload ≡ Some 0 → Promised x → step_of x Status e payload ≡ Next
 unfolding step_of on_status
 step-next x e payload a b c p =
     rw (c, eq-eqb e.exchange x.last a, p.unclosed, eq-eqb e.turn x.turn b, p.promised, lt-ltb x.turn max_turn p.left) refl

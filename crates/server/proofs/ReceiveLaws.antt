@@ -1,4 +1,5 @@
 -- Receiving, case by case: the refusals in their order, then the rules.
+use Rattle.std.specs.Prelude.{Some, None}
 use mathlib.Core.Path.{◌≡◌, refl, sym, ap, ◌∙◌}
 use mathlib.Core.Bool.{Bool, true, false, ◌&&◌}
 use mathlib.Core.List.{List}
@@ -10,7 +11,6 @@ use lib.ListN.{length, get_or, drop, take, length-drop}
 use lib.Seq.{take_all}
 use Rattle.tlv_reader.specs.Octet.{pick}
 use Rattle.im_envelope.specs.declared.Fields.{Fields}
-use Rattle.im_envelope.specs.declared.Envelope.TheVariants.{Whole, Short}
 use Rattle.im_envelope.specs.Envelope.{envelope_in, fields_of}
 use Rattle.im_writer.specs.Envelope.{big_number, exchange_limit}
 use Rattle.node_schema.specs.Layout.{subject_word, text_size}
@@ -48,18 +48,18 @@ module _ (s : Server) (h : server_right s ≡ true) where
   right-size = edits-size s.schema s.defaults s.state.edits s.state.values right-values
 
 -- an envelope's exchange has 40 bits
-pub exchange-below : (m : List ℕ) {e : Fields} → envelope_in m ≡ Whole e → e.exchange < exchange_limit
+pub exchange-below : (m : List ℕ) {e : Fields} → envelope_in m ≡ Some e → e.exchange < exchange_limit
 unfolding envelope_in fields_of
 exchange-below m {e} h = go (ltb (length m) envelope_length) h
   where
-    go : (b : Bool) → pick b Short (Whole (fields_of (big_number (take envelope_length m)))) ≡ Whole e → e.exchange < exchange_limit
+    go : (b : Bool) → pick b None (Some (fields_of (big_number (take envelope_length m)))) ≡ Some e → e.exchange < exchange_limit
     go true q = let z : ◌≡◌ {A = ℕ} 0 1 = cc in absurd (omega arith)
     go false q = let f : fields_of (big_number (take envelope_length m)) ≡ e = cc in omega (arith, ap (λ (x : Fields). x.exchange) f)
 
 -- and it has its eight octets
-pub long-enough : (m : List ℕ) {e : Fields} → envelope_in m ≡ Whole e → envelope_length ≤ length m
+pub long-enough : (m : List ℕ) {e : Fields} → envelope_in m ≡ Some e → envelope_length ≤ length m
 unfolding envelope_in
-long-enough m {e} h = by-test (ltb (length m) envelope_length) (λ t. let q : Short ≡ Whole e = rw t at h in let z : ◌≡◌ {A = ℕ} 0 1 = cc in absurd (omega arith)) (λ f. ltb-false _ _ f)
+long-enough m {e} h = by-test (ltb (length m) envelope_length) (λ t. let q : None ≡ Some e = rw t at h in let z : ◌≡◌ {A = ℕ} 0 1 = cc in absurd (omega arith)) (λ f. ltb-false _ _ f)
 
 module _ (s : Server) (c : Caller) (m : List ℕ) (room : ℕ) where
   pub broken : server_right s ≡ false → received s c m room ≡ refusal 2 s.state
@@ -80,10 +80,10 @@ module _ (s : Server) (c : Caller) (m : List ℕ) (room : ℕ) where
       unfolding received
       opened = rw (h, t, le-ltb room max_message l) refl
 
-      pub short : envelope_in m ≡ Short → received s c m room ≡ refusal 4 s.state
+      pub short : envelope_in m ≡ None → received s c m room ≡ refusal 4 s.state
       short e = opened ∙ ap (in_envelope s c m) e
 
-      module _ {e : Fields} (q : envelope_in m ≡ Whole e) {action : Action} (d : action_of e.opcode ≡ action) where
+      module _ {e : Fields} (q : envelope_in m ≡ Some e) {action : Action} (d : action_of e.opcode ≡ action) where
         whole : received s c m room ≡ by_action s c m e action
         whole = opened ∙ ap (in_envelope s c m) q ∙ ap (by_action s c m e) d
 

@@ -1,4 +1,5 @@
 -- What receiving answers, over all its cases: no 2 from a valid server, refusals touch nothing, silence has no reply.
+use Rattle.std.specs.Prelude.{Some, None, Option}
 use mathlib.Core.Path.{◌≡◌, refl, sym, ◌∙◌}
 use mathlib.Core.Bool.{true, false, ◌&&◌, true≢false}
 use mathlib.Core.List.{List, [], ◌∷◌}
@@ -9,8 +10,6 @@ use lib.ListN.{length, get_or, take, drop}
 use Rattle.tlv_reader.specs.Octet.{pick}
 use Rattle.tlv_reader.proofs.Picks.{pick-elim}
 use Rattle.im_envelope.specs.declared.Fields.{Fields}
-use Rattle.im_envelope.specs.declared.Envelope.{Envelope}
-use Rattle.im_envelope.specs.declared.Envelope.TheVariants as envelope
 use Rattle.im_envelope.specs.Envelope.{fields_of, envelope_in}
 use Rattle.im_writer.specs.Envelope.{big_number, exchange_limit}
 use Rattle.node_schema.specs.Layout.{subject_word}
@@ -32,9 +31,9 @@ use Rattle.server.specs.Receive.{refusal, number_for, answering, silence, step_o
 
 -- ---- an envelope's exchange has 40 bits
 
-abbrev Below : Envelope → Type 0
-Below envelope.Short = Unit
-Below (envelope.Whole e) = e.exchange < exchange_limit
+abbrev Below : Option Fields → Type 0
+Below None = Unit
+Below (Some e) = e.exchange < exchange_limit
 
 fields-below : (n : ℕ) → (fields_of n).exchange < exchange_limit
 unfolding fields_of
@@ -42,15 +41,15 @@ fields-below n = omega arith
 
 envelope-below : (m : List ℕ) → Below (envelope_in m)
 unfolding envelope_in
-envelope-below m = pick-elim Below (ltb (length m) envelope_length) envelope.Short (envelope.Whole (fields_of (big_number (take envelope_length m)))) (λ _. tt) (λ _. fields-below (big_number (take envelope_length m)))
+envelope-below m = pick-elim Below (ltb (length m) envelope_length) None (Some (fields_of (big_number (take envelope_length m)))) (λ _. tt) (λ _. fields-below (big_number (take envelope_length m)))
 
 -- ---- a property of what is answered: of the refusals, of silence, and of every reaction
 
 module _ (P : ServerReaction → Type 0) (s : Server) (c : Caller) where
   module _ (no-message : P (refusal 4 s.state)) (silent : P (silence s.state)) (each : (e : Fields) → e.exchange < exchange_limit → (payload : List ℕ) (action : Action) (step : Step) → Taken s.state.row.progress e.exchange step → P (reacted s c.grants e payload action step)) where
-    enveloped : (m : List ℕ) (x : Envelope) → Below x → P (in_envelope s c m x)
-    enveloped m envelope.Short b = no-message
-    enveloped m (envelope.Whole e) b =
+    enveloped : (m : List ℕ) (x : (Option Fields)) → Below x → P (in_envelope s c m x)
+    enveloped m None b = no-message
+    enveloped m (Some e) b =
         let payload = drop envelope_length m in
         let action = action_of e.opcode in
         let r = reacted s c.grants e payload action (step_of s.state.row.progress action e payload) in

@@ -1,22 +1,18 @@
 -- What a message means for the exchange, and what follows from it.
-use mathlib.Core.Path.{◌≡◌, refl, sym, ap, subst, ◌∙◌}
-use mathlib.Core.Bool.{Bool, true, false, not, ◌&&◌, true≢false}
+use Rattle.std.specs.Prelude.{Some, None, Option}
+use mathlib.Core.Path.{◌≡◌, sym, ap, subst, ◌∙◌}
+use mathlib.Core.Bool.{true, not, ◌&&◌, true≢false}
 use mathlib.Core.List.{List}
 use Prim.Native.Nat.{ℕ, ◌<◌, ◌+◌}
 use native.Mathlib.Omega.{arith}
 use borrow.Author.Tests.{ltb-true, eq-eqb}
 use lib.Dec.{eqb, ltb, leb}
-use Rattle.tlv_reader.specs.Octet.{pick}
 use Rattle.tlv_reader.proofs.Picks.{pick-elim}
-use Rattle.tlv_reader.specs.Decode.{Opt}
-use Rattle.tlv_reader.specs.Decode.Opt.{just, nothing}
-use Rattle.im_requests.specs.declared.StatusResponse.TheVariants.{Code, BadResponse}
-use Rattle.im_requests.specs.Status.{response_read, response_in}
+use Rattle.im_requests.specs.Status.{response_in}
 use Rattle.node_schema.proofs.BoolLaws.{right}
 use Rattle.im_envelope.specs.declared.Fields.{Fields}
 use Rattle.im_exchange.specs.declared.Progress.{Progress}
-use Rattle.im_exchange.specs.declared.Step.{Step}
-use Rattle.im_exchange.specs.declared.Step.TheVariants.{Silence, Begin, Repeat, Next, Close}
+use Rattle.im_exchange.specs.declared.Step.TheVariants.{Next}
 use Rattle.im_exchange.specs.Rules.{max_turn, beginning, on_request, on_promised, on_status, first_reply}
 use Rattle.im_exchange.specs.Rules as rules
 use Rattle.im_exchange.specs.declared.Action.{Action}
@@ -25,14 +21,6 @@ use Rattle.server.specs.Promise.{Taken}
 
 never : {A : Type 0} → ◌≡◌ {A = ℕ} 0 1 → A
 never e = absurd (omega arith)
-
-pub was-bad : (o : Opt ℕ) → response_read o ≡ BadResponse → o ≡ nothing
-was-bad nothing e = refl
-was-bad (just n) e = never (cc)
-
-pub was-code : (o : Opt ℕ) {n : ℕ} → response_read o ≡ Code n → o ≡ just n
-was-code nothing e = never (cc)
-was-code (just n) e = cc
 
 module _ (x : Progress) (exchange : ℕ) where
   request-taken : (turn : ℕ) → Taken x exchange (on_request x exchange turn)
@@ -64,9 +52,9 @@ pub step-taken : (x : Progress) (action : Action) (e : Fields) (payload : List �
 unfolding step_of
 step-taken x action e payload = pick-elim (Taken x e.exchange) (beginning action) _ _ (λ _. request-taken x e.exchange e.turn) (λ _. by (response_in payload))
   where
-    by : (o : Opt ℕ) → Taken x e.exchange (by_status x e o)
-    by nothing = tt
-    by (just code) = status-taken x e.exchange e.turn code
+    by : (o : Option ℕ) → Taken x e.exchange (by_status x e o)
+    by None = tt
+    by (Some code) = status-taken x e.exchange e.turn code
 
 pub next-turn : (x : Progress) (action : Action) (e : Fields) (payload : List ℕ) → step_of x action e payload ≡ Next → x.turn < max_turn
 next-turn x action e payload h = (subst (Taken x e.exchange) h (step-taken x action e payload)).0

@@ -1,9 +1,7 @@
 -- A promise of more, and a success for it (RULES 3.13).
-use Rattle.std.specs.Prelude.{◌≡◌, List, ℕ, ◌≤◌, ◌<◌, length, get_or, drop}
-use Rattle.tlv_reader.specs.Decode.Opt.{just}
+use Rattle.std.specs.Prelude.{◌≡◌, List, ℕ, ◌≤◌, ◌<◌, length, get_or, drop, Some}
 use Rattle.im_writer.specs.Envelope.{cache_edition}
 use Rattle.im_envelope.specs.declared.Fields.{Fields}
-use Rattle.im_envelope.specs.declared.Envelope.TheVariants.{Whole}
 use Rattle.im_envelope.specs.Envelope.{envelope_in}
 use Rattle.im_requests.specs.Status.{response_in}
 use Rattle.node_schema.specs.Layout.{subject_word}
@@ -17,14 +15,14 @@ use Rattle.server_replies.specs.Server.{Server, Caller}
 
 -- a success for the newest reply of an exchange that promised more and was not closed
 pub record Success (s : Server) (c : Caller) (m : List ℕ) (e : Fields) : Type 0 where
-  pub found : envelope_in m ≡ Whole e
+  pub found : envelope_in m ≡ Some e
   pub fits : length m ≤ max_message
   pub edition : e.edition ≡ cache_edition
   pub opcode : e.opcode ≡ status_opcode
   pub ours : c.subject ≡ get_or s.schema subject_word 0
   pub exchange : e.exchange ≡ s.state.row.progress.last
   pub turn : e.turn ≡ s.state.row.progress.turn
-  pub status : response_in (drop envelope_length m) ≡ just 0
+  pub status : response_in (drop envelope_length m) ≡ Some 0
 
 pub record Promised (x : Progress) : Type 0 where
   pub promised : x.next ≡ part

@@ -1,13 +1,9 @@
 -- WHEN WHAT IS ANSWERED (RULES 3 and 6): from a state and a message to a state and a reply.
-use Rattle.std.specs.Prelude.{◌≡◌, Bool, ◌&&◌, List, [], ◌∷◌, ℕ, eqb, ltb, leb, length, get_or, drop}
+use Rattle.std.specs.Prelude.{◌≡◌, Bool, ◌&&◌, List, [], ◌∷◌, ℕ, eqb, ltb, leb, length, get_or, drop, Some, None, Option}
 use Rattle.base_octets.specs.Store.{store}
 use Rattle.tlv_reader.specs.Octet.{pick}
-use Rattle.tlv_reader.specs.Decode.{Opt}
-use Rattle.tlv_reader.specs.Decode.Opt.{just, nothing}
 use Rattle.im_writer.specs.Envelope.{cache_edition}
 use Rattle.im_envelope.specs.declared.Fields.{Fields}
-use Rattle.im_envelope.specs.declared.Envelope.{Envelope}
-use Rattle.im_envelope.specs.declared.Envelope.TheVariants.{Whole, Short}
 use Rattle.im_envelope.specs.Envelope.{envelope_in}
 use Rattle.im_requests.specs.Status.{response_in}
 use Rattle.node_schema.specs.Layout.{subject_word}
@@ -57,9 +53,9 @@ closing x =
     }
 
 -- what a message means for the exchange; silence for a malformed status (RULES 3.15)
-abbrev pub by_status : Progress → Fields → Opt ℕ → Step
-by_status x e nothing = Silence
-by_status x e (just code) = on_status x e.exchange e.turn code
+abbrev pub by_status : Progress → Fields → Option ℕ → Step
+by_status x e None = Silence
+by_status x e (Some code) = on_status x e.exchange e.turn code
 
 unfoldable pub step_of : Progress → Action → Fields → List ℕ → Step
 step_of x action e payload = pick (beginning action) (on_request x e.exchange e.turn) (by_status x e (response_in payload))
@@ -93,9 +89,9 @@ by_action s c m e action =
     (refusal 4 s.state)
 
 -- refusal 4 for a message that is too short; else by the action that its opcode stands for
-abbrev pub in_envelope : Server → Caller → List ℕ → Envelope → ServerReaction
-in_envelope s c m Short = refusal 4 s.state
-in_envelope s c m (Whole e) = by_action s c m e (action_of e.opcode)
+abbrev pub in_envelope : Server → Caller → List ℕ → Option Fields → ServerReaction
+in_envelope s c m None = refusal 4 s.state
+in_envelope s c m (Some e) = by_action s c m e (action_of e.opcode)
 
 -- RECEIVING a message: 2, 3, 4, then the rules; `room` is the buffer's length
 unfoldable pub received : Server → Caller → List ℕ → ℕ → ServerReaction

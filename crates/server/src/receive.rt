@@ -13,9 +13,9 @@ ghost use Rattle.server.specs.Receive.{closing, step_of, begun, reacted, for_ser
 
 use super::{BROKEN, DONE, NO_MESSAGE, Outcome, SILENT, SMALL_BUFFER, server_ok};
 use base_bounds::{ACCESS_ENTRIES, ATTRIBUTES, CLUSTERS};
-use im_envelope::{Envelope, Fields, envelope_of};
-use im_exchange::{Action, Progress, Step, action_of, begins, on_request, on_status, server_takes};
-use im_requests::{StatusResponse, status_response};
+use im_envelope::{Fields, envelope_of};
+use im_exchange::{Action, Progress, Step, on_request, on_status};
+use im_requests::status_response;
 use im_writer::envelope::CACHE_EDITION;
 use node_access::table::{search, search_in};
 use node_access::{AccessEntry, Grants};
@@ -50,10 +50,10 @@ fn answer(len: usize) -> Outcome
 fn step_of(x: Progress, action: Action, e: Fields, payload: &[u8]) -> Step
     ensures { result ≡ step_of x action e payload.now }
 {
-    if begins(action) {
+    if action.begins() {
         return on_request(x, e.exchange, e.turn);
     }
-    let StatusResponse::Code(code) = status_response(payload) else {
+    let Some(code) = status_response(payload) else {
         return Step::Silence;
     };
     on_status(x, e.exchange, e.turn, code)
@@ -173,7 +173,7 @@ fn is_for_server(edition: u64, action: Action) -> bool
     if edition != CACHE_EDITION as u64 {
         return false;
     }
-    server_takes(action)
+    action.is_taken()
 }
 
 // The core of receiving: what is granted to the subject is known, and whether the access table keeps the rules.
@@ -205,13 +205,13 @@ pub fn serve<'a>(
     if out.len() < MAX_MESSAGE {
         return refuse(SMALL_BUFFER);
     }
-    let Envelope::Whole(e) = envelope_of(message) else {
+    let Some(e) = envelope_of(message) else {
         return refuse(NO_MESSAGE);
     };
     if MAX_MESSAGE < message.len() {
         return refuse(NO_MESSAGE);
     }
-    let action = action_of(e.opcode);
+    let action = Action::from(e.opcode);
     if !is_for_server(e.edition, action) {
         return refuse(NO_MESSAGE);
     }

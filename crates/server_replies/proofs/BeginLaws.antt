@@ -1,14 +1,13 @@
 -- What begins an exchange, case by case for the code.
+use Rattle.std.specs.Prelude.{Some, None, Option}
 use mathlib.Core.Path.{◌≡◌, sym, ap, subst, ◌∙◌}
 use mathlib.Core.List.{List, [], map}
-use Prim.Native.Nat.{ℕ, ◌*◌, ◌^◌, ◌≤◌, ◌<◌}
+use Prim.Native.Nat.{ℕ, ◌*◌, ◌≤◌}
 use native.Mathlib.Omega.{arith}
 use borrow.Author.Tests.{eq-eqb, ne_eqb}
 use lib.ListN.{length, get_or, take, length-take}
 use Rattle.base_bounds.specs.Bounds.{path_limit, write_limit}
 use Rattle.base_octets.specs.Store.{store, Stored}
-use Rattle.tlv_reader.specs.Decode.{Opt}
-use Rattle.tlv_reader.specs.Decode.Opt.{just, nothing}
 use Rattle.im_requests.specs.Read.{ReadRequest}
 use Rattle.im_requests.specs.Read.{nowhere, Read, read_in, read_read}
 use Rattle.im_requests.proofs.KeepLaws.{length-first, first-none}
@@ -31,14 +30,14 @@ use Rattle.server_replies.specs.Row.{kept_reply, row_in, reported, blocks_of}
 use Rattle.server_replies.specs.Refusal.{read_refusal, write_asks, write_refusal}
 use Rattle.server_replies.specs.Begin.{once, beginning_place, request_of, read_by, read_begun, entries_of, response_to, write_by, write_begun, Wrote, refusal_of}
 use Rattle.server_replies.proofs.MessageLaws.{answer-length}
-use Rattle.server_replies.proofs.RequestLaws.{refusal-none}
+use Rattle.server_replies.proofs.RequestLaws.{whole-none}
 use Rattle.server_replies.proofs.LentLaws.{begins-same}
 
 -- ---- a read
 
-paths-whole : (o : Opt Read) → length (read_read o).paths.kept ≡ path_limit
-paths-whole nothing = ap length (sym (first-none path_limit nowhere)) ∙ length-first path_limit nowhere []
-paths-whole (just x) = length-first path_limit nowhere x.paths
+paths-whole : (o : Option Read) → length (read_read o).paths.kept ≡ path_limit
+paths-whole None = ap length (sym (first-none path_limit nowhere)) ∙ length-first path_limit nowhere []
+paths-whole (Some x) = length-first path_limit nowhere x.paths
 
 module _ (s : List ℕ) {r : ReadRequest} (e : r ≡ read_read (read_in s)) where
   -- the words of its paths are as many as there is room for
@@ -58,9 +57,9 @@ module _ (s : List ℕ) {r : ReadRequest} (e : r ≡ read_read (read_in s)) wher
 
 -- ---- a write
 
-kept-length : (o : Opt (WriteOf ℕ)) → length (write_read o).entries.kept ≡ write_limit
-kept-length nothing = ap length (sym (first-none write_limit no_entry)) ∙ length-first write_limit no_entry []
-kept-length (just x) = length-first write_limit no_entry (map entry_struct x.entries)
+kept-length : (o : Option (WriteOf ℕ)) → length (write_read o).entries.kept ≡ write_limit
+kept-length None = ap length (sym (first-none write_limit no_entry)) ∙ length-first write_limit no_entry []
+kept-length (Some x) = length-first write_limit no_entry (map entry_struct x.entries)
 
 -- what the code leaves, and what is meant
 wrote_as : {l : ServerState} {k : HeldValues} {t : RowStanding} {row kept old new : List ℕ} → state_with k (row_in row t kept) ≡ l → (new ≡ store old 0 (kept_reply (row_in row t kept))) × (length (kept_reply (row_in row t kept)) ≡ t.len) → Wrote l t k row row kept old new
@@ -96,12 +95,12 @@ module _ (s : List ℕ) {r : WriteRequest} (e : r ≡ write_read (write_in s)) w
       response-sent {codes} {old} {new} {end} c y =
           let n = r.entries.count in
           let q : take n codes ≡ codes_of u.schema g u.defaults s (held_by u.state) (entries_of r) =
-          ap (take n) c ∙ codes-kept u.schema g u.defaults s (held_by u.state) r.entries.kept n (omega (arith, (refusal-none (write_asks r) z).writes, writes-whole)) (refusal-none (write_asks r) z).writes in
+          ap (take n) c ∙ codes-kept u.schema g u.defaults s (held_by u.state) r.entries.kept n (omega (arith, (whole-none r.good (write_asks r) z).writes, writes-whole)) (whole-none r.good (write_asks r) z).writes in
           subst (λ (l : List ℕ). Stored old 0 (response_message cache_edition exchange first_reply (entries_of r) l) new end) q y
 
       pub response-short : length (response_message cache_edition exchange first_reply (entries_of r) (codes_of u.schema g u.defaults s (held_by u.state) (entries_of r))) ≤ max_message
       response-short =
-          answer-length cache_edition exchange first_reply (entries_of r) (codes_of u.schema g u.defaults s (held_by u.state) (entries_of r)) (omega (arith, (refusal-none (write_asks r) z).writes, length-take r.entries.count r.entries.kept))
+          answer-length cache_edition exchange first_reply (entries_of r) (codes_of u.schema g u.defaults s (held_by u.state) (entries_of r)) (omega (arith, (whole-none r.good (write_asks r) z).writes, length-take r.entries.count r.entries.kept))
           (of-taken InWidth r.entries.kept r.entries.count no_entry (λ i l. writes-wide i)) (codes-octets u.schema g u.defaults s (held_by u.state) (entries_of r))
 
     pub silent : r.suppress ≡ 1 → response_to u g exchange s r ≡ []

@@ -32,7 +32,7 @@ use Rattle.server_replies.specs.Begin.{once, beginning_place, request_of, read_b
 use Rattle.server_replies.proofs.MessageLaws.{status-length, report-length, status-some, report-some, response-some}
 use Rattle.server_replies.proofs.RowLaws.{RightRow, row-right, right-row, kept_back, kept-short, kept-none, kept-some, served-some, promised-served}
 use Rattle.server_replies.proofs.PlaceLaws.{Reached, part-reached}
-use Rattle.server_replies.proofs.RequestLaws.{refusal-octet, refusal-none}
+use Rattle.server_replies.proofs.RequestLaws.{refusal-octet, whole-none}
 use Rattle.server_replies.proofs.BeginLaws.{response-short}
 
 -- ---- a right row stays right
@@ -113,8 +113,8 @@ module _ (u : Server) (g : Grants) (exchange : ℕ) (below : exchange < exchange
       let q = read_read (read_in s) in
       right-row (read_begun u g exchange s)
       (pick-elim RightRow (eqb (read_refusal q) 0) _ _
-      (λ t. let f = refusal-none (read_asks q) (eqb-true (read_refusal q) 0 t) in reported-right u.state.row exchange below served u g first_reply (omega arith) (omega arith) (request_of u.schema q) beginning_place f.paths (record { phase = refl; path = omega arith; index = omega arith; sent = refl }))
-      (λ t. once-right u.state.row exchange below served (row-right u.state.row right) (refusal_of exchange (read_refusal q)) (refused-kept exchange (read_refusal q) (refusal-octet (read_asks q)))))
+      (λ t. let f = whole-none q.good (read_asks q) (eqb-true (read_refusal q) 0 t) in reported-right u.state.row exchange below served u g first_reply (omega arith) (omega arith) (request_of u.schema q) beginning_place f.paths (record { phase = refl; path = omega arith; index = omega arith; sent = refl }))
+      (λ t. once-right u.state.row exchange below served (row-right u.state.row right) (refusal_of exchange (read_refusal q)) (refused-kept exchange (read_refusal q) (refusal-octet q.good (read_asks q)))))
 
   -- A WRITE that begins
   pub write-right : (s : List ℕ) → row_right (write_begun u g exchange s).row ≡ true
@@ -124,7 +124,7 @@ module _ (u : Server) (g : Grants) (exchange : ℕ) (below : exchange < exchange
       right-row (write_begun u g exchange s).row
       (pick-elim (λ (l : ServerState). RightRow l.row) (eqb (write_refusal q) 0) _ _
       (λ t. once-right u.state.row exchange below served (row-right u.state.row right) (response_to u g exchange s q) (answered-kept u g exchange s (eqb-true (write_refusal q) 0 t)))
-      (λ t. once-right u.state.row exchange below served (row-right u.state.row right) (refusal_of exchange (write_refusal q)) (refused-kept exchange (write_refusal q) (refusal-octet (write_asks q)))))
+      (λ t. once-right u.state.row exchange below served (row-right u.state.row right) (refusal_of exchange (write_refusal q)) (refused-kept exchange (write_refusal q) (refusal-octet q.good (write_asks q)))))
 
 -- ---- THE KEPT REPLY of a right row is a message
 pub reply-bound : (x : ExchangeRow) → row_right x ≡ true → length (kept_reply x) ≤ max_message
@@ -156,7 +156,7 @@ module _ (u : Server) (g : Grants) (whole : length u.state.row.kept ≡ max_mess
         let q = read_read (read_in s) in
         of-pick (λ (y : ExchangeRow). kept_reply y) (eqb (read_refusal q) 0) _ _
         (λ t. kept_back u.state.row whole _ _ _ _ (report-length cache_edition exchange first_reply (blocks_of u g (request_of u.schema q) beginning_place)))
-        (λ t. kept_back u.state.row whole _ _ _ _ (refused-short exchange (read_refusal q) (refusal-octet (read_asks q))))
+        (λ t. kept_back u.state.row whole _ _ _ _ (refused-short exchange (read_refusal q) (refusal-octet q.good (read_asks q))))
 
     pub write-reply :
         let q = write_read (write_in s) in
@@ -166,7 +166,7 @@ module _ (u : Server) (g : Grants) (whole : length u.state.row.kept ≡ max_mess
         let q = write_read (write_in s) in
         of-pick (λ (l : ServerState). kept_reply l.row) (eqb (write_refusal q) 0) _ _
         (λ t. kept_back u.state.row whole _ _ _ _ (answered-short u g exchange s (eqb-true (write_refusal q) 0 t)))
-        (λ t. kept_back u.state.row whole _ _ _ _ (refused-short exchange (write_refusal q) (refusal-octet (write_asks q))))
+        (λ t. kept_back u.state.row whole _ _ _ _ (refused-short exchange (write_refusal q) (refusal-octet q.good (write_asks q))))
 
 -- ---- NO REPLY BUT SILENCE is empty
 

@@ -1,5 +1,5 @@
 -- The messages that a server sends: an envelope and a payload (RULES 3.1).
-use Rattle.std.specs.Prelude.{List, ◌++◌, ℕ, ◌+◌}
+use Rattle.std.specs.Prelude.{List, ◌++◌, ℕ}
 use Rattle.im_envelope.specs.Envelope as Envelope
 use Rattle.im_writer.specs.Envelope.{envelope_octets}
 use Rattle.im_writer.specs.Spelling.{spelling}

@@ -1,29 +1,31 @@
 -- WHY A WHOLE REQUEST IS REFUSED, in the order of RULES 6.10: 80, C9, C8, 89.
-use Rattle.std.specs.Prelude.{◌||◌, ℕ, ltb, eqb}
+use Rattle.std.specs.Prelude.{◌||◌, ℕ, Bool, ltb, eqb}
 use Rattle.base_bounds.specs.Bounds.{path_limit, filter_limit, write_limit}
 use Rattle.tlv_reader.specs.Octet.{pick}
 use Rattle.im_requests.specs.Read.{ReadRequest}
 use Rattle.im_requests.specs.Write.{WriteRequest}
 use Rattle.server_replies.specs.declared.refusal.Asks.{Asks}
 
--- the status, or 0 if none applies
+-- the status of a well-formed request, or 0 if none applies
 unfoldable pub refusal_code : Asks → ℕ
 refusal_code a =
-    pick a.good
-    (pick (eqb a.timed 1) 0xC9
+    pick (eqb a.timed 1) 0xC9
     (pick (ltb path_limit a.paths) 0xC8
-    (pick (ltb filter_limit a.filters || ltb write_limit a.writes) 0x89 0)))
-    0x80
+    (pick (ltb filter_limit a.filters || ltb write_limit a.writes) 0x89 0))
+
+-- and of any
+abbrev pub whole_code : Bool → Asks → ℕ
+whole_code good a = pick good (refusal_code a) 0x80
 
 -- what a read and a write ask for
 abbrev pub read_asks : ReadRequest → Asks
-read_asks r = record { good = r.good; timed = 0; paths = r.paths.count; filters = r.filters.count; writes = 0 }
+read_asks r = record { timed = 0; paths = r.paths.count; filters = r.filters.count; writes = 0 }
 
 abbrev pub write_asks : WriteRequest → Asks
-write_asks r = record { good = r.good; timed = r.timed; paths = 0; filters = 0; writes = r.entries.count }
+write_asks r = record { timed = r.timed; paths = 0; filters = 0; writes = r.entries.count }
 
 abbrev pub read_refusal : ReadRequest → ℕ
-read_refusal r = refusal_code (read_asks r)
+read_refusal r = whole_code r.good (read_asks r)
 
 abbrev pub write_refusal : WriteRequest → ℕ
-write_refusal r = refusal_code (write_asks r)
+write_refusal r = whole_code r.good (write_asks r)

@@ -12,7 +12,7 @@ ghost use Rattle.server_replies.specs.Begin.{refusal_of, once, read_begun, write
 
 use super::kept::{keep, next_of};
 use super::message::{put_part, put_status, put_statuses};
-use super::refusal::{Asks, refusal_code};
+use super::refusal::{Asks, MALFORMED, refusal_code};
 use super::{MAX_MESSAGE, RowStanding};
 use base_bounds::{ATTRIBUTES, CLUSTERS};
 use im_exchange::{FIRST_REPLY, NOTHING, Progress};
@@ -89,9 +89,10 @@ pub fn begin_read<'a>(
 {
     let mut paths = [0u64; PATH_WORDS];
     let mut filters = [0u64; FILTER_WORDS];
-    let r = read_request(payload, &mut paths, &mut filters);
+    let Some(r) = read_request(payload, &mut paths, &mut filters) else {
+        return refuse(kept, t, exchange, MALFORMED, out);
+    };
     let refusal = refusal_code(Asks {
-        good: r.good,
         timed: 0,
         paths: r.paths,
         filters: r.filters,
@@ -161,9 +162,10 @@ pub fn begin_write<'a>(
     ensures { (row : List ℕ) → Wrote (write_begun (server_with w.now defaults.now (held_of words.old nulls.old texts.old versions.old edits.old) (row_in row t kept.old)) g exchange payload.now) result (held_of words.new nulls.new texts.new versions.new edits.new) row row kept.new out.old out.new }
 {
     let mut entries = [0u64; ENTRY_WORDS];
-    let r = write_request(payload, &mut entries);
+    let Some(r) = write_request(payload, &mut entries) else {
+        return refuse(kept, t, exchange, MALFORMED, out);
+    };
     let refusal = refusal_code(Asks {
-        good: r.good,
         timed: r.timed,
         paths: 0,
         filters: 0,

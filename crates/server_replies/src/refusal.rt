@@ -4,7 +4,8 @@ ghost use Rattle.server_replies.specs.Refusal.{refusal_code};
 
 use base_bounds::{MAX_FILTERS, MAX_PATHS, MAX_WRITES};
 
-const MALFORMED: u8 = 0x80;
+// The status of a request that is not well-formed, before all others.
+pub const MALFORMED: u8 = 0x80;
 
 const TIMED_MISMATCH: u8 = 0xC9;
 
@@ -12,23 +13,19 @@ const PATHS_EXHAUSTED: u8 = 0xC8;
 
 const RESOURCE_EXHAUSTED: u8 = 0x89;
 
-// What a request asks for, as far as that decides it: whether it is well-formed, whether a timed one is meant, and how many paths, filters and writes it has.
+// What a well-formed request asks for, as far as that decides it: whether a timed one is meant, and how many paths, filters and writes it has.
 #[derive(Clone, Copy)]
 pub struct Asks {
-    pub good: bool,
     pub timed: u64,
     pub paths: usize,
     pub filters: usize,
     pub writes: usize,
 }
 
-// The status, or 0 if none applies.
+// The status of one that is well-formed, or 0 if none applies.
 pub fn refusal_code(a: Asks) -> u8
     ensures { result ≡ refusal_code a }
 {
-    if !a.good {
-        return MALFORMED;
-    }
     if a.timed == 1 {
         return TIMED_MISMATCH;
     }

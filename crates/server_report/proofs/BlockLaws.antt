@@ -1,4 +1,5 @@
 -- The blocks of a request, place by place.
+use Rattle.std.specs.Prelude.{Some, None, Option}
 use mathlib.Core.Path.{◌≡◌, refl, sym, ap, ◌∙◌}
 use mathlib.Core.Bool.{Bool, true, false, false≢true}
 use mathlib.Core.List.{List, [], ◌∷◌, ◌++◌, map, append_assoc}
@@ -7,8 +8,6 @@ use native.Mathlib.Omega.{arith}
 use lib.ListN.{length, drop, drop_of_length-le}
 use Rattle.base_bounds.specs.Bounds.{attribute_limit}
 use Rattle.tlv_reader.specs.Octet.{pick}
-use Rattle.tlv_reader.specs.Decode.{Opt}
-use Rattle.tlv_reader.specs.Decode.Opt.{just, nothing}
 use Rattle.im_writer.specs.Block.{Block}
 use Rattle.node_schema.specs.Rows.{count_of_attributes}
 use Rattle.node_access.specs.declared.Grants.{Grants}
@@ -21,15 +20,15 @@ use Rattle.server_selection.proofs.ItemLaws.{item-index}
 use Rattle.server_report.specs.Blocks.{View, PlacedBlock, is_nothing, block_of, listed, block_at, placed_at, collect, path_blocks, paths_blocks}
 
 -- what a place has is nothing, or a block
-pub no_block : (s : View) (p : Asked) (x : Item) → is_nothing x ≡ true → block_of s.schema s.values s.defaults s.edits p x ≡ nothing
+pub no_block : (s : View) (p : Asked) (x : Item) → is_nothing x ≡ true → block_of s.schema s.values s.defaults s.edits p x ≡ None
 unfolding block_of
 no_block s p (item.Value i) h = cc
 no_block s p (item.Status code) h = cc
 no_block s p item.Nothing h = refl
 
-pub record There (o : Opt Block) : Type 0 where
+pub record There (o : Option Block) : Type 0 where
   pub block : Block
-  pub there : o ≡ just block
+  pub there : o ≡ Some block
 
 pub some_block : (s : View) (p : Asked) (x : Item) → is_nothing x ≡ false → There (block_of s.schema s.values s.defaults s.edits p x)
 unfolding block_of
@@ -63,14 +62,14 @@ module _ (s : View) (k : ℕ) (p : Asked) where
 
   -- x stands there
   module _ (i : ℕ) (h : i < span s.schema p) (x : Item) (e : x ≡ item_at s.schema s.grants s.skips p i) where
-    item-step : (o : Opt Block) → block_of s.schema s.values s.defaults s.edits p x ≡ o → path_blocks s k p i ≡ map (placed_at k i) (listed o) ++ path_blocks s k p (i + 1)
+    item-step : (o : Option Block) → block_of s.schema s.values s.defaults s.edits p x ≡ o → path_blocks s k p i ≡ map (placed_at k i) (listed o) ++ path_blocks s k p (i + 1)
     item-step o q = places-step i (listed o) h (ap listed (ap (block_of s.schema s.values s.defaults s.edits p) (sym e) ∙ q))
 
     pub places-none : is_nothing x ≡ true → path_blocks s k p i ≡ path_blocks s k p (i + 1)
-    places-none t = item-step nothing (no_block s p x t)
+    places-none t = item-step None (no_block s p x t)
 
-    pub places-block : (b : Block) → block_of s.schema s.values s.defaults s.edits p x ≡ just b → path_blocks s k p i ≡ placed_at k i b ∷ path_blocks s k p (i + 1)
-    places-block b q = item-step (just b) q
+    pub places-block : (b : Block) → block_of s.schema s.values s.defaults s.edits p x ≡ Some b → path_blocks s k p i ≡ placed_at k i b ∷ path_blocks s k p (i + 1)
+    places-block b q = item-step (Some b) q
 
   -- and so for the paths of which it is the first
   module _ (ps : List Asked) where

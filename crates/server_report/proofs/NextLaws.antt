@@ -1,12 +1,11 @@
 -- THE LAW OF A READ THAT GOES ON: in one view, the blocks from the place after a block on are those that follow it.
+use Rattle.std.specs.Prelude.{Some, None, Option}
 use mathlib.Core.Path.{◌≡◌, refl, sym, ap, ◌∙◌}
 use mathlib.Core.List.{List, [], ◌∷◌, ◌++◌, map}
 use Prim.Native.Nat.{ℕ, zero, suc, ◌+◌, ◌-◌, ◌≤◌}
 use native.Mathlib.Omega.{arith}
 use lib.ListN.{drop}
 use lib.Seq.{drop-drop}
-use Rattle.tlv_reader.specs.Decode.{Opt}
-use Rattle.tlv_reader.specs.Decode.Opt.{just, nothing}
 use Rattle.im_writer.specs.Block.{Block}
 use Rattle.server_selection.specs.declared.asked.Asked.{Asked}
 use Rattle.server_selection.specs.Items.{span, item_at}
@@ -22,10 +21,10 @@ record Begins (s : View) (ps : List Asked) (k : ℕ) (x : PlacedBlock) (rest : L
 
 module _ (s : View) (x : PlacedBlock) (rest : List PlacedBlock) where
   -- a place has one block at most, and after it comes the next place
-  begins-here : (p : Asked) (ps : List Asked) (k i : ℕ) (o : Opt Block) →
+  begins-here : (p : Asked) (ps : List Asked) (k i : ℕ) (o : Option Block) →
       (paths_blocks s k (i + 1) (p ∷ ps) ≡ x ∷ rest → Begins s (p ∷ ps) k x rest) → map (placed_at k i) (listed o) ++ paths_blocks s k (i + 1) (p ∷ ps) ≡ x ∷ rest → Begins s (p ∷ ps) k x rest
-  begins-here p ps k i nothing f e = f e
-  begins-here p ps k i (just b) f e =
+  begins-here p ps k i None f e = f e
+  begins-here p ps k i (Some b) f e =
       let h : placed_at k i b ≡ x = cc in
       let q : k ≡ x.next.path = ap (λ (y : PlacedBlock). y.next.path) h in
       let r : i + 1 ≡ x.next.index = ap (λ (y : PlacedBlock). y.next.index) h in

@@ -1,4 +1,5 @@
 -- A block offered to a buffer, by whether there is room for it.
+use Rattle.std.specs.Prelude.{Some, Option}
 use mathlib.Core.Path.{◌≡◌, refl, sym, subst}
 use mathlib.Core.Bool.{true}
 use mathlib.Core.List.{List}
@@ -8,8 +9,6 @@ use borrow.Author.Tests.{leb-true, leb-false, le-leb}
 use lib.Dec.{leb}
 use lib.ListN.{length}
 use Rattle.base_octets.specs.Store.{Stored}
-use Rattle.tlv_reader.specs.Decode.{Opt}
-use Rattle.tlv_reader.specs.Decode.Opt.{just}
 use Rattle.im_writer.specs.Spelling.{spelling}
 use Rattle.im_writer.specs.Block.{Block, block_tree}
 use Rattle.im_writer.proofs.LengthLaws.{length-data-block, length-status-block}
@@ -61,6 +60,6 @@ module _ {old new : List ℕ} {start room : ℕ} {b : Block} {r : ℕ} (x : Offe
       by-test (leb (length (spelling (block_tree b))) room) (λ t. let h : length (spelling (block_tree b)) ≤ room = leb-true _ _ t in (omega (arith, (x.fits h).place), omega (arith, (x.fits h).place)))
       (λ t. let p = (x.full (leb-false _ _ t)).place in (omega (arith, p), omega (arith, p)))
 
-pub offered-just : (old : List ℕ) (start room : ℕ) (o : Opt Block) (b : Block) (new : List ℕ) (r : ℕ) → o ≡ just b → OfferedIf old start room o new r → Offered old start room b new r
+pub offered-just : (old : List ℕ) (start room : ℕ) (o : Option Block) (b : Block) (new : List ℕ) (r : ℕ) → o ≡ Some b → OfferedIf old start room o new r → Offered old start room b new r
 unfolding OfferedIf
-offered-just old start room o b new r e x = subst (λ (y : Opt Block). OfferedIf old start room y new r) e x
+offered-just old start room o b new r e x = subst (λ (y : Option Block). OfferedIf old start room y new r) e x

@@ -1,15 +1,12 @@
 -- A whole read of a server that keeps the rules: every block has room in a part, so the parts carry all of them.
+use Rattle.std.specs.Prelude.{Some, None, Option}
 use mathlib.Core.Path.{◌≡◌, refl, sym, ap, subst, ◌∙◌}
 use mathlib.Core.Bool.{Bool, true, false}
 use mathlib.Core.List.{List, [], ◌∷◌, ◌++◌, map, append_assoc}
-use Prim.Native.Nat.{ℕ, zero, suc, ◌+◌, ◌-◌, ◌^◌, ◌≤◌, ◌<◌}
+use Prim.Native.Nat.{ℕ, zero, suc, ◌+◌, ◌-◌, ◌≤◌, ◌<◌}
 use native.Mathlib.Omega.{arith}
-use lib.Dec.{eqb}
 use lib.ListN.{length, get_or, drop}
 use Rattle.base_bounds.specs.Bounds.{text_bytes_limit}
-use Rattle.tlv_reader.specs.Octet.{pick}
-use Rattle.tlv_reader.specs.Decode.{Opt}
-use Rattle.tlv_reader.specs.Decode.Opt.{just, nothing}
 use Rattle.im_blocks.proofs.BlockLaws.{never}
 use Rattle.im_writer.specs.Spelling.{Each}
 use Rattle.im_writer.specs.Block.{Block, ShortText}
@@ -79,7 +76,7 @@ each-small (x ∷ l) h = (omega (arith, block-small x.block h.0), each-small l h
 
 module _ (s : View) (sound : Sound s) where
   -- every block is short
-  short-item : (p : Asked) (i : ℕ) → i < span s.schema p → Named p → (x : Item) → x ≡ item_at s.schema s.grants s.skips p i → (b : Block) → block_of s.schema s.values s.defaults s.edits p x ≡ just b → Short b
+  short-item : (p : Asked) (i : ℕ) → i < span s.schema p → Named p → (x : Item) → x ≡ item_at s.schema s.grants s.skips p i → (b : Block) → block_of s.schema s.values s.defaults s.edits p x ≡ Some b → Short b
   unfolding block_of value_block Short
   short-item p i l f (item.Value j) e b q =
       let h = value-index s.schema s.grants s.skips p i (item.Value j) l e j refl in
@@ -90,10 +87,10 @@ module _ (s : View) (sound : Sound s) where
       subst Short y (f, item-code s.schema s.grants s.skips code p i (sym e))
   short-item p i l f item.Nothing e b q = never (cc)
 
-  short-place : (k i : ℕ) (o : Opt Block) (l : List PlacedBlock) → ((b : Block) → o ≡ just b → Short b) → Each (λ (x : PlacedBlock). Short x.block) l → Each (λ (x : PlacedBlock). Short x.block) (map (placed_at k i) (listed o) ++ l)
+  short-place : (k i : ℕ) (o : Option Block) (l : List PlacedBlock) → ((b : Block) → o ≡ Some b → Short b) → Each (λ (x : PlacedBlock). Short x.block) l → Each (λ (x : PlacedBlock). Short x.block) (map (placed_at k i) (listed o) ++ l)
   unfolding Each
-  short-place k i nothing l f h = h
-  short-place k i (just b) l f h = (f b refl, h)
+  short-place k i None l f h = h
+  short-place k i (Some b) l f h = (f b refl, h)
 
   -- those of a path from place i on, with short ones after them
   short-path : (k : ℕ) (p : Asked) → Named p → (rest : List PlacedBlock) → Each (λ (x : PlacedBlock). Short x.block) rest → (n i : ℕ) → n ≤ span s.schema p - i → Each (λ (x : PlacedBlock). Short x.block) (collect k (block_at s p) n i ++ rest)

@@ -1,8 +1,6 @@
 -- THE MEANING of a read as a list of blocks, in the order of RULES 5.3 to 5.5.
-use Rattle.std.specs.Prelude.{◌≡◌, Bool, true, false, List, [], ◌∷◌, ◌++◌, map, ℕ, zero, suc, ◌+◌, ◌-◌, ◌^◌, ◌<◌, get_or, drop}
+use Rattle.std.specs.Prelude.{◌≡◌, Bool, true, false, List, [], ◌∷◌, ◌++◌, map, ℕ, zero, suc, ◌+◌, ◌-◌, ◌<◌, get_or, drop, Some, None, Option}
 use Rattle.base_bounds.specs.Bounds.{version_limit}
-use Rattle.tlv_reader.specs.Decode.{Opt}
-use Rattle.tlv_reader.specs.Decode.Opt.{just, nothing}
 use Rattle.im_writer.specs.Block.{Block}
 use Rattle.im_writer.specs.Meaning.{PathFits}
 use Rattle.node_schema.specs.Rules.{path_at}
@@ -48,10 +46,10 @@ value_block w v defaults edits i =
     Block.value (version_at w v i) (path_at w i).endpoint (path_at w i).cluster (path_at w i).attribute (datum_at w defaults edits v i)
 
 -- what a path finds, as a block; a status names the path that was asked for
-unfoldable pub block_of : List ℕ → Values → List ℕ → List ℕ → Asked → Item → Opt Block
-block_of w v defaults edits p (item.Value i) = just (value_block w v defaults edits i)
-block_of w v defaults edits p (item.Status code) = just (Block.status p.endpoint p.cluster p.attribute code)
-block_of w v defaults edits p item.Nothing = nothing
+unfoldable pub block_of : List ℕ → Values → List ℕ → List ℕ → Asked → Item → Option Block
+block_of w v defaults edits p (item.Value i) = Some (value_block w v defaults edits i)
+block_of w v defaults edits p (item.Status code) = Some (Block.status p.endpoint p.cluster p.attribute code)
+block_of w v defaults edits p item.Nothing = None
 
 abbrev pub is_nothing : Item → Bool
 is_nothing (item.Value i) = false
@@ -67,9 +65,9 @@ abbrev pub start_of : ℕ → ℕ → ReadPlace
 start_of k i = record { phase = attribute_phase; path = k; index = i; sent = 0 }
 
 -- none or one, as a list
-abbrev pub listed : Opt Block → List Block
-listed nothing = []
-listed (just b) = b ∷ []
+abbrev pub listed : Option Block → List Block
+listed None = []
+listed (Some b) = b ∷ []
 
 -- the blocks at place i of a path
 abbrev pub block_at : View → Asked → ℕ → List Block

@@ -1,8 +1,6 @@
 -- One block offered to a buffer that has so much room for it: stored if it fits, else nothing is.
-use Rattle.std.specs.Prelude.{◌≡◌, List, ℕ, ◌≤◌, ◌<◌, length}
+use Rattle.std.specs.Prelude.{◌≡◌, List, ℕ, ◌≤◌, ◌<◌, length, Some, None, Option}
 use Rattle.base_octets.specs.Store.{Stored}
-use Rattle.tlv_reader.specs.Decode.{Opt}
-use Rattle.tlv_reader.specs.Decode.Opt.{just, nothing}
 use Rattle.im_writer.specs.Spelling.{spelling}
 use Rattle.im_writer.specs.Block.{Block, block_tree}
 
@@ -15,6 +13,6 @@ pub record Offered (old : List ℕ) (start room : ℕ) (b : Block) (new : List �
   pub fits : length (spelling (block_tree b)) ≤ room → Stored old start (spelling (block_tree b)) new r
   pub full : room < length (spelling (block_tree b)) → Unstored old start new r
 
-unfoldable pub OfferedIf : List ℕ → ℕ → ℕ → Opt Block → List ℕ → ℕ → Type 0
-OfferedIf old start room nothing new r = Unstored old start new r
-OfferedIf old start room (just b) new r = Offered old start room b new r
+unfoldable pub OfferedIf : List ℕ → ℕ → ℕ → Option Block → List ℕ → ℕ → Type 0
+OfferedIf old start room None new r = Unstored old start new r
+OfferedIf old start room (Some b) new r = Offered old start room b new r

@@ -30,11 +30,7 @@ pub struct OpenRead {
 fn is_nothing(x: Item) -> bool
     ensures { result ≡ is_nothing x }
 {
-    match x {
-        Item::Value(_i) => false,
-        Item::Status(_code) => false,
-        Item::Nothing => true,
-    }
+    matches!(x, Item::Nothing)
 }
 
 // The blocks of one path from one of its places on, one after the other, as many as there is room for.
@@ -61,34 +57,31 @@ fn fill_path<'a>(
 {
     let span = span_of(w, p);
     let mut place = from;
-    let mut i = first;
     let mut end = start;
     let mut left = room;
-    while i < span {
+    for i in first..span {
         let x = item_at(w, level, skips, p, i);
         if is_nothing(x) {
-            i += 1;
-        } else {
-            let next = offer_item(
-                w, words, nulls, texts, versions, defaults, edits, p, x, out, end, left,
-            );
-            if next == end {
-                return Filled {
-                    end,
-                    place,
-                    more: true,
-                };
-            }
-            left -= next - end;
-            end = next;
-            i += 1;
-            place = ReadPlace {
-                phase: ATTRIBUTE_PHASE,
-                path,
-                index: i,
-                sent: 0,
+            continue;
+        }
+        let next = offer_item(
+            w, words, nulls, texts, versions, defaults, edits, p, x, out, end, left,
+        );
+        if next == end {
+            return Filled {
+                end,
+                place,
+                more: true,
             };
         }
+        left -= next - end;
+        end = next;
+        place = ReadPlace {
+            phase: ATTRIBUTE_PHASE,
+            path,
+            index: i + 1,
+            sent: 0,
+        };
     }
     Filled {
         end,
@@ -118,11 +111,10 @@ fn fill<'a>(
     ensures { Filling out.old start block_room from (blocks_from (record { schema = w.now; values = values_of words.now nulls.now texts.now versions.now; defaults = defaults.now; edits = edits.now; grants = record { level = level.entry.now }; skips = skips.now }) (asked_paths row.now asked) from) out.new result }
 {
     let mut place = from;
-    let mut path = from.path;
     let mut i = from.index;
     let mut end = start;
     let mut room = BLOCK_ROOM;
-    while path < asked {
+    for path in from.path..asked {
         let p = asked_at(row, path);
         let f = fill_path(
             w, words, nulls, texts, versions, defaults, edits, level, skips, p, path, i, place,
@@ -134,7 +126,6 @@ fn fill<'a>(
         room -= f.end - end;
         end = f.end;
         place = f.place;
-        path += 1;
         i = 0;
     }
     Filled {

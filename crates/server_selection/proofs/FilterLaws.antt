@@ -1,18 +1,14 @@
 -- Filters judged once, to one word for each cluster: a part skips a cluster exactly if the list of filters says so at the version that it has then.
 use mathlib.Core.Path.{◌≡◌, refl, sym, ap, ◌∙◌}
-use mathlib.Core.Bool.{Bool, true, false, not, ◌&&◌, ◌||◌}
+use mathlib.Core.Bool.{Bool, false, ◌&&◌}
 use mathlib.Core.List.{List, [], ◌∷◌, ◌++◌}
-use Prim.Native.Nat.{ℕ, zero, suc, ◌+◌, ◌-◌, ◌^◌, ◌≤◌, ◌<◌}
-use native.Mathlib.Numerals.{add-one}
+use Prim.Native.Nat.{ℕ, ◌+◌, ◌-◌, ◌^◌, ◌≤◌, ◌<◌}
 use native.Mathlib.Omega.{arith}
 use borrow.Author.Tests.{eq-eqb, ne_eqb, eqb-true, eqb-false, lt-ltb, le-ltb, ltb-true, ltb-false}
 use lib.Dec.{eqb, ltb}
-use lib.ListN.{length, get_or, set, take, drop, length-take, drop_of_length-le, replicate}
-use lib.Seq.{drop-cons, get_or-take, get_or-drop}
+use lib.ListN.{get_or, set, drop, replicate}
+use lib.Seq.{get_or-take, get_or-drop}
 use Rattle.base_bounds.specs.Bounds.{cluster_limit}
-use Rattle.base_octets.specs.Store.{store}
-use Rattle.base_octets.proofs.StoreLaws.{store-store}
-use Rattle.tlv_reader.specs.Octet.{pick}
 use Rattle.node_schema.specs.Rows.{cluster_row, count_of_clusters, filled, rows_from}
 use Rattle.node_schema.proofs.BoolLaws.{by-test}
 use Rattle.node_schema.proofs.RowLaws.{rows_get, rows_same, fill_step}

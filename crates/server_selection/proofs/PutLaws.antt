@@ -1,13 +1,14 @@
 -- One filter more: the word of its cluster joins it, and no other word moves.
+use Rattle.std.specs.Prelude.{Some, None, Option}
 use mathlib.Core.Path.{◌≡◌, refl, sym, ap, ◌∙◌}
-use mathlib.Core.Bool.{true, ◌&&◌}
+use mathlib.Core.Bool.{true}
 use mathlib.Core.List.{List, [], ◌∷◌, ◌++◌}
 use Prim.Native.Nat.{ℕ, zero, suc, ◌+◌, ◌^◌, ◌≤◌, ◌<◌}
 use native.Mathlib.Numerals.{add-one}
 use native.Mathlib.Omega.{arith}
 use borrow.Author.Tests.{eqb-true, eq-eqb, lt-ltb, ltb-true}
 use lib.Dec.{eqb, ltb}
-use lib.ListN.{length, get_or, set, drop}
+use lib.ListN.{length, get_or, set, drop, replicate}
 use lib.Seq.{get_or-take, get_or-drop, set-set, set_comm}
 use Rattle.base_bounds.specs.Bounds.{cluster_limit}
 use Rattle.base_octets.specs.Store.{store}
@@ -16,8 +17,6 @@ use Rattle.tlv_reader.specs.Octet.{pick}
 use Rattle.node_schema.specs.Rows.{cluster_row, count_of_clusters, rows_from}
 use Rattle.node_schema.specs.Check.{well_formed}
 use Rattle.node_schema.specs.Find.{find_cluster}
-use Rattle.node_schema.specs.declared.Found.{Found}
-use Rattle.node_schema.specs.declared.Found.TheVariants.{At, Nothing}
 use Rattle.node_schema.proofs.BoolLaws.{by-test, both, left, right}
 use Rattle.node_schema.proofs.RowLaws.{rows-length, rows_get, rows_same, rows_snoc}
 use Rattle.node_schema.proofs.RulesLaws.{well-formed-rules, cluster-rules}
@@ -67,15 +66,21 @@ set-rows g f (suc n) m (suc k) x h q same =
 
 -- ---- the filter's cluster
 
-abbrev index_in : Found → ℕ
-index_in (At i) = suc i
-index_in Nothing = 0
+abbrev index_in : Option ℕ → ℕ
+index_in (Some i) = suc i
+index_in None = 0
 
-nowhere : {i : ℕ} → Nothing ≡ At i → ⊥
+nowhere : {i : ℕ} → None ≡ Some i → ⊥
 nowhere {i} e = omega (arith, ap index_in e)
 
-one-row : {i k : ℕ} → At i ≡ At k → i ≡ k
+one-row : {i k : ℕ} → Some i ≡ Some k → i ≡ k
 one-row e = omega (arith, ap index_in e)
+
+-- words that are all the same
+pub rows-same_word : (x n k : ℕ) → replicate n x ≡ rows_from (λ i. x) n k
+unfolding rows_from
+rows-same_word x zero k = refl
+rows-same_word x (suc n) k = ap (λ (r : List ℕ). x ∷ r) (rows-same_word x n (suc k))
 
 pub no-filter : (w : List ℕ) → filter_words w [] ≡ rows_from (λ k. unfiltered) cluster_limit 0
 unfolding filter_words word_after
@@ -95,16 +100,16 @@ module _ (w old : List ℕ) {row : List ℕ} (e : row ≡ store old filters_at (
   pub clear_stays : row ≡ store row filters_at (filter_words w [])
   clear_stays = e ∙ ap (store old filters_at) (sym (no-filter w)) ∙ sym (clear-over [])
 
-row-there : (w : List ℕ) (f : VersionFilter) (k : ℕ) → row_of w f ≡ At k → find_cluster w f.endpoint f.cluster ≡ At k
+row-there : (w : List ℕ) (f : VersionFilter) (k : ℕ) → row_of w f ≡ Some k → find_cluster w f.endpoint f.cluster ≡ Some k
 unfolding row_of
 row-there w f k q = by-test (ltb f.endpoint (2 ^ 16)) (λ t. by-test (ltb f.cluster (2 ^ 32)) (λ u. rw (t, u) at q) (λ u. absurd (nowhere (rw (t, u) at q)))) (λ t. absurd (nowhere (rw t at q)))
 
-pub row_within : (w : List ℕ) (f : VersionFilter) (k : ℕ) → row_of w f ≡ At k → k < cluster_limit
+pub row_within : (w : List ℕ) (f : VersionFilter) (k : ℕ) → row_of w f ≡ Some k → k < cluster_limit
 row_within w f k q = omega (arith, (cluster-found w f.endpoint f.cluster k (row-there w f k q)).0)
 
 module _ (w : List ℕ) (rules : well_formed w ≡ true) (f : VersionFilter) where
   -- a filter that is for cluster i finds its row
-  finds : (i : ℕ) → i < count_of_clusters w → on (cluster_row w i).endpoint (cluster_row w i).cluster f ≡ true → row_of w f ≡ At i
+  finds : (i : ℕ) → i < count_of_clusters w → on (cluster_row w i).endpoint (cluster_row w i).cluster f ≡ true → row_of w f ≡ Some i
   unfolding on row_of
   finds i l t =
       let e = eqb-true f.endpoint (cluster_row w i).endpoint (left _ _ t) in
@@ -112,21 +117,21 @@ module _ (w : List ℕ) (rules : well_formed w ≡ true) (f : VersionFilter) whe
       let r = cluster-rules w ((well-formed-rules w).0 rules) i l in
       rw (lt-ltb f.endpoint (2 ^ 16) (omega (arith, e, r.endpoint)), lt-ltb f.cluster (2 ^ 32) (omega (arith, c, r.cluster))) (go (find_cluster w f.endpoint f.cluster) refl e c)
     where
-      go : (x : Found) → find_cluster w f.endpoint f.cluster ≡ x → f.endpoint ≡ (cluster_row w i).endpoint → f.cluster ≡ (cluster_row w i).cluster → x ≡ At i
-      go Nothing q e c = absurd (cluster-none w f.endpoint f.cluster q i l (sym e) (sym c))
-      go (At k) q e c =
+      go : (x : (Option ℕ)) → find_cluster w f.endpoint f.cluster ≡ x → f.endpoint ≡ (cluster_row w i).endpoint → f.cluster ≡ (cluster_row w i).cluster → x ≡ Some i
+      go None q e c = absurd (cluster-none w f.endpoint f.cluster q i l (sym e) (sym c))
+      go (Some k) q e c =
           let y = cluster-found w f.endpoint f.cluster k q in
-          ap At (one-cluster w ((well-formed-rules w).0 rules) k i y.0 l (y.1 ∙ e) (y.2 ∙ c))
+          ap Some (one-cluster w ((well-formed-rules w).0 rules) k i y.0 l (y.1 ∙ e) (y.2 ∙ c))
 
   -- a cluster that it is not for keeps its word
-  stays : (fs : List VersionFilter) (i : ℕ) → (i < count_of_clusters w → row_of w f ≡ At i → ⊥) → filter_word w fs i ≡ filter_word w (fs ++ (f ∷ [])) i
+  stays : (fs : List VersionFilter) (i : ℕ) → (i < count_of_clusters w → row_of w f ≡ Some i → ⊥) → filter_word w fs i ≡ filter_word w (fs ++ (f ∷ [])) i
   stays fs i n =
       by-test (ltb i (count_of_clusters w))
       (λ t. rw (t, word-last (cluster_row w i).endpoint (cluster_row w i).cluster unfiltered fs f, by-test (on (cluster_row w i).endpoint (cluster_row w i).cluster f) (λ o. absurd (n (ltb-true _ _ t) (finds i (ltb-true _ _ t) o))) (λ o. o)) refl)
       (λ t. rw t refl)
 
   -- the one that it is for joins it
-  joins : (fs : List VersionFilter) (k : ℕ) → k < count_of_clusters w → row_of w f ≡ At k → filter_word w (fs ++ (f ∷ [])) k ≡ joined (filter_word w fs k) f.version
+  joins : (fs : List VersionFilter) (k : ℕ) → k < count_of_clusters w → row_of w f ≡ Some k → filter_word w (fs ++ (f ∷ [])) k ≡ joined (filter_word w fs k) f.version
   unfolding on
   joins fs k l q =
       rw (lt-ltb k (count_of_clusters w) l, word-last (cluster_row w k).endpoint (cluster_row w k).cluster unfiltered fs f, is-on) refl
@@ -145,9 +150,9 @@ module _ (w : List ℕ) (rules : well_formed w ≡ true) (f : VersionFilter) whe
       size : length words ≡ cluster_limit
       size = rows-length (filter_word w fs) cluster_limit 0
 
-      go : (x : Found) → row_of w f ≡ x → joined_at row f.version x ≡ store old filters_at (rows_from (filter_word w (fs ++ (f ∷ []))) cluster_limit 0)
-      go Nothing q = e ∙ ap (store old filters_at) (rows_same (filter_word w fs) (filter_word w (fs ++ (f ∷ []))) cluster_limit 0 (λ i a b. stays fs i (λ l y. nowhere (sym q ∙ y))))
-      go (At k) q =
+      go : (x : (Option ℕ)) → row_of w f ≡ x → joined_at row f.version x ≡ store old filters_at (rows_from (filter_word w (fs ++ (f ∷ []))) cluster_limit 0)
+      go None q = e ∙ ap (store old filters_at) (rows_same (filter_word w fs) (filter_word w (fs ++ (f ∷ []))) cluster_limit 0 (λ i a b. stays fs i (λ l y. nowhere (sym q ∙ y))))
+      go (Some k) q =
           let l = (cluster-found w f.endpoint f.cluster k (row-there w f k q)).0 in
           let here : get_or row (filters_at + k) 0 ≡ filter_word w fs k = ap (λ (r : List ℕ). get_or r (filters_at + k) 0) e ∙ stored-word old filters_at words k (omega (arith, size, room)) (omega (arith, size)) ∙ rows_get (filter_word w fs) cluster_limit 0 k 0 (omega arith) ∙ ap (filter_word w fs) (omega arith) in
           (λ j. set (e j) (filters_at + k) (joined (here j) f.version))

@@ -1,4 +1,5 @@
 -- Which attribute may be read or written: test by test as the code asks, what is reached stands in the tables, and a refusal is an octet.
+use Rattle.std.specs.Prelude.{Some, None, Option}
 use mathlib.Core.Path.{◌≡◌, refl, ap, subst}
 use mathlib.Core.Bool.{Bool, true, false}
 use mathlib.Core.List.{List}
@@ -10,8 +11,6 @@ use Rattle.base_bounds.specs.Bounds.{cluster_limit, attribute_limit}
 use Rattle.tlv_reader.specs.Octet.{pick}
 use Rattle.tlv_reader.proofs.Picks.{pick-elim}
 use Rattle.im_blocks.proofs.BlockLaws.{never}
-use Rattle.node_schema.specs.declared.Found.{Found}
-use Rattle.node_schema.specs.declared.Found.TheVariants as found
 use Rattle.node_schema.specs.Rows.{attribute_row}
 use Rattle.node_schema.specs.Find.{find_cluster, find_attribute, has_endpoint}
 use Rattle.node_schema.proofs.BoolLaws.{left}
@@ -86,13 +85,13 @@ and-then-octet (Here i) test o f = f i
 and-then-octet (Refused code) test o f = o
 
 module _ (w : List ℕ) where
-  attribute-octet : (f : Found) → Octet (attribute_found f)
-  attribute-octet (found.At i) = tt
-  attribute-octet found.Nothing = omega arith
+  attribute-octet : (f : (Option ℕ)) → Octet (attribute_found f)
+  attribute-octet (Some i) = tt
+  attribute-octet None = omega arith
 
-  cluster-octet : (a : ℕ) (f : Found) → Octet (cluster_found w a f)
-  cluster-octet a (found.At k) = attribute-octet (find_attribute w k a)
-  cluster-octet a found.Nothing = omega arith
+  cluster-octet : (a : ℕ) (f : (Option ℕ)) → Octet (cluster_found w a f)
+  cluster-octet a (Some k) = attribute-octet (find_attribute w k a)
+  cluster-octet a None = omega arith
 
   located-octet : (e c a : ℕ) → Octet (located w e c a)
   unfolding located

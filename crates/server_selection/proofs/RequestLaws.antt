@@ -6,14 +6,14 @@ use native.Mathlib.Numerals.{add-one}
 use native.Mathlib.Omega.{arith}
 use borrow.Author.Tests.{ltb-true, ltb-false}
 use lib.Dec.{ltb}
-use lib.ListN.{length, get_or, set, take, drop, drop_of_length-le}
+use lib.ListN.{length, get_or, take, drop, drop_of_length-le}
 use lib.Seq.{drop-cons, get_or-take, set-get_or}
 use Rattle.base_bounds.specs.Bounds.{cluster_limit, path_limit}
 use Rattle.base_octets.specs.Store.{store}
-use Rattle.base_octets.proofs.StoreLaws.{length-store, part-before, store-back, store-store, add-two}
+use Rattle.base_octets.proofs.StoreLaws.{length-store, part-before, store-back, add-two}
 use Rattle.node_schema.specs.Rows.{rows_from}
 use Rattle.node_schema.proofs.BoolLaws.{by-test}
-use Rattle.node_schema.proofs.RowLaws.{rows-length, rows_get, rows_same, rows_snoc}
+use Rattle.node_schema.proofs.RowLaws.{rows-length, rows_get, rows_same}
 use Rattle.im_requests.specs.declared.Target.{Target}
 use Rattle.im_requests.specs.declared.VersionFilter.{VersionFilter}
 use Rattle.im_requests.specs.Message.{words_of}
@@ -53,16 +53,6 @@ version-filter-back fs n h = rows_taken (version_filter_in (words_of version_fil
 
     behind : (f : VersionFilter) (r : List ℕ) (k : ℕ) → version_filter_in (version_filter_words f ++ r) (suc k) ≡ version_filter_in r k
     behind f r k = let e : suc k * 3 ≡ suc (suc (suc (k * 3))) = omega arith in simp (e, add-one, add-two)
-
--- one word of a column more
-pub word-stored : (old row : List ℕ) (at : ℕ) (f : ℕ → ℕ) (k x : ℕ) → row ≡ store old at (rows_from f k 0) → x ≡ f k → set row (at + k) x ≡ store old at (rows_from f (k + 1) 0)
-unfolding store
-word-stored old row at f k x e q =
-    let y : k + 0 ≡ k = omega arith in
-    (λ j. set (e j) (at + sym (rows-length f k 0) j) (q j))
-    ∙ store-store old at (rows_from f k 0) (f k ∷ [])
-    ∙ ap (store old at) (ap (λ (i : ℕ). rows_from f k 0 ++ (f i ∷ [])) (sym y) ∙ sym (rows_snoc 0 f k 0))
-    ∙ ap (λ (m : ℕ). store old at (rows_from f m 0)) (sym (add-one k))
 
 -- ---- the paths of a request
 

@@ -1,9 +1,7 @@
 -- Filters: which attributes of a read they skip (RULES 5.8).
-use Rattle.std.specs.Prelude.{Bool, true, false, not, ◌&&◌, ◌||◌, List, [], ◌∷◌, ℕ, ◌+◌, ◌*◌, ◌^◌, eqb, ltb, get_or, set}
+use Rattle.std.specs.Prelude.{Bool, true, false, not, ◌&&◌, ◌||◌, List, [], ◌∷◌, ℕ, ◌+◌, ◌*◌, ◌^◌, eqb, ltb, get_or, set, Some, None, Option}
 use Rattle.base_bounds.specs.Bounds.{cluster_limit, version_limit}
 use Rattle.tlv_reader.specs.Octet.{pick}
-use Rattle.node_schema.specs.declared.Found.{Found}
-use Rattle.node_schema.specs.declared.Found.TheVariants.{At, Nothing}
 use Rattle.node_schema.specs.Find.{find_cluster}
 use Rattle.node_schema.specs.Rows.{cluster_row, count_of_clusters, filled, rows_from}
 use Rattle.im_requests.specs.declared.VersionFilter.{VersionFilter}
@@ -65,12 +63,12 @@ abbrev pub version_filter_list : List ℕ → ℕ → List VersionFilter
 version_filter_list l n = rows_from (version_filter_in l) n 0
 
 -- ONE FILTER MORE, as it is stored in the request's words: at the row of its cluster, if the schema has that
-unfoldable pub row_of : List ℕ → VersionFilter → Found
-row_of w f = pick (ltb f.endpoint (2 ^ 16)) (pick (ltb f.cluster (2 ^ 32)) (find_cluster w f.endpoint f.cluster) Nothing) Nothing
+unfoldable pub row_of : List ℕ → VersionFilter → Option ℕ
+row_of w f = pick (ltb f.endpoint (2 ^ 16)) (pick (ltb f.cluster (2 ^ 32)) (find_cluster w f.endpoint f.cluster) None) None
 
-abbrev pub joined_at : List ℕ → ℕ → Found → List ℕ
-joined_at row version (At k) = set row (filters_at + k) (joined (get_or row (filters_at + k) 0) version)
-joined_at row version Nothing = row
+abbrev pub joined_at : List ℕ → ℕ → Option ℕ → List ℕ
+joined_at row version (Some k) = set row (filters_at + k) (joined (get_or row (filters_at + k) 0) version)
+joined_at row version None = row
 
 -- a part skips a cluster whose word is the version that the cluster has then
 unfoldable pub skips_now : List ℕ → List ℕ → List ℕ → List Bool

@@ -10,8 +10,8 @@ ghost use Rattle.server_selection.specs.Filters.{unfiltered, joined, filter_word
 use super::request::{FILTERS_AT, ROW_WORDS};
 use base_bounds::CLUSTERS;
 use im_requests::{FILTER_SIZE, FILTER_WORDS, VersionFilter};
+use node_schema::WORDS;
 use node_schema::find::find_cluster;
-use node_schema::{Found, WORDS};
 
 // No filter is for the cluster, or they disagree; every other word is the version that all of them carry.
 pub const UNFILTERED: u64 = base_bounds::VERSIONS;
@@ -36,22 +36,18 @@ fn clear_filters(row: &mut [u64])
     requires { filters_at + cluster_limit ≤ length row.old }
     ensures { row.new ≡ store row.old filters_at (rows_from (λ k. unfiltered) cluster_limit 0) }
 {
-    let mut k = 0;
-    while k < CLUSTERS {
-        row[FILTERS_AT + k] = UNFILTERED;
-        k += 1;
-    }
+    row[FILTERS_AT..FILTERS_AT + CLUSTERS].fill(UNFILTERED);
 }
 
 // The row of a filter's cluster, if the schema has it.
-fn row_of(w: &[u64; WORDS], f: VersionFilter) -> Found
+fn row_of(w: &[u64; WORDS], f: VersionFilter) -> Option<usize>
     ensures { result ≡ row_of w.now f }
 {
     if 65_535 < f.endpoint {
-        return Found::Nothing;
+        return None;
     }
     if 4_294_967_295 < f.cluster {
-        return Found::Nothing;
+        return None;
     }
     find_cluster(w, f.endpoint as u16, f.cluster as u32)
 }
@@ -61,10 +57,9 @@ fn put_filter(w: &[u64; WORDS], f: VersionFilter, row: &mut [u64])
     requires { filters_at + cluster_limit ≤ length row.old }
     ensures { row.new ≡ joined_at row.old f.version (row_of w.now f) }
 {
-    let Found::At(k) = row_of(w, f) else {
-        return;
-    };
-    row[FILTERS_AT + k] = join(row[FILTERS_AT + k], f.version);
+    if let Some(k) = row_of(w, f) {
+        row[FILTERS_AT + k] = join(row[FILTERS_AT + k], f.version);
+    }
 }
 
 // Filter number i.
@@ -91,18 +86,9 @@ pub fn put_filters<'a>(
     ensures { row.new ≡ store row.old filters_at (filter_words w.now (version_filter_list filters.now n)) }
 {
     clear_filters(row);
-    let mut i = 0;
-    while i < n {
+    for i in 0..n {
         put_filter(w, filter_at(filters, i), row);
-        i += 1;
     }
-}
-
-// A version as wide as a word.
-fn wide(x: u32) -> u64
-    ensures { result ≡ x }
-{
-    x as u64
 }
 
 // Whether the filters skip each of the schema's clusters.
@@ -115,10 +101,8 @@ pub fn skipped<'a>(
 {
     let count = node_schema::cluster_count(w);
     let mut skip = [false; CLUSTERS];
-    let mut k = 0;
-    while k < count {
-        skip[k] = row[FILTERS_AT + k] == wide(versions[k]);
-        k += 1;
+    for k in 0..count {
+        skip[k] = row[FILTERS_AT + k] == u64::from(versions[k]);
     }
     skip
 }

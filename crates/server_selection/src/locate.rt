@@ -3,8 +3,8 @@ ghost use Rattle.std.specs.Prelude.{◌≡◌};
 ghost use Rattle.server_selection.specs.Locate.{located};
 
 use super::{UNSUPPORTED_ATTRIBUTE, UNSUPPORTED_CLUSTER, UNSUPPORTED_ENDPOINT};
+use node_schema::WORDS;
 use node_schema::find::{find_attribute, find_cluster, has_endpoint};
-use node_schema::{Found, WORDS};
 
 #[derive(Clone, Copy)]
 pub enum Located {
@@ -18,10 +18,10 @@ pub fn locate(w: &[u64; WORDS], endpoint: u16, cluster: u32, attribute: u32) -> 
     if !has_endpoint(w, endpoint) {
         return Located::Refused(UNSUPPORTED_ENDPOINT);
     }
-    let Found::At(k) = find_cluster(w, endpoint, cluster) else {
+    let Some(k) = find_cluster(w, endpoint, cluster) else {
         return Located::Refused(UNSUPPORTED_CLUSTER);
     };
-    let Found::At(i) = find_attribute(w, k, attribute) else {
+    let Some(i) = find_attribute(w, k, attribute) else {
         return Located::Refused(UNSUPPORTED_ATTRIBUTE);
     };
     Located::Here(i)

@@ -35,9 +35,5 @@ pub fn put_paths(row: &mut [u64], paths: &[u64])
     requires { length paths.now ≤ length row.old }
     ensures { row.new ≡ store row.old 0 paths.now }
 {
-    let mut k = 0;
-    while k < paths.len() {
-        row[k] = paths[k];
-        k += 1;
-    }
+    row[..paths.len()].copy_from_slice(paths);
 }

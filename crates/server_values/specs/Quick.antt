@@ -13,7 +13,6 @@ use Rattle.node_schema.specs.Check.{every, count, rank, count_of_texts}
 use Rattle.node_plan.specs.Attributes.{kind_of}
 use Rattle.node_plan.specs.Check.{number_right}
 use Rattle.node_plan.specs.Pages.{place, unchanged}
-use Rattle.server_values.specs.Values.{mark_at}
 use Rattle.server_values.specs.Valid.{mark_max}
 
 -- p holds at one of the indices below n

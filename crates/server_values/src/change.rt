@@ -28,10 +28,7 @@ pub fn bytes_of(v: Value, src: &[u8]) -> &[u8]
 pub fn is_text(v: Value) -> bool
     ensures { (s : List ℕ) → result ≡ is_text (datum_in s v) }
 {
-    let Value::Text { .. } = v else {
-        return false;
-    };
-    true
+    matches!(v, Value::Text { .. })
 }
 
 // The 64 bits that a value is stored as; a text's are 0.

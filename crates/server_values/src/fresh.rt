@@ -25,10 +25,8 @@ fn first_words(w: &[u64; WORDS]) -> [u64; ATTRIBUTES]
 {
     let n = node_schema::attribute_count(w);
     let mut words = [0u64; ATTRIBUTES];
-    let mut i = 0;
-    while i < n {
+    for i in 0..n {
         words[i] = start_word(w, i);
-        i += 1;
     }
     words
 }
@@ -39,10 +37,8 @@ fn first_versions(w: &[u64; WORDS]) -> [u32; CLUSTERS]
 {
     let n = node_schema::cluster_count(w);
     let mut versions = [0u32; CLUSTERS];
-    let mut i = 0;
-    while i < n {
+    for i in 0..n {
         versions[i] = node_schema::cluster_version(w, i) as u32;
-        i += 1;
     }
     versions
 }

@@ -23,10 +23,8 @@ fn some_text(texts: &[u16; TEXTS], n: usize, factory: bool) -> bool
     ensures { result ≡ some_text texts.now factory n }
 {
     let mut found = false;
-    let mut i = 0;
-    while i < n {
+    for i in 0..n {
         found = found | ((texts[i] == 0) == factory);
-        i += 1;
     }
     found
 }
@@ -70,13 +68,9 @@ fn long_texts(texts: &[u16; TEXTS], n: usize) -> usize
     ensures small { result ≤ n }
 {
     let mut long: usize = 0;
-    let mut i = 0;
-    while i < n {
+    for i in 0..n {
         if LONG < texts[i] {
             long += 1;
-            i += 1;
-        } else {
-            i += 1;
         }
     }
     long
@@ -138,17 +132,13 @@ fn all_formed<'a>(
     requires { (n ≤ text_limit) × (whole ≡ true → well_formed page.now ≡ true) }
     ensures { result ≡ every (formed_at w.now page.now texts.now factory) n }
 {
-    let mut i = 0;
-    while i < n {
+    for i in 0..n {
         let mark = texts[i];
         if (mark == 0) == factory {
             let start = start_in(w, i, factory);
             if !is_formed(page, whole, start, length_in(w, i, mark, factory)) {
                 return false;
             }
-            i += 1;
-        } else {
-            i += 1;
         }
     }
     true

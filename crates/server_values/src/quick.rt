@@ -22,10 +22,8 @@ fn some_null(nulls: &[bool; ATTRIBUTES], n: usize) -> bool
     ensures { result ≡ some_null nulls.now n }
 {
     let mut found = false;
-    let mut i = 0;
-    while i < n {
+    for i in 0..n {
         found = found | nulls[i];
-        i += 1;
     }
     found
 }
@@ -66,15 +64,11 @@ fn all_nulls<'a>(
     requires { n ≤ attribute_limit }
     ensures { result ≡ every (null_at w.now words.now nulls.now) n }
 {
-    let mut i = 0;
-    while i < n {
+    for i in 0..n {
         if nulls[i] {
             if !null_ok(w, i, words[i]) {
                 return false;
             }
-            i += 1;
-        } else {
-            i += 1;
         }
     }
     true
@@ -127,8 +121,7 @@ pub fn all_quick<'a>(
 {
     let n = node_schema::attribute_count(w);
     let mut rank: usize = 0;
-    let mut i = 0;
-    while i < n {
+    for i in 0..n {
         if node_schema::is_text(w, i) {
             if node_schema::first_value(w, i) != rank as u64 {
                 return false;
@@ -140,12 +133,8 @@ pub fn all_quick<'a>(
                 return false;
             }
             rank += 1;
-            i += 1;
-        } else {
-            if !number_ok(w, words, nulls, i) {
-                return false;
-            }
-            i += 1;
+        } else if !number_ok(w, words, nulls, i) {
+            return false;
         }
     }
     size == TEXT_SIZE * rank

@@ -84,12 +84,10 @@ fn all_texts<'a>(
     ensures { result ≡ all_shown w.now defaults.now edits.now nulls.now texts.now }
 {
     let n = node_schema::attribute_count(w);
-    let mut i = 0;
-    while i < n {
+    for i in 0..n {
         if !text_ok(w, defaults, edits, i, nulls[i], texts) {
             return false;
         }
-        i += 1;
     }
     true
 }

@@ -5,7 +5,6 @@ use Prim.Native.Nat.{ℕ, zero, suc, ◌^◌, ◌≤◌, ◌<◌}
 use native.Mathlib.Omega.{arith}
 use lib.ListN.{length, get_or, take, length-take}
 use Rattle.base_bounds.specs.Bounds.{payload_limit, write_limit}
-use Rattle.tlv_reader.specs.Octet.{pick}
 use Rattle.tlv_reader.specs.declared.Value.{Value}
 use Rattle.tlv_reader.proofs.Picks.{pick-elim}
 use Rattle.im_requests.specs.Message.{first_of}

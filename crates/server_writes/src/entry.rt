@@ -19,13 +19,6 @@ use server_selection::locate::Located;
 use server_selection::reach::{Use, reach};
 use tlv_reader::value_in;
 
-// A version as wide as a given one.
-fn wide(x: u32) -> u64
-    ensures { result ≡ x }
-{
-    x as u64
-}
-
 // The version that was given, where one was, against the present one of the attribute's cluster.
 fn at_version<'a>(
     w: &'a [u64; WORDS],
@@ -39,7 +32,7 @@ fn at_version<'a>(
     if given == ABSENT {
         return Located::Here(i);
     }
-    if given != wide(versions[node_schema::attribute_cluster(w, i)]) {
+    if given != u64::from(versions[node_schema::attribute_cluster(w, i)]) {
         return Located::Refused(DATA_VERSION_MISMATCH);
     }
     Located::Here(i)
@@ -120,11 +113,9 @@ pub fn write_all<'a>(
     ensures { (held_of words.new nulls.new texts.new versions.new edits.new ≡ held_after w.now g defaults.now s.now (held_of words.old nulls.old texts.old versions.old edits.old) (entries_in entries.now n)) × (result ≡ codes_in (codes_of w.now g defaults.now s.now (held_of words.old nulls.old texts.old versions.old edits.old) (entries_in entries.now n))) }
 {
     let mut codes = [0u8; MAX_WRITES];
-    let mut i = 0;
-    while i < n {
+    for i in 0..n {
         let x = entry_in(entries, i);
         codes[i] = write_entry(w, g, defaults, edits, words, nulls, texts, versions, x, s);
-        i += 1;
     }
     codes
 }

@@ -10,7 +10,7 @@ ghost use Rattle.server_writes.specs.Offer.{held_of, offered, changed};
 
 use base_bounds::{ATTRIBUTES, CLUSTERS};
 use node_kinds::Verdict;
-use node_kinds::limits::{judge, status_code};
+use node_kinds::limits::judge;
 use node_plan::decode::kind_of;
 use node_schema::{TEXTS, WORDS};
 use server_selection::locate::{Located, locate};
@@ -42,10 +42,10 @@ pub fn offer<'a>(
             store(
                 w, defaults, edits, words, nulls, texts, versions, i, new, src,
             );
-            status_code(Verdict::Success)
+            u8::from(Verdict::Success)
         }
-        Verdict::ConstraintError => status_code(Verdict::ConstraintError),
-        Verdict::InvalidDataType => status_code(Verdict::InvalidDataType),
+        Verdict::ConstraintError => u8::from(Verdict::ConstraintError),
+        Verdict::InvalidDataType => u8::from(Verdict::InvalidDataType),
     }
 }
 

@@ -23,8 +23,7 @@ fn put_statuses(
     ensures { Stored out.old start (joined (answer_trees (entries_in entries.now n) (take n codes))) out.new result }
 {
     let mut at = start;
-    let mut i = 0;
-    while i < n {
+    for i in 0..n {
         let x = entry_in(entries, i);
         at = put_write_status(
             out,
@@ -34,7 +33,6 @@ fn put_statuses(
             x.attribute as u32,
             codes[i],
         );
-        i += 1;
     }
     at
 }

@@ -1,4 +1,5 @@
 -- Whatever spells a tree, not too deep, is read as that tree, whatever stands before and after.
+use Rattle.std.specs.Prelude.{Some, None}
 use mathlib.Core.Path.{◌≡◌, refl, sym, ap, ◌∙◌}
 use mathlib.Core.Bool.{Bool, true, false, not}
 use mathlib.Core.List.{List, [], ◌∷◌, ◌++◌, append_assoc, append-nil}
@@ -12,7 +13,6 @@ use lib.Dec.{ltb, eqb}
 use Rattle.base_octets.specs.Number.{bytes_of, number_at}
 use Rattle.base_octets.proofs.NumberLaws.{length-bytes, number-here}
 use Rattle.tlv_reader.specs.declared.Element.{Element}
-use Rattle.tlv_reader.specs.declared.Head.TheVariants.{Found, Malformed}
 use Rattle.tlv_reader.specs.Octet.{pick, tag_width, number_width, is_string, head_octets, structure, end_of_container}
 use Rattle.tlv_reader.specs.Tree.{Tag, Primitive, Tree, Trees, depth, depths, tag_of, scalar_of, primitive_of, tag_of_tree, tagged, stands, SpellsPrimitive, Opens, Spells, SpellsAll}
 use Rattle.tlv_reader.specs.Tree.Tag.{anonymous, context, common, implicit, full}
@@ -48,16 +48,16 @@ end-untagged form kind h = go (eqb kind 24) refl
     go true e = let z = h (eqb-true kind 24 e) in le-ltb 0 form (omega arith)
     go false e = refl
 
-closed-back : (len form kind tag number body n : ℕ) → n ≡ pick (is_string kind) number 0 → body + n ≤ len → closed_at len form kind tag number body ≡ Found (element_of form kind tag number body (body + n))
+closed-back : (len form kind tag number body n : ℕ) → n ≡ pick (is_string kind) number 0 → body + n ≤ len → closed_at len form kind tag number body ≡ Some (element_of form kind tag number body (body + n))
 unfolding closed_at
 closed-back len form kind tag number body n h fits = go (is_string kind) refl
   where
-    go : (b : Bool) → is_string kind ≡ b → pick b (pick (ltb (len - body) number) Malformed (Found (element_of form kind tag number body (body + number)))) (Found (element_of form kind tag number body body)) ≡ Found (element_of form kind tag number body (body + n))
+    go : (b : Bool) → is_string kind ≡ b → pick b (pick (ltb (len - body) number) None (Some (element_of form kind tag number body (body + number)))) (Some (element_of form kind tag number body body)) ≡ Some (element_of form kind tag number body (body + n))
     go true q = let z : n ≡ number = h ∙ ap (λ (b : Bool). pick b number 0) q in simp (z, le-ltb (len - body) number (omega arith))
-    go false q = let z : body ≡ body + n = omega (arith, h ∙ ap (λ (b : Bool). pick b number 0) q) in ap (λ (k : ℕ). Found (element_of form kind tag number body k)) z
+    go false q = let z : body ≡ body + n = omega (arith, h ∙ ap (λ (b : Bool). pick b number 0) q) in ap (λ (k : ℕ). Some (element_of form kind tag number body k)) z
 
 head-back : (p body q : List ℕ) (form kind tag number : ℕ) → form < 8 → kind < 25 → (kind ≡ 24 → form ≡ 0) → tag < 256 ^ tag_width form → number < 256 ^ number_width kind → length body ≡ pick (is_string kind) number 0 →
-    head_at (p ++ ((form * 32 + kind) ∷ (bytes_of (tag_width form) tag ++ (bytes_of (number_width kind) number ++ (body ++ q))))) (length p) ≡ Found (element_of form kind tag number (length p + 1 + tag_width form + number_width kind) (length p + 1 + tag_width form + number_width kind + length body))
+    head_at (p ++ ((form * 32 + kind) ∷ (bytes_of (tag_width form) tag ++ (bytes_of (number_width kind) number ++ (body ++ q))))) (length p) ≡ Some (element_of form kind tag number (length p + 1 + tag_width form + number_width kind) (length p + 1 + tag_width form + number_width kind + length body))
 unfolding head_at
 head-back p body q form kind tag number hf hk he ht hn hb =
     let c : ℕ = form * 32 + kind in
@@ -78,12 +78,12 @@ head-back p body q form kind tag number hf hk he ht hn hb =
 
 -- where a head's octets stand at a position, followed by its body
 pub head_at_lem : (s : List ℕ) (at : ℕ) (p body q : List ℕ) (f k t n : ℕ) → s ≡ p ++ (head_octets f k t n ++ (body ++ q)) → at ≡ length p → f < 8 → k < 25 → (k ≡ 24 → f ≡ 0) → t < 256 ^ tag_width f → n < 256 ^ number_width k → length body ≡ pick (is_string k) n 0 →
-    head_at s at ≡ Found (element_of f k t n (at + length (head_octets f k t n)) (at + length (head_octets f k t n) + length body))
+    head_at s at ≡ Some (element_of f k t n (at + length (head_octets f k t n)) (at + length (head_octets f k t n) + length body))
 unfolding head_octets
 head_at_lem s at p body q f k t n es ea a b c d e g =
     let hl = head-length f k t n in
     let e1 : length p + 1 + tag_width f + number_width k ≡ length p + length (head_octets f k t n) = omega arith in
-    rw (es, ea) (rw append_assoc (head-back p body q f k t n a b c d e g ∙ ap (λ (j : ℕ). Found (element_of f k t n j (j + length body))) e1))
+    rw (es, ea) (rw append_assoc (head-back p body q f k t n a b c d e g ∙ ap (λ (j : ℕ). Some (element_of f k t n j (j + length body))) e1))
 
 -- ---- tags
 
@@ -118,7 +118,7 @@ stands-form kind f n = simp (tagged-form f n, not-form f)
 -- what the head of a tree says: its tag, and that it is no end
 record Begins (s : List ℕ) (at : ℕ) (tag : Tag) : Type 0 where
   e : Element
-  reads : head_at s at ≡ Found e
+  reads : head_at s at ≡ Some e
   tags : tag ≡ tag_of e.form e.tag
   no_end : e.kind ≡ end_of_container → ⊥
 
@@ -126,7 +126,7 @@ pos : (k : ℕ) → 0 < 256 ^ k
 pos k = one-le-pow k 256 (omega arith)
 
 primitive-head : (s : List ℕ) (at : ℕ) (p q : List ℕ) {tag : Tag} {x : Primitive} {bs : List ℕ} (w : SpellsPrimitive tag x bs) → s ≡ p ++ (bs ++ q) → at ≡ length p →
-    (let h : List ℕ = head_octets w.form w.kind w.label w.number in head_at s at ≡ Found (element_of w.form w.kind w.label w.number (at + length h) (at + length h + length w.body)))
+    (let h : List ℕ = head_octets w.form w.kind w.label w.number in head_at s at ≡ Some (element_of w.form w.kind w.label w.number (at + length h) (at + length h + length w.body)))
 primitive-head s at p q w es ea =
     head_at_lem s at p w.body q w.form w.kind w.label w.number (es ∙ rw w.is-bytes (simp append_assoc)) ea w.form-fits (omega (arith, w.kind_fits)) (λ e. absurd (omega (arith, w.kind_fits))) w.label-fits w.number_fits w.body-fits
 
@@ -138,7 +138,7 @@ kind-plain k l = go (is_string k)
     go false = refl
 
 pub container-head : (s : List ℕ) (at : ℕ) (p q : List ℕ) {tag : Tag} {kind : ℕ} {Rest : List ℕ → Type 0} {bs : List ℕ} (w : Opens tag kind Rest bs) → s ≡ p ++ (bs ++ q) → at ≡ length p →
-    (let h : List ℕ = head_octets w.form kind w.label 0 in head_at s at ≡ Found (element_of w.form kind w.label 0 (at + length h) (at + length h + 0)))
+    (let h : List ℕ = head_octets w.form kind w.label 0 in head_at s at ≡ Some (element_of w.form kind w.label 0 (at + length h) (at + length h + 0)))
 container-head s at p q {kind = kind} w es ea =
     head_at_lem s at p [] (w.rest ++ q) w.form kind w.label 0 (es ∙ rw w.is-bytes (simp append_assoc)) ea w.form-fits (omega (arith, w.kind-high)) (λ e. absurd (omega (arith, w.kind-high))) w.label-fits (pos (number_width kind)) (kind-plain kind w.kind-low)
 

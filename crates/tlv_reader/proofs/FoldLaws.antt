@@ -1,4 +1,5 @@
 -- Members by a step: the equation with no bound, case by case, for any step that goes forward.
+use Rattle.std.specs.Prelude.{Some, None, Option}
 use mathlib.Core.Path.{◌≡◌, refl, ◌∙◌}
 use mathlib.Core.Bool.{true, false}
 use mathlib.Core.List.{List}
@@ -8,8 +9,6 @@ use borrow.Author.Tests.{eq-eqb, ne_eqb}
 use lib.ListN.{length}
 use lib.Dec.{eqb}
 use Rattle.tlv_reader.specs.declared.Element.{Element}
-use Rattle.tlv_reader.specs.declared.Head.{Head}
-use Rattle.tlv_reader.specs.declared.Head.TheVariants.{Found, Malformed}
 use Rattle.tlv_reader.specs.Octet.{end_of_container}
 use Rattle.tlv_reader.specs.Head.{head_at}
 use Rattle.tlv_reader.specs.Walk.{Got, map_g, bind_g, allowed_in, fold_by, fold_at}
@@ -36,12 +35,12 @@ ahead-bind at n (got a m) f h r = ahead-from at m n (f a m) h.0 (r a m)
 
 -- a step that goes forward: where a head stands at p, the step from there ends further on
 abbrev pub Forward : {A : Type 0} → List ℕ → (ℕ → Element → Got A) → Type 0
-Forward s step = (p : ℕ) (e : Element) → head_at s p ≡ Found e → Ahead p (length s) (step p e)
+Forward s step = (p : ℕ) (e : Element) → head_at s p ≡ Some e → Ahead p (length s) (step p e)
 
-by-ahead : {S : Type 0} (at n kind : ℕ) (x : S) (here : Element → Got S) (rest : S → ℕ → Got S) (h : Head) → Onward at n h → ((e : Element) → h ≡ Found e → Ahead at n (here e)) → ((y : S) (p : ℕ) → Ahead p n (rest y p)) → Ahead at n (fold_by kind x here rest h)
+by-ahead : {S : Type 0} (at n kind : ℕ) (x : S) (here : Element → Got S) (rest : S → ℕ → Got S) (h : (Option Element)) → Onward at n h → ((e : Element) → h ≡ Some e → Ahead at n (here e)) → ((y : S) (p : ℕ) → Ahead p n (rest y p)) → Ahead at n (fold_by kind x here rest h)
 unfolding fold_by
-by-ahead at n kind x here rest Malformed o w r = tt
-by-ahead at n kind x here rest (Found e) o w r =
+by-ahead at n kind x here rest None o w r = tt
+by-ahead at n kind x here rest (Some e) o w r =
     choose-elim (Ahead at n) (eqb e.kind end_of_container) _ _ (λ _. o)
     (λ _. choose-elim (Ahead at n) (allowed_in kind e.form) _ _ (λ _. ahead-bind at n (here e) rest (w e refl) r) (λ _. tt))
 
@@ -55,10 +54,10 @@ pub bind-same : {A B : Type 0} (at n : ℕ) (g : Got A) (f f' : A → ℕ → Go
 bind-same at n bad f f' h e = refl
 bind-same at n (got a m) f f' h e = e a m h.0
 
-by-same : {S : Type 0} (at n kind : ℕ) (x : S) (here : Element → Got S) (rest rest' : S → ℕ → Got S) (h : Head) → ((e : Element) → h ≡ Found e → Ahead at n (here e)) → ((y : S) (p : ℕ) → at < p → rest y p ≡ rest' y p) → fold_by kind x here rest h ≡ fold_by kind x here rest' h
+by-same : {S : Type 0} (at n kind : ℕ) (x : S) (here : Element → Got S) (rest rest' : S → ℕ → Got S) (h : (Option Element)) → ((e : Element) → h ≡ Some e → Ahead at n (here e)) → ((y : S) (p : ℕ) → at < p → rest y p ≡ rest' y p) → fold_by kind x here rest h ≡ fold_by kind x here rest' h
 unfolding fold_by
-by-same at n kind x here rest rest' Malformed w q = refl
-by-same at n kind x here rest rest' (Found e) w q = simp (bind-same at n (here e) rest rest' (w e refl) q)
+by-same at n kind x here rest rest' None w q = refl
+by-same at n kind x here rest rest' (Some e) w q = simp (bind-same at n (here e) rest rest' (w e refl) q)
 
 fold-fuel : {S : Type 0} (step : S → ℕ → Element → Got S) (s : List ℕ) → ((x : S) → Forward s (step x)) → (f g kind : ℕ) (x : S) (at : ℕ) → length s ≤ at + f → length s ≤ at + g → fold_at step f s kind x at ≡ fold_at step g s kind x at
 unfolding fold_at fold_by
@@ -75,11 +74,11 @@ module _ {S : Type 0} (step : S → ℕ → Element → Got S) (s : List ℕ) (f
   unfolding fold_at
   fold-unroll = fold-fuel step s forward (length s) (suc (length s)) kind x at (omega arith) (omega arith)
 
-  pub fold-none : head_at s at ≡ Malformed → fold_at step (length s) s kind x at ≡ bad
+  pub fold-none : head_at s at ≡ None → fold_at step (length s) s kind x at ≡ bad
   unfolding fold_by
   fold-none h = fold-unroll ∙ simp h
 
-  module _ {e : Element} (h : head_at s at ≡ Found e) where
+  module _ {e : Element} (h : head_at s at ≡ Some e) where
     pub fold-ends : e.kind ≡ end_of_container → fold_at step (length s) s kind x at ≡ got x e.next.at
     unfolding fold_by
     fold-ends q = fold-unroll ∙ simp (h, eq-eqb _ _ q)

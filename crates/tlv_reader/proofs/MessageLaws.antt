@@ -1,4 +1,5 @@
 -- What the reader accepts is exactly what spells a tree: at a position, and as a whole message.
+use Rattle.std.specs.Prelude.{Some, None, Option}
 use mathlib.Core.Path.{◌≡◌, refl, sym, ap, subst, ◌∙◌}
 use mathlib.Core.Logic.{◌↔◌}
 use mathlib.Core.Bool.{Bool, true, false}
@@ -12,8 +13,6 @@ use lib.Dec.{ltb, eqb}
 use Rattle.base_bounds.specs.Bounds.{depth_limit}
 use Rattle.base_octets.specs.Number.{Bytes}
 use Rattle.tlv_reader.specs.declared.Element.{Element}
-use Rattle.tlv_reader.specs.declared.Head.{Head}
-use Rattle.tlv_reader.specs.declared.Head.TheVariants.{Found, Malformed}
 use Rattle.tlv_reader.specs.Octet.{pick, structure}
 use Rattle.tlv_reader.specs.Tree.{Tag, Tree, Trees, tag_of, tagged, Spells, SpellsMessage, SpellsAt}
 use Rattle.tlv_reader.specs.Tree.Tag.{anonymous}
@@ -50,7 +49,7 @@ message-accepted ts s m =
 -- what an accepted message's head says
 pub record Accepted (s : List ℕ) : Type 0 where
   pub e : Element
-  pub reads : head_at s 0 ≡ Found e
+  pub reads : head_at s 0 ≡ Some e
   pub untagged : e.form ≡ 0
   pub structured : e.kind ≡ structure
   pub ends : element_end depth_limit s e ≡ got tt (length s)
@@ -62,9 +61,9 @@ end-there n (got x m) q = ap (got tt) (eqb-true m n q)
 never : {A : Type 0} → false ≡ true → A
 never q = absurd (let z : ◌≡◌ {A = ℕ} 0 1 = ap (λ (b : Bool). pick b 1 0) q in omega arith)
 
-accepted-head : (s : List ℕ) (h : Head) → head_at s 0 ≡ h → headed false (λ e. pick (eqb e.form 0) (pick (eqb e.kind structure) (ends_at (length s) (element_end depth_limit s e)) false) false) h ≡ true → Accepted s
-accepted-head s Malformed q a = never a
-accepted-head s (Found e) q a = form (eqb e.form 0) refl a
+accepted-head : (s : List ℕ) (h : (Option Element)) → head_at s 0 ≡ h → headed false (λ e. pick (eqb e.form 0) (pick (eqb e.kind structure) (ends_at (length s) (element_end depth_limit s e)) false) false) h ≡ true → Accepted s
+accepted-head s None q a = never a
+accepted-head s (Some e) q a = form (eqb e.form 0) refl a
   where
     kind : e.form ≡ 0 → (b : Bool) → eqb e.kind structure ≡ b → pick b (ends_at (length s) (element_end depth_limit s e)) false ≡ true → Accepted s
     kind f true k a = record { e = e; reads = q; untagged = f; structured = eqb-true e.kind structure k; ends = end-there (length s) (element_end depth_limit s e) a }

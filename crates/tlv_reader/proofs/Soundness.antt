@@ -1,4 +1,5 @@
 -- Whatever is read as a tree is spelled by the octets that were read.
+use Rattle.std.specs.Prelude.{Some, None, Option}
 use mathlib.Core.Path.{◌≡◌, refl, sym, ap, ◌∙◌, subst⁻¹}
 use mathlib.Core.Bool.{Bool, true, false}
 use mathlib.Core.List.{List, [], ◌∷◌, ◌++◌, append_assoc}
@@ -12,8 +13,6 @@ use lib.Dec.{ltb, eqb}
 use Rattle.base_octets.specs.Number.{bytes_of, number_at, Bytes}
 use Rattle.base_octets.proofs.NumberLaws.{number-split, number_fits}
 use Rattle.tlv_reader.specs.declared.Element.{Element}
-use Rattle.tlv_reader.specs.declared.Head.{Head}
-use Rattle.tlv_reader.specs.declared.Head.TheVariants.{Found, Malformed}
 use Rattle.tlv_reader.specs.Octet.{pick, tag_width, number_width, is_string, head_octets, structure, list, end_of_container}
 use Rattle.tlv_reader.specs.Tree.{Tag, Tree, Trees, depth, depths, tag_of, primitive_of, tag_of_tree, stands, Spells, SpellsAll}
 use Rattle.tlv_reader.specs.Tree.Tree.{primitive, container}
@@ -38,9 +37,9 @@ pub record Reads (s : List ℕ) (at : ℕ) (e : Element) : Type 0 where
   pub splits : drop at s ≡ head_octets e.form e.kind e.tag e.number ++ (octets ++ drop e.next.at s)
   pub is-end : e.next.at ≡ at + (length (head_octets e.form e.kind e.tag e.number) + length octets)
 
-abbrev pub Readable : List ℕ → ℕ → Head → Type 0
-Readable s at Malformed = Unit {0}
-Readable s at (Found e) = Reads s at e
+abbrev pub Readable : List ℕ → ℕ → Option Element → Type 0
+Readable s at None = Unit {0}
+Readable s at (Some e) = Reads s at e
 
 module _ (s : List ℕ) (at : ℕ) (hs : Bytes s) (form kind : ℕ) (hf : form < 8) (hk : kind < 25) (he : kind ≡ 24 → form ≡ 0) (hl : at < length s) (hc : get_or s at 0 ≡ form * 32 + kind) (fits : at + 1 + tag_width form + number_width kind ≤ length s) where
   head-splits : drop at s ≡ head_octets form kind (number_at (tag_width form) s (at + 1)) (number_at (number_width kind) s (at + 1 + tag_width form)) ++ drop (at + 1 + tag_width form + number_width kind) s
@@ -100,27 +99,27 @@ untagged-end form kind h e = let g : ltb 0 form ≡ false = sym (simp (eq-eqb ki
 pub head-sound : (s : List ℕ) (at : ℕ) → Bytes s → Readable s at (head_at s at)
 unfolding head_at Bytes
 head-sound s at hs =
-    let P : Head → Type 0 = Readable s at in
+    let P : Option Element → Type 0 = Readable s at in
     let c = get_or s at 0 in
     let form = c / 32 in
     let kind = c % 32 in
     let tw = tag_width form in
     let nw = number_width kind in
-    pick-elim P (ltb at (length s)) (formed_at s at form kind) Malformed
+    pick-elim P (ltb at (length s)) (formed_at s at form kind) None
     (λ e1. let l1 = ltb-true at (length s) e1 in let hb : c < 256 = hs at l1 in
-    pick-elim P (ltb 24 kind) Malformed _ (λ _. tt)
+    pick-elim P (ltb 24 kind) None _ (λ _. tt)
     (λ e2. let l2 = ltb-false 24 kind e2 in
-    pick-elim P (pick (eqb kind 24) (ltb 0 form) false) Malformed _ (λ _. tt)
-    (λ e3. pick-elim P (ltb (length s - (at + 1)) (tw + nw)) Malformed _ (λ _. tt)
+    pick-elim P (pick (eqb kind 24) (ltb 0 form) false) None _ (λ _. tt)
+    (λ e3. pick-elim P (ltb (length s - (at + 1)) (tw + nw)) None _ (λ _. tt)
     (λ e4. let l4 = ltb-false (length s - (at + 1)) (tw + nw) e4 in
     closed-reads s at hs form kind (omega arith) (omega arith) (untagged-end form kind e3) l1 (omega arith) (omega arith)))))
     (λ _. tt)
 
 -- ---- trees
 
-abbrev HeadTag : Head → Tag → Type 0
-HeadTag Malformed x = Unit {0}
-HeadTag (Found e) x = x ≡ tag_of e.form e.tag
+abbrev HeadTag : Option Element → Tag → Type 0
+HeadTag None x = Unit {0}
+HeadTag (Some e) x = x ≡ tag_of e.form e.tag
 
 -- what is true of a tree that was read at a position, and of members
 pub record Spelled (d : ℕ) (s : List ℕ) (at : ℕ) (t : Tree) (n : ℕ) : Type 0 where
@@ -146,7 +145,7 @@ abbrev pub SpelledAllG : ℕ → List ℕ → ℕ → ℕ → Got Trees → Type
 SpelledAllG d s kind at bad = Unit {0}
 SpelledAllG d s kind at (got ts n) = SpelledAll d s kind at ts n
 
-primitive-sound : (d : ℕ) (s : List ℕ) (at : ℕ) (e : Element) → head_at s at ≡ Found e → Reads s at e → e.kind < structure → Spelled d s at (primitive (tag_of e.form e.tag) (primitive_of e.kind e.number (take e.number (drop e.body s)))) e.next.at
+primitive-sound : (d : ℕ) (s : List ℕ) (at : ℕ) (e : Element) → head_at s at ≡ Some e → Reads s at e → e.kind < structure → Spelled d s at (primitive (tag_of e.form e.tag) (primitive_of e.kind e.number (take e.number (drop e.body s)))) e.next.at
 unfolding Spells depth
 primitive-sound d s at e h r l =
     record {
@@ -192,7 +191,7 @@ no-octets : (k n : ℕ) (b : List ℕ) → length b ≡ pick (is_string k) n 0 �
 no-octets k n [] h e = refl
 no-octets k n (x ∷ b) h e = let z : suc (length b) ≡ 0 = rw e at h in absurd (omega arith)
 
-container-sound : (d : ℕ) (s : List ℕ) (at : ℕ) (e : Element) → head_at s at ≡ Found e → Reads s at e → structure ≤ e.kind → e.kind ≤ list → (g : Got Trees) → SpelledAllG d s e.kind e.next.at g → SpelledG (suc d) s at (map_g (container (tag_of e.form e.tag) e.kind) g)
+container-sound : (d : ℕ) (s : List ℕ) (at : ℕ) (e : Element) → head_at s at ≡ Some e → Reads s at e → structure ≤ e.kind → e.kind ≤ list → (g : Got Trees) → SpelledAllG d s e.kind e.next.at g → SpelledG (suc d) s at (map_g (container (tag_of e.form e.tag) e.kind) g)
 unfolding Spells depth
 container-sound d s at e h r l u bad a = tt
 container-sound d s at e h r l u (got ts n) a =
@@ -221,7 +220,7 @@ container-sound d s at e h r l u (got ts n) a =
       tags = rw h refl;
     }
 
-by-sound : (d : ℕ) (s : List ℕ) (at : ℕ) (inner : ℕ → ℕ → Got Trees) (e : Element) → head_at s at ≡ Found e → Reads s at e → (structure ≤ e.kind → e.kind ≤ list → SpelledG d s at (map_g (container (tag_of e.form e.tag) e.kind) (inner e.kind e.next.at))) → SpelledG d s at (tree_by s inner e)
+by-sound : (d : ℕ) (s : List ℕ) (at : ℕ) (inner : ℕ → ℕ → Got Trees) (e : Element) → head_at s at ≡ Some e → Reads s at e → (structure ≤ e.kind → e.kind ≤ list → SpelledG d s at (map_g (container (tag_of e.form e.tag) e.kind) (inner e.kind e.next.at))) → SpelledG d s at (tree_by s inner e)
 unfolding tree_by
 by-sound d s at inner e h r i =
     choose-elim (SpelledG d s at) (ltb e.kind structure) _ _ (λ l. primitive-sound d s at e h r (ltb-true e.kind structure l))
@@ -245,7 +244,7 @@ end-sound d s kind at e r q =
       is-end = r.is-end ∙ ap (λ (m : ℕ). at + m) (rw (hd, b0) refl);
     }
 
-more-sound : (d : ℕ) (s : List ℕ) (kind at : ℕ) (e : Element) → head_at s at ≡ Found e → allowed_in kind e.form ≡ true → (t : Tree) (m : ℕ) → Spelled d s at t m → (g : Got Trees) → SpelledAllG d s kind m g → SpelledAllG d s kind at (map_g (more t) g)
+more-sound : (d : ℕ) (s : List ℕ) (kind at : ℕ) (e : Element) → head_at s at ≡ Some e → allowed_in kind e.form ≡ true → (t : Tree) (m : ℕ) → Spelled d s at t m → (g : Got Trees) → SpelledAllG d s kind m g → SpelledAllG d s kind at (map_g (more t) g)
 unfolding Spells depth
 more-sound d s kind at e h al t m w bad a = tt
 more-sound d s kind at e h al t m w (got ts n) a =
@@ -258,35 +257,35 @@ more-sound d s kind at e h al t m w (got ts n) a =
       is-end = omega (arith, w.is-end, a.is-end, length-append w.bytes a.bytes);
     }
 
-bind-sound : (d : ℕ) (s : List ℕ) (kind at : ℕ) (e : Element) → head_at s at ≡ Found e → allowed_in kind e.form ≡ true → (g : Got Tree) → SpelledG d s at g → (rest : ℕ → Got Trees) → ((m : ℕ) → SpelledAllG d s kind m (rest m)) → SpelledAllG d s kind at (bind_g g (λ t m. map_g (more t) (rest m)))
+bind-sound : (d : ℕ) (s : List ℕ) (kind at : ℕ) (e : Element) → head_at s at ≡ Some e → allowed_in kind e.form ≡ true → (g : Got Tree) → SpelledG d s at g → (rest : ℕ → Got Trees) → ((m : ℕ) → SpelledAllG d s kind m (rest m)) → SpelledAllG d s kind at (bind_g g (λ t m. map_g (more t) (rest m)))
 bind-sound d s kind at e h al bad w rest a = tt
 bind-sound d s kind at e h al (got t m) w rest a = more-sound d s kind at e h al t m w (rest m) (a m)
 
-all_sound : (d : ℕ) (s : List ℕ) (kind at : ℕ) (el : Element → Got Tree) (rest : ℕ → Got Trees) → ((e : Element) → head_at s at ≡ Found e → SpelledG d s at (el e)) → ((m : ℕ) → SpelledAllG d s kind m (rest m)) → (h : Head) → head_at s at ≡ h → Readable s at h → SpelledAllG d s kind at (trees_by kind el rest h)
+all_sound : (d : ℕ) (s : List ℕ) (kind at : ℕ) (el : Element → Got Tree) (rest : ℕ → Got Trees) → ((e : Element) → head_at s at ≡ Some e → SpelledG d s at (el e)) → ((m : ℕ) → SpelledAllG d s kind m (rest m)) → (h : (Option Element)) → head_at s at ≡ h → Readable s at h → SpelledAllG d s kind at (trees_by kind el rest h)
 unfolding trees_by
-all_sound d s kind at el rest w a Malformed q r = tt
-all_sound d s kind at el rest w a (Found e) q r =
+all_sound d s kind at el rest w a None q r = tt
+all_sound d s kind at el rest w a (Some e) q r =
     choose-elim (SpelledAllG d s kind at) (eqb e.kind end_of_container) _ _ (λ z. end-sound d s kind at e r (eqb-true e.kind end_of_container z))
     (λ _. choose-elim (SpelledAllG d s kind at) (allowed_in kind e.form) _ _ (λ al. bind-sound d s kind at e q al (el e) (w e q) rest a) (λ _. tt))
 
-from-sound : (d : ℕ) (s : List ℕ) → Bytes s → ((p : ℕ) (e : Element) → head_at s p ≡ Found e → SpelledG d s p (tree_of d s e)) → (f kind at : ℕ) → SpelledAllG d s kind at (trees_from (tree_of d s) f s kind at)
+from-sound : (d : ℕ) (s : List ℕ) → Bytes s → ((p : ℕ) (e : Element) → head_at s p ≡ Some e → SpelledG d s p (tree_of d s e)) → (f kind at : ℕ) → SpelledAllG d s kind at (trees_from (tree_of d s) f s kind at)
 unfolding trees_from
 from-sound d s hs w zero kind at = tt
 from-sound d s hs w (suc f) kind at = all_sound d s kind at (tree_of d s) (λ n. trees_from (tree_of d s) f s kind n) (w at) (λ m. from-sound d s hs w f kind m) (head_at s at) refl (head-sound s at hs)
 
-pub reads-found : (s : List ℕ) (at : ℕ) → Bytes s → (h : Head) → head_at s at ≡ h → Readable s at h
+pub reads-found : (s : List ℕ) (at : ℕ) → Bytes s → (h : (Option Element)) → head_at s at ≡ h → Readable s at h
 reads-found s at hs h q = rw q at (head-sound s at hs)
 
-pub of-sound : (d : ℕ) (s : List ℕ) → Bytes s → (at : ℕ) (e : Element) → head_at s at ≡ Found e → SpelledG d s at (tree_of d s e)
+pub of-sound : (d : ℕ) (s : List ℕ) → Bytes s → (at : ℕ) (e : Element) → head_at s at ≡ Some e → SpelledG d s at (tree_of d s e)
 unfolding tree_of
-of-sound zero s hs at e h = by-sound zero s at (λ k n. bad) e h (reads-found s at hs (Found e) h) (λ l u. tt)
+of-sound zero s hs at e h = by-sound zero s at (λ k n. bad) e h (reads-found s at hs (Some e) h) (λ l u. tt)
 of-sound (suc d) s hs at e h =
-    by-sound (suc d) s at (λ k n. trees_from (tree_of d s) (length s) s k n) e h (reads-found s at hs (Found e) h)
-    (λ l u. container-sound d s at e h (reads-found s at hs (Found e) h) l u (trees_from (tree_of d s) (length s) s e.kind e.next.at) (from-sound d s hs (λ p m q. of-sound d s hs p m q) (length s) e.kind e.next.at))
+    by-sound (suc d) s at (λ k n. trees_from (tree_of d s) (length s) s k n) e h (reads-found s at hs (Some e) h)
+    (λ l u. container-sound d s at e h (reads-found s at hs (Some e) h) l u (trees_from (tree_of d s) (length s) s e.kind e.next.at) (from-sound d s hs (λ p m q. of-sound d s hs p m q) (length s) e.kind e.next.at))
 
-headed-sound : (d : ℕ) (s : List ℕ) → Bytes s → (at : ℕ) (h : Head) → head_at s at ≡ h → SpelledG d s at (headed bad (tree_of d s) h)
-headed-sound d s hs at Malformed q = tt
-headed-sound d s hs at (Found e) q = of-sound d s hs at e q
+headed-sound : (d : ℕ) (s : List ℕ) → Bytes s → (at : ℕ) (h : (Option Element)) → head_at s at ≡ h → SpelledG d s at (headed bad (tree_of d s) h)
+headed-sound d s hs at None q = tt
+headed-sound d s hs at (Some e) q = of-sound d s hs at e q
 
 -- THE LAW: a tree that is read at a position is spelled by the octets there, up to its end
 pub tree-sound : (d : ℕ) (s : List ℕ) → Bytes s → (at : ℕ) → SpelledG d s at (tree_at d s at)

@@ -1,4 +1,5 @@
 -- The parsed value of an element means what its tree means.
+use Rattle.std.specs.Prelude.{Some}
 use mathlib.Core.Path.{◌≡◌, refl, ap, subst}
 use mathlib.Core.Bool.{Bool, true, false}
 use mathlib.Core.List.{List}
@@ -10,7 +11,6 @@ use lib.ListN.{length, take, drop}
 use lib.Dec.{ltb, eqb}
 use Rattle.base_octets.specs.Number.{Bytes}
 use Rattle.tlv_reader.specs.declared.Element.{Element}
-use Rattle.tlv_reader.specs.declared.Head.TheVariants.{Found}
 use Rattle.tlv_reader.specs.declared.Value.TheVariants.{Other}
 use Rattle.tlv_reader.specs.Octet.{number_width, structure, list}
 use Rattle.tlv_reader.specs.Tree.{Tree, Trees, complement, scalar_of, primitive_of, tag_of}
@@ -140,5 +140,5 @@ of-means zero s e h = by-means s (λ k n. bad) e h
 of-means (suc d) s e h = by-means s (λ k n. trees_from (tree_of d s) (length s) s k n) e h
 
 -- THE LAW: the value that the code parses means what the tree at that place means
-pub value-means : (d : ℕ) (s : List ℕ) → Bytes s → (at : ℕ) {e : Element} → head_at s at ≡ Found e → {t : Tree} {n : ℕ} → tree_of d s e ≡ got t n → datum_in s (value_of e) ≡ datum_t t
-value-means d s hs at {e} h w = subst (Meant (datum_in s (value_of e))) w (of-means d s e (reads-found s at hs (Found e) h).number_fits)
+pub value-means : (d : ℕ) (s : List ℕ) → Bytes s → (at : ℕ) {e : Element} → head_at s at ≡ Some e → {t : Tree} {n : ℕ} → tree_of d s e ≡ got t n → datum_in s (value_of e) ≡ datum_t t
+value-means d s hs at {e} h w = subst (Meant (datum_in s (value_of e))) w (of-means d s e (reads-found s at hs (Some e) h).number_fits)

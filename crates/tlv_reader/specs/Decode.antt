@@ -1,8 +1,6 @@
 -- The tree that stands at a position: what joins the walk of the code to the relation of spellings.
-use Rattle.std.specs.Prelude.{ℕ, zero, suc, List, length, take, drop, ltb, eqb}
+use Rattle.std.specs.Prelude.{ℕ, zero, suc, List, length, take, drop, ltb, eqb, Some, None, Option}
 use Rattle.tlv_reader.specs.declared.Element.{Element}
-use Rattle.tlv_reader.specs.declared.Head.{Head}
-use Rattle.tlv_reader.specs.declared.Head.TheVariants.{Found, Malformed}
 use Rattle.tlv_reader.specs.Octet.{structure, list, end_of_container}
 use Rattle.tlv_reader.specs.Tree.{Tree, Trees, tag_of, primitive_of}
 use Rattle.tlv_reader.specs.Tree.Tree.{primitive, container}
@@ -12,9 +10,9 @@ use Rattle.tlv_reader.specs.Walk.{Got, map_g, bind_g, choose, allowed_in, headed
 use Rattle.tlv_reader.specs.Walk.Got.{got, bad}
 
 -- the trees of a container's members
-unfoldable pub trees_by : ℕ → (Element → Got Tree) → (ℕ → Got Trees) → Head → Got Trees
-trees_by kind here rest Malformed = bad
-trees_by kind here rest (Found e) =
+unfoldable pub trees_by : ℕ → (Element → Got Tree) → (ℕ → Got Trees) → Option Element → Got Trees
+trees_by kind here rest None = bad
+trees_by kind here rest (Some e) =
     choose (eqb e.kind end_of_container) (λ _. got none e.next.at)
     (λ _. choose (allowed_in kind e.form) (λ _. bind_g (here e) (λ t n. map_g (more t) (rest n))) (λ _. bad))
 
@@ -39,19 +37,15 @@ trees_at d s kind at = trees_from (tree_of d s) (length s) s kind at
 unfoldable pub tree_at : ℕ → List ℕ → ℕ → Got Tree
 tree_at d s at = headed bad (tree_of d s) (head_at s at)
 
+abbrev pub place : {A : Type 0} → Option A → ℕ → Got A
+place (Some x) n = got x n
+place None n = bad
+
+abbrev pub bind_o : {A B : Type 0} → Option A → (A → Option B) → Option B
+bind_o (Some x) f = f x
+bind_o None f = None
+
 -- the fold over members that are trees, for a step that may refuse
-pub data Opt (A : Type 0) : Type 0 where
-  just : A → Opt A
-  nothing : Opt A
-
-abbrev pub place : {A : Type 0} → Opt A → ℕ → Got A
-place (just x) n = got x n
-place nothing n = bad
-
-abbrev pub bind_o : {A B : Type 0} → Opt A → (A → Opt B) → Opt B
-bind_o (just x) f = f x
-bind_o nothing f = nothing
-
-unfoldable pub fold_t : {S : Type 0} → (S → Tree → Opt S) → S → Trees → Opt S
-fold_t m x none = just x
+unfoldable pub fold_t : {S : Type 0} → (S → Tree → Option S) → S → Trees → Option S
+fold_t m x none = Some x
 fold_t m x (more t ts) = bind_o (m x t) (λ y. fold_t m y ts)

@@ -1,13 +1,10 @@
 -- The walk of an element: where it ends, or that it is malformed.
-use Rattle.std.specs.Prelude.{ℕ, zero, suc, List, Bool, true, false, length, ltb, eqb}
+use Rattle.std.specs.Prelude.{ℕ, zero, suc, List, Bool, true, false, length, ltb, eqb, Some, None, Option}
 use Rattle.base_bounds.specs.Bounds.{depth_limit}
 use Rattle.tlv_reader.specs.declared.Element.{Element}
-use Rattle.tlv_reader.specs.declared.Head.{Head}
-use Rattle.tlv_reader.specs.declared.Head.TheVariants.{Found, Malformed}
-use Rattle.tlv_reader.specs.declared.Walk.{Walk}
-use Rattle.tlv_reader.specs.declared.Walk.TheVariants.{Past, Broken}
 use Rattle.tlv_reader.specs.Octet.{pick, structure, array, list, end_of_container}
 use Rattle.tlv_reader.specs.Head.{head_at}
+use Rattle.tlv_reader.specs.declared.Cursor.{Cursor}
 
 -- what is found at a position, and where it ends; or nothing
 pub data Got (A : Type 0) : Type 0 where
@@ -33,9 +30,9 @@ allowed_in kind form = pick (eqb kind structure) (ltb 0 form) (pick (eqb kind ar
 
 -- MEMBERS BY A STEP: the members of a container from a position on, each taken by a step with its place and its head, up to
 -- the container's end. The bound on how many are looked at does not matter where it is the message's length.
-unfoldable pub fold_by : {S : Type 0} → ℕ → S → (Element → Got S) → (S → ℕ → Got S) → Head → Got S
-fold_by kind x here rest Malformed = bad
-fold_by kind x here rest (Found e) =
+unfoldable pub fold_by : {S : Type 0} → ℕ → S → (Element → Got S) → (S → ℕ → Got S) → Option Element → Got S
+fold_by kind x here rest None = bad
+fold_by kind x here rest (Some e) =
     choose (eqb e.kind end_of_container) (λ _. got x e.next.at)
     (λ _. choose (allowed_in kind e.form) (λ _. bind_g (here e) rest) (λ _. bad))
 
@@ -58,18 +55,23 @@ element_end (suc d) s e = element_by (λ k n. fold_at (λ x at m. element_end d 
 unfoldable pub members_end : ℕ → List ℕ → ℕ → ℕ → Got (Unit {0})
 members_end d s kind at = fold_at (λ x p m. element_end d s m) (length s) s kind tt at
 
-abbrev pub headed : {A : Type 0} → A → (Element → A) → Head → A
-headed a f Malformed = a
-headed a f (Found e) = f e
+abbrev pub headed : {A : Type 0} → A → (Element → A) → Option Element → A
+headed a f None = a
+headed a f (Some e) = f e
 
 -- the end of the element at a position
 unfoldable pub element_at : ℕ → List ℕ → ℕ → Got (Unit {0})
 element_at d s at = headed bad (element_end d s) (head_at s at)
 
 -- the answer of a walk
-abbrev pub ended : Got (Unit {0}) → Walk
-ended bad = Broken
-ended (got x n) = Past (record { at = n })
+abbrev pub ended : Got (Unit {0}) → Option Cursor
+ended bad = None
+ended (got x n) = Some (record { at = n })
+
+-- the answer of a reader: what it found, with the place after it
+abbrev pub read_of : {A : Type 0} → Got A → Option (A × Cursor)
+read_of bad = None
+read_of (got x n) = Some (x, record { at = n })
 
 -- an untagged structure, of depth at most 10, that ends at a length
 abbrev pub ends_at : ℕ → Got (Unit {0}) → Bool

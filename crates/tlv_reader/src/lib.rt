@@ -36,19 +36,6 @@ pub struct Element {
     pub next: Cursor,
 }
 
-#[derive(Clone, Copy)]
-pub enum Head {
-    Found(Element),
-    Malformed,
-}
-
-// The end of an element that was walked.
-#[derive(Clone, Copy)]
-pub enum Walk {
-    Past(Cursor),
-    Broken,
-}
-
 // A value: a float by its bits, a text by where its bytes lie.
 #[derive(Clone, Copy)]
 pub enum Value {
@@ -133,18 +120,18 @@ fn is_string(kind: u8) -> bool
 }
 
 // The element with these parts in a message of len bytes: what follows its head must fit.
-fn closed(len: usize, form: u8, kind: u8, tag: u64, number: u64, body: usize) -> Head
+fn closed(len: usize, form: u8, kind: u8, tag: u64, number: u64, body: usize) -> Option<Element>
     requires { body ≤ len }
     ensures { result ≡ closed_at len form kind tag number body }
 {
     if is_string(kind) {
         if ((len - body) as u64) < number {
-            return Head::Malformed;
+            return None;
         }
         let next = Cursor {
             at: body + number as usize,
         };
-        return Head::Found(Element {
+        return Some(Element {
             form,
             kind,
             tag,
@@ -154,7 +141,7 @@ fn closed(len: usize, form: u8, kind: u8, tag: u64, number: u64, body: usize) ->
         });
     }
     let next = Cursor { at: body };
-    Head::Found(Element {
+    Some(Element {
         form,
         kind,
         tag,
@@ -166,29 +153,29 @@ fn closed(len: usize, form: u8, kind: u8, tag: u64, number: u64, body: usize) ->
 
 impl Cursor {
     // The head of the element that stands here.
-    pub fn head(self, s: &[u8]) -> Head
+    pub fn head(self, s: &[u8]) -> Option<Element>
         ensures { result ≡ head_at s.now self.at }
     {
         let at = self.at;
         if s.len() <= at {
-            return Head::Malformed;
+            return None;
         }
         let c = s[at];
         let form = c / 32;
         let kind = c % 32;
         if END < kind {
-            return Head::Malformed;
+            return None;
         }
         if kind == END {
             if 0 < form {
-                return Head::Malformed;
+                return None;
             }
         }
         let tw = tag_width(form);
         let nw = number_width(kind);
         let b = at + 1;
         if s.len() - b < tw + nw {
-            return Head::Malformed;
+            return None;
         }
         let tag = tag_at(s, b, form, tw);
         let number = base_octets::number(s, b + tw, nw);
@@ -196,56 +183,50 @@ impl Cursor {
     }
 
     // The end of the element that stands here, with so many levels of containers left.
-    pub fn walk(self, s: &[u8], left: usize) -> Walk
+    pub fn walk(self, s: &[u8], left: usize) -> Option<Cursor>
         ensures { result ≡ ended (element_at left s.now self.at) }
     {
-        let Head::Found(e) = self.head(s) else {
-            return Walk::Broken;
-        };
+        let e = self.head(s)?;
         walk_element(s, e, left)
     }
 }
 
 // The end of an element whose head was read.
 #[cycle(walk_container_walk_element)]
-pub fn walk_element(s: &[u8], e: Element, left: usize) -> Walk
+pub fn walk_element(s: &[u8], e: Element, left: usize) -> Option<Cursor>
     ensures { result ≡ ended (element_end left s.now e) }
 {
     let kind = e.kind;
     let next = e.next;
     if kind < STRUCTURE {
-        return Walk::Past(next);
+        return Some(next);
     }
     if LIST < kind {
-        return Walk::Broken;
+        return None;
     }
     if left == 0 {
-        return Walk::Broken;
+        return None;
     }
     walk_container(s, next, left - 1, kind)
 }
 
 // The end of a container of a type, from one of its members on.
 #[cycle(walk_container_walk_element)]
-pub fn walk_container(s: &[u8], c: Cursor, left: usize, kind: u8) -> Walk
+pub fn walk_container(s: &[u8], c: Cursor, left: usize, kind: u8) -> Option<Cursor>
     ensures { result ≡ ended (members_end left s.now kind c.at) }
 {
     let mut at = c.at;
     loop {
         let here = Cursor { at };
-        let Head::Found(e) = here.head(s) else {
-            return Walk::Broken;
-        };
+        let e = here.head(s)?;
         if e.kind == END {
             let next = e.next;
-            return Walk::Past(next);
+            return Some(next);
         }
         if !allowed(kind, e.form) {
-            return Walk::Broken;
+            return None;
         }
-        let Walk::Past(n) = walk_element(s, e, left) else {
-            return Walk::Broken;
-        };
+        let n = walk_element(s, e, left)?;
         at = n.at;
     }
 }
@@ -255,7 +236,7 @@ pub fn message(s: &[u8]) -> bool
     ensures { result ≡ is_message s.now }
 {
     let start = Cursor { at: 0 };
-    let Head::Found(e) = start.head(s) else {
+    let Some(e) = start.head(s) else {
         return false;
     };
     if e.form != 0 {
@@ -264,7 +245,7 @@ pub fn message(s: &[u8]) -> bool
     if e.kind != STRUCTURE {
         return false;
     }
-    let Walk::Past(n) = walk_element(s, e, base_bounds::MAX_DEPTH) else {
+    let Some(n) = walk_element(s, e, base_bounds::MAX_DEPTH) else {
         return false;
     };
     n.at == s.len()
@@ -343,7 +324,7 @@ pub fn value_in(s: &[u8], at: usize) -> Value
     ensures { result ≡ value_in s.now at }
 {
     let here = Cursor { at };
-    let Head::Found(e) = here.head(s) else {
+    let Some(e) = here.head(s) else {
         return Value::Other;
     };
     e.value()

@@ -1,9 +1,7 @@
 -- Where writing again ends.
-use Rattle.std.specs.Prelude.{ℕ, ◌≤◌}
-use Rattle.tlv_vectors.specs.declared.rewrite.Put.{Put}
-use Rattle.tlv_vectors.specs.declared.rewrite.Put.TheVariants.{Next, Nothing}
+use Rattle.std.specs.Prelude.{ℕ, ◌≤◌, Some, None, Option}
 
 -- the place after what was written is within a buffer's length
-abbrev pub Within : ℕ → Put → Type 0
-Within l (Next n) = n ≤ l
-Within l Nothing = Unit {0}
+abbrev pub Within : ℕ → Option ℕ → Type 0
+Within l (Some n) = n ≤ l
+Within l None = Unit {0}

@@ -1,5 +1,5 @@
 // Octets in hex digits, capital letters.
-ghost use Rattle.std.specs.Prelude.{◌≡◌, ◌≤◌, ◌<◌, length};
+ghost use Rattle.std.specs.Prelude.{◌≡◌, ◌≤◌, ◌<◌, length, IfSome};
 ghost use Rattle.tlv_vectors.specs.Hex.{IsPrefixLen, hex_digit, hex_value};
 
 use std::io;
@@ -12,24 +12,24 @@ fn digit(n: u8) -> u8
     if n < 10 { b'0' + n } else { b'A' + (n - 10) }
 }
 
-// The number of a digit, or 16 for a byte that is none.
-fn value(c: u8) -> u8
+// The number of a digit, or none for a byte that is no digit.
+fn value(c: u8) -> Option<u8>
     ensures value { result ≡ hex_value c }
-    ensures small { result ≤ 16 }
+    ensures small { IfSome result (λ n. n < 16) }
 {
-    if c < b'0' {
-        return 16;
+    match c {
+        b'0'..=b'9' => Some(c - b'0'),
+        b'A'..=b'F' => Some(c - b'A' + 10),
+        _ => None,
     }
-    if c <= b'9' {
-        return c - b'0';
-    }
-    if c < b'A' {
-        return 16;
-    }
-    if c <= b'F' {
-        return c - b'A' + 10;
-    }
-    16
+}
+
+// The octet that two digits at the start say.
+fn octet(digits: &[u8]) -> Option<u8> {
+    let [high, low, ..] = digits else {
+        return None;
+    };
+    Some(value(*high)? * 16 + value(*low)?)
 }
 
 // The octets at the start of a line, two digits and a space each, up to where no two digits stand; answers how many.
@@ -38,19 +38,12 @@ pub fn octets(line: &[u8], out: &mut [u8]) -> usize
     ensures { IsPrefixLen result out.new }
 {
     let mut n = 0;
-    let mut i = 0;
-    while i + 1 < line.len() {
-        let high = value(line[i]);
-        let low = value(line[i + 1]);
-        if 16 <= high {
+    for digits in line.chunks(3) {
+        let Some(x) = octet(digits) else {
             return n;
-        }
-        if 16 <= low {
-            return n;
-        }
-        out[n] = high * 16 + low;
+        };
+        out[n] = x;
         n += 1;
-        i += 3;
     }
     n
 }
@@ -67,13 +60,11 @@ pub fn write_low16(rt: &impl Print, n: u64) -> io::Result<()> {
 
 // Octets with single spaces between them.
 pub fn write_octets(rt: &impl Print, b: &[u8]) -> io::Result<()> {
-    let mut i = 0;
-    while i < b.len() {
+    for (i, x) in b.iter().enumerate() {
         if 0 < i {
             rt.print(" ")?;
         }
-        write_octet(rt, b[i])?;
-        i += 1;
+        write_octet(rt, *x)?;
     }
     Ok(())
 }

@@ -10,10 +10,9 @@ ghost use Rattle.std.specs.Io.{ReadsAtMost};
 ghost use Rattle.base_bounds.specs.Bounds.{depth_limit};
 ghost use Rattle.tlv_reader.specs.Walk.{element_at, ends_at};
 
-use rewrite::Put;
 use std::io;
 use std::io::Read;
-use tlv_reader::{Cursor, Walk};
+use tlv_reader::Cursor;
 
 mod hex; // hex.rt: octets in hex digits
 mod rewrite; // rewrite.rt: an element written again
@@ -46,31 +45,10 @@ fn fill(input: &mut impl Read, buf: &mut [u8]) -> io::Result<usize>
 }
 
 fn examples(rt: &impl Print, s: &[u8]) -> io::Result<()> {
-    let mut at = 0;
-    while at < s.len() {
-        let end = line_end(s, at);
-        example(rt, &s[at..end])?;
-        if end == s.len() {
-            return Ok(());
-        }
-        at = end + 1;
+    for line in s.split(|c| *c == b'\n') {
+        example(rt, line)?;
     }
     Ok(())
-}
-
-// Where the line that starts here ends: at its line feed, or with the input.
-fn line_end(s: &[u8], at: usize) -> usize
-    requires { at ≤ length s.now }
-    ensures { (at ≤ result) × (result ≤ length s.now) }
-{
-    let mut i = at;
-    while i < s.len() {
-        if s[i] == b'\n' {
-            return i;
-        }
-        i += 1;
-    }
-    i
 }
 
 fn example(rt: &impl Print, line: &[u8]) -> io::Result<()> {
@@ -103,7 +81,7 @@ fn is_element(s: &[u8]) -> bool
     ensures { result ≡ ends_at (length s.now) (element_at depth_limit s.now 0) }
 {
     let start = Cursor { at: 0 };
-    let Walk::Past(n) = start.walk(s, base_bounds::MAX_DEPTH) else {
+    let Some(n) = start.walk(s, base_bounds::MAX_DEPTH) else {
         return false;
     };
     n.at == s.len()
@@ -111,7 +89,7 @@ fn is_element(s: &[u8]) -> bool
 
 fn written(rt: &impl Print, s: &[u8]) -> io::Result<()> {
     let mut b = [0u8; 256];
-    let Put::Next(n) = rewrite::elements(s, &mut b) else {
+    let Some(n) = rewrite::elements(s, &mut b) else {
         return rt.print("-");
     };
     hex::write_octets(rt, &b[..n])

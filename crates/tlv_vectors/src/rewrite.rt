@@ -5,44 +5,33 @@ ghost use Rattle.tlv_reader.specs.Value.{value_of};
 ghost use Rattle.tlv_writer.specs.Element.{InPage};
 ghost use Rattle.tlv_vectors.specs.Put.{Within};
 
-use tlv_reader::{Cursor, Element, Head, Value};
+use tlv_reader::{Cursor, Element, Value};
 use tlv_writer::{Tag, lengths};
 
-// The place after what was written; nothing where we write no such element, or it does not fit.
-#[derive(Clone, Copy)]
-pub enum Put {
-    Next(usize),
-    Nothing,
-}
-
 // The elements that stand one after the other, from the first octet on.
-pub fn elements(s: &[u8], b: &mut [u8]) -> Put
+pub fn elements(s: &[u8], b: &mut [u8]) -> Option<usize>
     ensures { Within (length b.new) result }
 {
     let mut at = 0;
     let mut p = 0;
     while at < s.len() {
         let here = Cursor { at };
-        let Head::Found(e) = here.head(s) else {
-            return Put::Nothing;
-        };
-        let Put::Next(n) = element(s, e, b, p) else {
-            return Put::Nothing;
-        };
+        let e = here.head(s)?;
+        let n = element(s, e, b, p)?;
         p = n;
         let next = e.next;
         at = next.at;
     }
-    Put::Next(p)
+    Some(p)
 }
 
 // An element, of a container its opening.
-fn element(s: &[u8], e: Element, b: &mut [u8], at: usize) -> Put
+fn element(s: &[u8], e: Element, b: &mut [u8], at: usize) -> Option<usize>
     requires { (InPage s.now (value_of e)) × (at ≤ length b.old) }
     ensures { Within (length b.new) result }
 {
     if 1 < e.form {
-        return Put::Nothing;
+        return None;
     }
     let tag = tag_of(e.form, e.tag);
     let kind = e.kind;
@@ -62,30 +51,30 @@ fn tag_of(form: u8, n: u64) -> Tag {
 }
 
 // A value; one that is Other has no octets.
-fn value(b: &mut [u8], at: usize, tag: Tag, v: Value, s: &[u8]) -> Put
+fn value(b: &mut [u8], at: usize, tag: Tag, v: Value, s: &[u8]) -> Option<usize>
     requires { (InPage s.now v) × (at ≤ length b.old) }
     ensures { Within (length b.new) result }
 {
     let n = lengths::value_len(tag, v, s);
     if n == 0 {
-        return Put::Nothing;
+        return None;
     }
     if b.len() - at < n {
-        return Put::Nothing;
+        return None;
     }
-    Put::Next(tlv_writer::put_value(b, at, tag, v, s))
+    Some(tlv_writer::put_value(b, at, tag, v, s))
 }
 
 // The opening of a container, or its end.
-fn bracket(b: &mut [u8], at: usize, tag: Tag, kind: u8) -> Put
+fn bracket(b: &mut [u8], at: usize, tag: Tag, kind: u8) -> Option<usize>
     requires { (structure ≤ kind) × (at ≤ length b.old) }
     ensures { Within (length b.new) result }
 {
     if b.len() - at < lengths::head_len(tag) {
-        return Put::Nothing;
+        return None;
     }
     if tlv_reader::LIST < kind {
-        return Put::Next(tlv_writer::put_end(b, at));
+        return Some(tlv_writer::put_end(b, at));
     }
-    Put::Next(tlv_writer::put_open(b, at, tag, kind))
+    Some(tlv_writer::put_open(b, at, tag, kind))
 }

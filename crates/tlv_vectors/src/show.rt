@@ -4,7 +4,7 @@ ghost use Rattle.tlv_writer.specs.Element.{InPage};
 
 use super::hex;
 use std::io;
-use tlv_reader::{Cursor, Element, Head, Value};
+use tlv_reader::{Cursor, Element, Value};
 
 // The elements that stand one after the other, from the first octet on.
 pub fn elements(rt: &impl Print, s: &[u8]) -> io::Result<()> {
@@ -12,7 +12,7 @@ pub fn elements(rt: &impl Print, s: &[u8]) -> io::Result<()> {
     let mut comma = false;
     while at < s.len() {
         let here = Cursor { at };
-        let Head::Found(e) = here.head(s) else {
+        let Some(e) = here.head(s) else {
             return Ok(());
         };
         comma = element(rt, s, e, comma)?;

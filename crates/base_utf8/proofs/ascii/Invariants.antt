@@ -4,7 +4,4 @@ use Rattle.base_utf8.proofs.Quarters.{Sides}
 use Rattle.base_utf8.proofs.ascii.Given as goal
 
 abbrev pub invariant-loop-i : goal.invariant-loop-i
-invariant-loop-i l = (l.i ≤ l.side) × (4 * l.side ≤ length l.s) × Sides l.s l.side l.bits l.i
-
-abbrev pub decreases-loop-i : goal.decreases-loop-i
-decreases-loop-i l = l.side - l.i
+invariant-loop-i l = (4 * l.side ≤ length l.s) × Sides l.s l.side l.bits l.i

@@ -6,8 +6,5 @@ use Rattle.base_utf8.specs.WellFormed.{well_formed}
 use Rattle.base_utf8.specs.Bytewise.{judged}
 use Rattle.base_utf8.proofs.few.Given as goal
 
-abbrev pub invariant-loop-i : goal.invariant-loop-i
-invariant-loop-i l = (l.i ≤ length l.s) × (well_formed l.s ≡ (l.good && judged l.a l.b l.c (drop l.i l.s)))
-
-abbrev pub decreases-loop-i : goal.decreases-loop-i
-decreases-loop-i l = length l.s - l.i
+abbrev pub invariant-loop-d : goal.invariant-loop-d
+invariant-loop-d l = well_formed l.s ≡ (l.good && judged l.a l.b l.c (drop l.d-index l.s))

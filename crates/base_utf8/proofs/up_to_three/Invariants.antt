@@ -4,7 +4,4 @@ use Rattle.base_utf8.proofs.Shorter.{ThreeFrom}
 use Rattle.base_utf8.proofs.up_to_three.Given as goal
 
 abbrev pub invariant-loop-i : goal.invariant-loop-i
-invariant-loop-i l = (2 ≤ l.i) × ((l.i ≤ length l.s) × ThreeFrom l.s l.i l.good)
-
-abbrev pub decreases-loop-i : goal.decreases-loop-i
-decreases-loop-i l = length l.s - l.i
+invariant-loop-i l = ThreeFrom l.s l.i l.good

@@ -4,7 +4,4 @@ use Rattle.base_utf8.proofs.Shorter.{TwoFrom}
 use Rattle.base_utf8.proofs.up_to_two.Given as goal
 
 abbrev pub invariant-loop-i : goal.invariant-loop-i
-invariant-loop-i l = (1 ≤ l.i) × ((l.i ≤ length l.s) × TwoFrom l.s l.i l.good)
-
-abbrev pub decreases-loop-i : goal.decreases-loop-i
-decreases-loop-i l = length l.s - l.i
+invariant-loop-i l = TwoFrom l.s l.i l.good

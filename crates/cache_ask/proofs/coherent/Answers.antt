@@ -11,7 +11,6 @@ use Rattle.cache_ask.proofs.SaidLaws.{whole-right, whole-broken}
 use Rattle.cache_ask.specs.Ask.{AnswersWhole}
 use Rattle.cache_ask.specs.declared.Whole.{Whole}
 use Rattle.cache_state.proofs.StateLaws.{right-bounded}
-use borrow.Author.Rules.{rules}
 use Rattle.cache_ask.proofs.coherent.Goals as goal
 use Rattle.cache_ask.proofs.coherent.Goals.{After-cache_ok, Else-not-cache_ok, Start}
 

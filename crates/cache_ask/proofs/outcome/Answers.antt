@@ -13,7 +13,6 @@ use Rattle.cache_ask.specs.Ask.{AnswersOutcome}
 use Rattle.cache_ask.specs.declared.Ended.{Ended}
 use Rattle.cache_state.proofs.WordLaws.{words_right_lem}
 use native.Mathlib.Omega.{arith}
-use borrow.Author.Rules.{rules}
 use Rattle.cache_ask.proofs.outcome.Goals as goal
 use Rattle.cache_ask.proofs.outcome.Goals.{After-cache_ok, Else-not-cache_ok, Start}
 

@@ -13,16 +13,16 @@ use Rattle.cache_ask.proofs.path_at.Goals.{Start}
 abbrev lent : Start → List ℕ → List ℕ → List ℕ → List ℕ → Cached
 lent s versions kinds words lengths = held_in s.args.clusters.now s.args.keys.now versions kinds words s.args.order.now lengths s.args.t
 
-pub returns-in_default : goal.returns-in_default
+pub returns-in_err-k : goal.returns-in_err-k
 unfolding path_at
-returns-in_default c = λ versions kinds words lengths. sym (ap (in_cluster (lent (goal.at.returns-in_default c).Start versions kinds words lengths) c.args.attribute) (sym c.find_cluster.ensures ∙ c.in_default.is))
+returns-in_err-k c = λ versions kinds words lengths. c.from_residual.ensures ∙ sym (ap (in_cluster (lent (goal.at.returns-in_err-k c).Start versions kinds words lengths) c.args.attribute) (sym c.find_cluster.ensures ∙ c.in_err-k.was))
 
 pub overflow_mul-k : goal.overflow_mul-k
-overflow_mul-k c = omega (arith, cluster-found c.args.clusters.now c.args.t.cluster_count _ _ c.requires.few-clusters (sym c.find_cluster.ensures ∙ c.in-At.is))
+overflow_mul-k c = omega (arith, cluster-found c.args.clusters.now c.args.t.cluster_count _ _ c.requires.few-clusters (sym c.find_cluster.ensures ∙ c.in_ok-k.was))
 
 pub overflow_add-k : goal.overflow_add-k
-overflow_add-k c = omega (arith, cluster-found c.args.clusters.now c.args.t.cluster_count _ _ c.requires.few-clusters (sym c.find_cluster.ensures ∙ c.in-At.is))
+overflow_add-k c = omega (arith, cluster-found c.args.clusters.now c.args.t.cluster_count _ _ c.requires.few-clusters (sym c.find_cluster.ensures ∙ c.in_ok-k.was))
 
 pub returns : goal.returns
 unfolding path_at
-returns c = λ versions kinds words lengths. c.find_entry.ensures ∙ sym (ap (in_cluster (lent (goal.at.returns c).Start versions kinds words lengths) c.args.attribute) (sym c.find_cluster.ensures ∙ c.in-At.is))
+returns c = λ versions kinds words lengths. c.find_entry.ensures ∙ sym (ap (in_cluster (lent (goal.at.returns c).Start versions kinds words lengths) c.args.attribute) (sym c.find_cluster.ensures ∙ c.in_ok-k.was))

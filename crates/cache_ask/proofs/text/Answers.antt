@@ -1,4 +1,3 @@
-use Rattle.cache_ask.specs.Ask.{text_of_value, text_of_entry}
 use Rattle.cache_ask.proofs.AskLaws.{no-entry, no_text, text-inside, text-of}
 use Rattle.cache_ask.specs.Ask.{text_of_value, text_of_entry, text_shown}
 use Rattle.cache_state.specs.declared.CacheState.{CacheState}

@@ -10,7 +10,6 @@ use mathlib.Core.Path.{◌≡◌, refl, sym, subst, ◌∙◌}
 use Rattle.cache_ask.proofs.SaidLaws.{unknown-right, unknown-broken}
 use Rattle.cache_ask.specs.Ask.{AnswersUnknown}
 use Rattle.cache_ask.specs.declared.Abandoned.{Abandoned}
-use borrow.Author.Rules.{rules}
 use Rattle.cache_ask.proofs.unknown.Goals as goal
 use Rattle.cache_ask.proofs.unknown.Goals.{After-cache_ok, Else-not-cache_ok, Start}
 

@@ -10,13 +10,10 @@ use Rattle.im_envelope.proofs.word.Goals as goal
 
 pub loop-i-init : goal.loop-i-init
 unfolding big_number
-loop-i-init c = (omega arith, (refl, omega (arith, pow-zero 256)))
+loop-i-init c = (refl, omega (arith, pow-zero 256))
 
 pub overflow_mul-v : goal.overflow_mul-v
 overflow_mul-v c = omega (arith, below_word_lem c.loop-i.i 7 (omega arith))
-
-pub bounds-s-i : goal.bounds-s-i
-bounds-s-i c = omega (arith, c.requires)
 
 pub overflow_add-v : goal.overflow_add-v
 overflow_add-v c = omega (arith, below_word_lem c.loop-i.i 7 (omega arith), c.type_inv.s c.loop-i.i)
@@ -25,12 +22,12 @@ pub loop-i-preserved : goal.loop-i-preserved
 loop-i-preserved c =
     let s = c.args.s.now in
     let l = c.loop-i in
-    let b = c.wide.result in
+    let b = c.from.result in
     let small = c.type_inv.s l.i in
-    (omega arith, (big-turn s l.i l.v b (omega (arith, c.requires)) l.invariant.1.0 c.wide.ensures ∙ ap (λ n. big_number (take n s)) (sym (add-one l.i)), rw add-one (big-below s l.i l.v b l.invariant.1.1 (omega (arith, c.wide.ensures, small)))))
+    (big-turn s l.i l.v b (omega (arith, c.requires)) l.invariant.0 c.from.ensures ∙ ap (λ n. big_number (take n s)) (sym (add-one l.i)), rw add-one (big-below s l.i l.v b l.invariant.1 (omega (arith, c.from.ensures, small))))
 
 pub returns : goal.returns
 returns c =
     let l = c.loop-i in
     let e : l.i ≡ 8 = omega arith in
-    l.invariant.1.0 ∙ ap (λ n. big_number (take n c.args.s.now)) e
+    l.invariant.0 ∙ ap (λ n. big_number (take n c.args.s.now)) e

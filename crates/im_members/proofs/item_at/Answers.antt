@@ -9,12 +9,12 @@ returns-in_default c = sym (ap (item_of c.args.kind) (sym c.head.ensures ∙ c.i
 
 pub returns-then-e-eq-END : goal.returns-then-e-eq-END
 unfolding item_at
-returns-then-e-eq-END c = sym (ap (item_of c.args.kind) (sym c.head.ensures ∙ c.in-Found.is) ∙ simp (eq-eqb _ _ c.if-e-eq-END.true))
+returns-then-e-eq-END c = sym (ap (item_of c.args.kind) (sym c.head.ensures ∙ c.in-Some.is) ∙ simp (eq-eqb _ _ c.if-e-eq-END.true))
 
 pub returns-then-not-allowed : goal.returns-then-not-allowed
 unfolding item_at
-returns-then-not-allowed c = sym (ap (item_of c.args.kind) (sym c.head.ensures ∙ c.in-Found.is) ∙ simp (ne_eqb _ _ c.if-e-eq-END.false, sym c.allowed.ensures ∙ c.if-not-allowed.true))
+returns-then-not-allowed c = sym (ap (item_of c.args.kind) (sym c.head.ensures ∙ c.in-Some.is) ∙ simp (ne_eqb _ _ c.if-e-eq-END.false, sym c.allowed.ensures ∙ c.if-not-allowed.true))
 
 pub returns : goal.returns
 unfolding item_at
-returns c = sym (ap (item_of c.args.kind) (sym c.head.ensures ∙ c.in-Found.is) ∙ simp (ne_eqb _ _ c.if-e-eq-END.false, sym c.allowed.ensures ∙ c.if-not-allowed.false))
+returns c = sym (ap (item_of c.args.kind) (sym c.head.ensures ∙ c.in-Some.is) ∙ simp (ne_eqb _ _ c.if-e-eq-END.false, sym c.allowed.ensures ∙ c.if-not-allowed.false))

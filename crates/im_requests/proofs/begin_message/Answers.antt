@@ -9,8 +9,8 @@ returns-in_default c = c.refused.ensures ∙ sym (simp (sym c.head.ensures ∙ c
 
 pub returns-then-e-ne0 : goal.returns-then-e-ne0
 unfolding open_pass
-returns-then-e-ne0 c = c.refused-then-e-ne0.ensures ∙ sym (simp (sym c.head.ensures ∙ c.in-Found.is, ne_eqb _ _ c.if-e-ne0.true))
+returns-then-e-ne0 c = c.refused-then-e-ne0.ensures ∙ sym (simp (sym c.head.ensures ∙ c.in-Some.is, ne_eqb _ _ c.if-e-ne0.true))
 
 pub returns : goal.returns
 unfolding open_pass
-returns c = c.begin.ensures ∙ sym (simp (sym c.head.ensures ∙ c.in-Found.is, eq-eqb _ _ c.if-e-ne0.false))
+returns c = c.begin.ensures ∙ sym (simp (sym c.head.ensures ∙ c.in-Some.is, eq-eqb _ _ c.if-e-ne0.false))

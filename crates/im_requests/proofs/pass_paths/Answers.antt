@@ -1,19 +1,26 @@
-use mathlib.Core.Path.{sym, ◌∙◌}
-use borrow.Author.Tests.{eq-eqb, ne_eqb, not-true, not-false}
+use mathlib.Core.Path.{refl, sym, ◌∙◌}
+use borrow.Author.Tests.{eq-eqb, ne_eqb}
 use Rattle.tlv_reader.specs.Octet.{structure}
 use Rattle.im_members.specs.Pass.{pass_from}
 use Rattle.im_requests.specs.Read.{read_tags, pass_paths}
+use Rattle.im_requests.proofs.PassLaws.{list-as}
 use Rattle.im_requests.proofs.ReadPass.{found_none, found_some}
 use Rattle.im_requests.proofs.pass_paths.Goals as goal
 
-pub returns-then-m-ne0 : goal.returns-then-m-ne0
+pub returns-in_default : goal.returns-in_default
 unfolding pass_paths
-returns-then-m-ne0 c = sym (simp (ne_eqb _ _ c.if-m-ne0.true))
+returns-in_default c = sym (simp c.in_default.is)
 
-pub returns-then-not-f : goal.returns-then-not-f
+pub returns-then-here-ne0 : goal.returns-then-here-ne0
 unfolding pass_paths
-returns-then-not-f c = let a = c.args in let on = pass_from 9 a.s.now structure read_tags a.stops.now a.at.now a.codes.now in found_none on c.paths_of-f.ensures (not-true _ c.if-not-f.true) c.refused-stop.ensures ∙ sym (simp (eq-eqb _ _ c.if-m-ne0.false))
+returns-then-here-ne0 c = sym (simp (c.in-Some.is, ne_eqb _ _ c.if-here-ne0.true))
+
+pub returns-in_default-list_of : goal.returns-in_default-list_of
+unfolding pass_paths
+returns-in_default-list_of c = let a = c.args in let on = pass_from 9 a.s.now structure read_tags a.stops.now a.at.now a.codes.now in
+    found_none on (list-as c.in_default-list_of.is c.list_of.ensures) refl c.refused-stop.ensures ∙ sym (simp (c.in-Some.is, eq-eqb _ _ c.if-here-ne0.false))
 
 pub returns : goal.returns
 unfolding pass_paths
-returns c = let a = c.args in let on = pass_from 9 a.s.now structure read_tags a.stops.now a.at.now a.codes.now in found_some on c.paths_of-f.ensures (not-false _ c.if-not-f.false) c.resume-stop.ensures ∙ sym (simp (eq-eqb _ _ c.if-m-ne0.false))
+returns c = let a = c.args in let on = pass_from 9 a.s.now structure read_tags a.stops.now a.at.now a.codes.now in
+    found_some on (list-as c.in-Some-list_of.is c.list_of.ensures) refl c.resume-stop.ensures ∙ sym (simp (c.in-Some.is, eq-eqb _ _ c.if-here-ne0.false))

@@ -1,3 +1,4 @@
+use Rattle.std.specs.Prelude.{Some}
 use mathlib.Core.Path.{◌≡◌, sym, ◌∙◌}
 use mathlib.Core.List.{List}
 use Prim.Native.Nat.{ℕ}
@@ -8,7 +9,7 @@ use Rattle.im_responses.proofs.part_of.Goals as goal
 use Rattle.im_responses.proofs.part_of.Goals.{After-number_by-revision}
 
 -- what the codes stand for
-read : (c : After-number_by-revision) (at : List ℕ) → let a = c.args in part_by a.len (pass_with a.m at a.codes.now) a.blocks ≡ part_made c.number_by-subscription.result c.flag_by-more.result c.flag_by-suppress.result c.number_by-revision.result a.blocks
+read : (c : After-number_by-revision) (at : List ℕ) → let a = c.args in part_by a.len (pass_with (Some a.m) at a.codes.now) a.blocks ≡ part_made c.number_by-subscription.result c.flag_by-more.result c.flag_by-suppress.result c.number_by-revision.result a.blocks
 unfolding part_by
 read c at = simp (sym (c.is_whole.ensures at c.args.codes.now) ∙ c.if-not-is_whole.false, ← c.number_by-subscription.ensures, ← c.flag_by-more.ensures, ← c.flag_by-suppress.ensures, ← c.number_by-revision.ensures)
 

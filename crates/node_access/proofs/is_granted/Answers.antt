@@ -8,4 +8,4 @@ returns-then-i-ge-CLUSTERS c = simp (le-ltb _ _ c.if-i-ge-CLUSTERS.true)
 
 pub returns : goal.returns
 unfolding is_granted
-returns c = rw c.wide.ensures (simp (lt-ltb _ _ c.if-i-ge-CLUSTERS.false))
+returns c = rw c.from.ensures (simp (lt-ltb _ _ c.if-i-ge-CLUSTERS.false))

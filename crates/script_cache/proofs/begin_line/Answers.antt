@@ -11,11 +11,11 @@ unfolding begin_turn
 returns-then-not-is_done c =
     let d = c.is_done in
     let t = sym c.same_bytes.ensures ∙ c.if-same_bytes.false in
-    rw (t, sym d.ensures ∙ c.if-not-is_done.true) (record { says = c.unplayed.ensures; texts = refl; buffer = refl })
+    rw (t, sym d.ensures ∙ c.if-not-is_done.true) (record { says = refl; texts = refl; buffer = refl })
 
 pub returns : goal.returns
 unfolding begin_turn
 returns c =
     let d = c.is_done in
     let t = sym c.same_bytes.ensures ∙ c.if-same_bytes.false in
-    rw (t, sym d.ensures ∙ c.if-not-is_done.false, ← c.same_bytes-2.ensures, c.played.ensures) (record { clear = refl; reacts = c.ask_again.ensures })
+    rw (t, sym d.ensures ∙ c.if-not-is_done.false, ← c.same_bytes-2.ensures) c.ask_again.ensures

@@ -1,5 +1,6 @@
-use mathlib.Core.Path.{refl, sym, ◌∙◌}
-use borrow.Author.Tests.{eq-eqb, ne_eqb}
+use mathlib.Core.Path.{refl, sym, ap, ◌∙◌}
+use Rattle.std.specs.Prelude.{Err}
+use Rattle.std.proofs.lemmas.Result.{err_from_is_err_and}
 use Rattle.script_cache.specs.Acts.{turn_at}
 use Rattle.script_cache.proofs.cache_line.Goals as goal
 
@@ -7,16 +8,15 @@ pub returns-then-begins : goal.returns-then-begins
 unfolding turn_at
 returns-then-begins c = rw (sym c.begins.ensures ∙ c.if-begins.true) c.begin_line.ensures
 
-pub returns-then-h-ne0 : goal.returns-then-h-ne0
+pub returns-in_err-m : goal.returns-in_err-m
 unfolding turn_at
-returns-then-h-ne0 c =
-    let h = c.handed-h in
+returns-in_err-m c =
     let t = sym c.begins.ensures ∙ c.if-begins.false in
-    rw (t, ← h.ensures, ne_eqb h.result.fault 0 c.if-h-ne0.true) (record { says = c.unplayed.ensures; texts = refl; buffer = refl })
+    let p = err_from_is_err_and c.from_residual.result c.from_residual.ensures.1 in
+    rw (t, ← c.handed.ensures, c.in_err-m.was) (record { says = p.1 ∙ ap Err p.2; texts = refl; buffer = refl })
 
 pub returns : goal.returns
 unfolding turn_at
 returns c =
-    let h = c.handed-h in
     let t = sym c.begins.ensures ∙ c.if-begins.false in
-    rw (t, ← h.ensures, eq-eqb h.result.fault 0 c.if-h-ne0.false, c.played.ensures) (record { clear = refl; reacts = c.hand.ensures })
+    rw (t, ← c.handed.ensures, c.in_ok-m.was) c.hand.ensures

@@ -8,10 +8,10 @@ pub returns-then-not-v : goal.returns-then-not-v
 unfolding zeros write_turn
 returns-then-not-v c =
     let v = c.read_value-v in
-    rw (← c.read_path-a.ensures, ← c.read_marked-version.ensures.value, ← v.ensures.value, not-true v.result.ok c.if-not-v.true) (record { says = c.unplayed.ensures; texts = refl; buffer = refl })
+    rw (← c.read_path-a.ensures, ← c.read_marked-version.ensures.value, ← v.ensures.value, not-true v.result.ok c.if-not-v.true) (record { says = refl; texts = refl; buffer = refl })
 
 pub returns : goal.returns
 unfolding zeros write_turn
 returns c =
     let v = c.read_value-v in
-    rw (← c.read_path-a.ensures, ← c.read_marked-version.ensures.value, ← v.ensures.value, not-false v.result.ok c.if-not-v.false, ← v.ensures.out_after, c.played.ensures) (record { clear = refl; reacts = c.change.ensures })
+    rw (← c.read_path-a.ensures, ← c.read_marked-version.ensures.value, ← v.ensures.value, not-false v.result.ok c.if-not-v.false, ← v.ensures.out_after) c.change.ensures

@@ -1,5 +1,6 @@
-use mathlib.Core.Path.{refl, sym, ◌∙◌}
-use borrow.Author.Tests.{eq-eqb, ne_eqb}
+use mathlib.Core.Path.{refl, sym, ap, ◌∙◌}
+use Rattle.std.specs.Prelude.{Err}
+use Rattle.std.proofs.lemmas.Result.{err_from_is_err_and}
 use Rattle.script_server.specs.Replies.{turn_at}
 use Rattle.script_server.proofs.server_line.Goals as goal
 
@@ -9,16 +10,15 @@ returns-then-same_bytes c =
     let a = c.args in
     rw (sym c.same_bytes.ensures ∙ c.if-same_bytes.true) (c.change_line.ensures a.room a.out.now)
 
-pub returns-then-h-ne0 : goal.returns-then-h-ne0
+pub returns-in_err-f : goal.returns-in_err-f
 unfolding turn_at
-returns-then-h-ne0 c =
-    let f = c.handed-f in
+returns-in_err-f c =
     let t = sym c.same_bytes.ensures ∙ c.if-same_bytes.false in
-    rw (t, ← c.subject_served.ensures, ← f.ensures, ne_eqb f.result.handed.fault 0 c.if-h-ne0.true) (record { says = c.unplayed.ensures; texts = refl; buffer = refl })
+    let p = err_from_is_err_and c.from_residual.result c.from_residual.ensures.1 in
+    rw (t, ← c.subject_served.ensures, ← c.handed.ensures, c.in_err-f.was) (record { says = p.1 ∙ ap Err p.2; texts = refl; buffer = refl })
 
 pub returns : goal.returns
 unfolding turn_at
 returns c =
-    let f = c.handed-f in
     let t = sym c.same_bytes.ensures ∙ c.if-same_bytes.false in
-    rw (t, ← c.subject_served.ensures, ← f.ensures, eq-eqb f.result.handed.fault 0 c.if-h-ne0.false, c.played.ensures) (record { clear = refl; replies = c.hand_message.ensures })
+    rw (t, ← c.subject_served.ensures, ← c.handed.ensures, c.in_ok-f.was) c.hand_message.ensures

@@ -19,14 +19,14 @@ store-requires c = let a = c.args in let p = c.requires in
 pub returns-in-Success : goal.returns-in-Success
 returns-in-Success c = let a = c.args in let e = c.store.ensures in
     rw (offered-by a.w.now a.defaults.now (held_of a.words.now a.nulls.now a.texts.now a.versions.now a.edits.now) a.i a.src.now a.new (seen (goal.at.returns-in-Success c).After-judge-verdict ∙ c.in-Success.is))
-    (λ j. record { code = c.status_code.ensures j; held = record { values = e.0 j; edits = e.1 j } })
+    (λ j. record { code = c.from.ensures j; held = record { values = e.0 j; edits = e.1 j } })
 
 pub returns-in-ConstraintError : goal.returns-in-ConstraintError
 returns-in-ConstraintError c = let a = c.args in
     rw (offered-by a.w.now a.defaults.now (held_of a.words.now a.nulls.now a.texts.now a.versions.now a.edits.now) a.i a.src.now a.new (seen (goal.at.returns-in-ConstraintError c).After-judge-verdict ∙ c.in-ConstraintError.is))
-    (λ j. record { code = c.status_code-in-ConstraintError.ensures j; held = held_of a.words.now a.nulls.now a.texts.now a.versions.now a.edits.now })
+    (λ j. record { code = c.from-in-ConstraintError.ensures j; held = held_of a.words.now a.nulls.now a.texts.now a.versions.now a.edits.now })
 
 pub returns-in-InvalidDataType : goal.returns-in-InvalidDataType
 returns-in-InvalidDataType c = let a = c.args in
     rw (offered-by a.w.now a.defaults.now (held_of a.words.now a.nulls.now a.texts.now a.versions.now a.edits.now) a.i a.src.now a.new (seen (goal.at.returns-in-InvalidDataType c).After-judge-verdict ∙ c.in-InvalidDataType.is))
-    (λ j. record { code = c.status_code-in-InvalidDataType.ensures j; held = held_of a.words.now a.nulls.now a.texts.now a.versions.now a.edits.now })
+    (λ j. record { code = c.from-in-InvalidDataType.ensures j; held = held_of a.words.now a.nulls.now a.texts.now a.versions.now a.edits.now })

@@ -10,4 +10,4 @@ returns-in_default c = sym (ap (headed value.Other value_of) (sym c.head.ensures
 
 pub returns : goal.returns
 unfolding value_in
-returns c = c.value.ensures ∙ sym (ap (headed value.Other value_of) (sym c.head.ensures ∙ c.in-Found.is))
+returns c = c.value.ensures ∙ sym (ap (headed value.Other value_of) (sym c.head.ensures ∙ c.in-Some.is))

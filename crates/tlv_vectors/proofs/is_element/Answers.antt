@@ -9,4 +9,4 @@ pub returns-in_default : goal.returns-in_default
 returns-in_default c = let s = c.args.s.now in sym (ap (ends_at (length s)) (broken (element_at depth_limit s 0) (sym c.walk.ensures ∙ c.in_default.is)))
 
 pub returns : goal.returns
-returns c = let s = c.args.s.now in sym (ap (ends_at (length s)) (past (element_at depth_limit s 0) (sym c.walk.ensures ∙ c.in-Past.is)))
+returns c = let s = c.args.s.now in sym (ap (ends_at (length s)) (past (element_at depth_limit s 0) (sym c.walk.ensures ∙ c.in-Some.is)))

@@ -1,9 +1,5 @@
-use Prim.Native.Nat.{◌-◌, ◌≤◌}
 use Rattle.cache_entries.proofs.JoinLaws.{AlongAll}
 use Rattle.cache_entries.proofs.shared.join_all.Given as goal
 
 abbrev pub invariant-loop-i : goal.invariant-loop-i
-invariant-loop-i l = (l.i ≤ l.n) × AlongAll l.keys l.versions l.n l.i l.shares
-
-abbrev pub decreases-loop-i : goal.decreases-loop-i
-decreases-loop-i l = l.n - l.i
+invariant-loop-i l = AlongAll l.keys l.versions l.n l.i l.shares

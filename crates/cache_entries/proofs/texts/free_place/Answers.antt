@@ -1,19 +1,19 @@
-use mathlib.Core.Path.{ap}
-use Prim.Native.Nat.{◌-◌}
-use borrow.Author.Tests.{eq-eqb, ne_eqb}
-use Rattle.node_schema.proofs.SearchLaws.{begin, hit, miss, done}
-use Rattle.cache_entries.specs.Texts.{or_first}
-use borrow.Author.Rules.{rules}
+use Rattle.std.specs.Prelude.{Option, unwrap_or}
+use Rattle.std.specs.List.{position}
+use Rattle.std.proofs.Common.{rules, tests}
+use Rattle.std.proofs.lemmas.Iterator.{YieldsList-from_slice}
+use Rattle.std.proofs.lemmas.Iterator.Search.{position_from_yields_List}
+use mathlib.Core.Path.{◌≡◌, ap, ◌∙◌}
+use mathlib.Core.Bool.{Bool}
+use Prim.Native.Nat.{ℕ}
+use native.Mathlib.Omega.{arith}
+use lib.Dec.{eqb}
+use Rattle.cache_entries.proofs.WalkLaws.{position-first}
 use Rattle.cache_entries.proofs.texts.free_place.Goals as goal
 
-pub loop-p-init : goal.loop-p-init
-loop-p-init c = (search rules, begin _ _)
-
-pub returns-then-marks-p-eq0 : goal.returns-then-marks-p-eq0
-returns-then-marks-p-eq0 c = ap or_first (hit _ _ _ (search rules) c.loop-p.invariant.1 (eq-eqb _ _ c.if-marks-p-eq0.true))
-
-pub loop-p-preserved : goal.loop-p-preserved
-loop-p-preserved c = (search rules, miss _ _ _ (search rules) c.loop-p.invariant.1 (ne_eqb _ _ c.if-marks-p-eq0.false))
-
 pub returns : goal.returns
-returns c = ap or_first (done _ _ _ (search rules) c.loop-p.invariant.1)
+returns c =
+    let marks = c.args.marks.now in
+    let free : ℕ → Bool = λ x. eqb x 0 in
+    let at : c.position.result ≡ position free marks = position_from_yields_List free _ _ c.position.result c.position.ensures.ran (YieldsList-from_slice _ c.iter.ensures.rest) (λ x b q k. search (rules, tests)) in
+    c.unwrap_or.ensures ∙ ap (λ (o : Option ℕ). unwrap_or o 0) at ∙ position-first free marks 256 (omega arith)

@@ -1,28 +1,21 @@
-use Rattle.cache_entries.proofs.ValidLaws.{below}
-use Rattle.cache_entries.specs.Valid.{clusters_right}
-use Rattle.node_schema.proofs.CheckLaws.{every_more, every-fails, every-done}
-use Rattle.node_schema.specs.Check.{every}
-use borrow.Author.Tests.{le-ltb, lt-ltb}
-use borrow.Author.Rules.{rules}
+use Rattle.std.specs.List.{list_all}
+use Rattle.std.proofs.Common.{rules, tests}
+use Rattle.std.proofs.lemmas.Iterator.{YieldsList-from_slice}
+use Rattle.std.proofs.lemmas.Iterator.Search.{all_from_yields_List}
+use mathlib.Core.Path.{◌≡◌, ◌∙◌}
+use mathlib.Core.Bool.{Bool}
+use Prim.Native.Nat.{ℕ}
 use native.Mathlib.Omega.{arith}
-use Prim.Native.Nat.{◌-◌}
-use mathlib.Core.Path.{refl}
+use lib.Dec.{ltb}
+use lib.ListN.{take}
+use Rattle.cache_entries.specs.Valid.{clusters_right}
+use Rattle.cache_entries.proofs.WalkLaws.{all-every}
 use Rattle.cache_entries.proofs.valid.clusters_ok.Goals as goal
-
-pub loop-i-init : goal.loop-i-init
-unfolding every
-loop-i-init c = (search rules, refl)
-
-pub bounds-clusters-i : goal.bounds-clusters-i
-bounds-clusters-i c = omega (arith, c.requires, c.loop-i-test.true)
-
-pub returns-then-clusters-i-ge281474976710656 : goal.returns-then-clusters-i-ge281474976710656
-unfolding clusters_right
-returns-then-clusters-i-ge281474976710656 c = every-fails (below c.args.clusters.now) c.args.n c.loop-i.i c.loop-i-test.true (le-ltb _ _ c.if-clusters-i-ge281474976710656.true)
-
-pub loop-i-preserved : goal.loop-i-preserved
-loop-i-preserved c = (search rules, every_more (below c.args.clusters.now) _ c.loop-i.invariant.1 (lt-ltb _ _ c.if-clusters-i-ge281474976710656.false))
 
 pub returns : goal.returns
 unfolding clusters_right
-returns c = every-done (below c.args.clusters.now) c.args.n c.loop-i.i c.loop-i.invariant.0 c.loop-i-test.false c.loop-i.invariant.1
+returns c =
+    let a = c.args in
+    let short : ℕ → Bool = λ x. ltb x 281474976710656 in
+    let all : c.all.result ≡ list_all short (take a.n a.clusters.now) = all_from_yields_List short _ _ c.all.result c.all.ensures.ran (YieldsList-from_slice _ c.iter.ensures.rest) (λ x b q k. search (rules, tests)) in
+    all ∙ all-every short a.clusters.now a.n (omega (arith, c.requires))

@@ -1,4 +1,3 @@
-use Prim.Native.Nat.{◌-◌, ◌≤◌}
 use mathlib.Core.Path.{◌≡◌}
 use mathlib.Core.Bool.{true}
 use Rattle.node_schema.specs.Check.{every}
@@ -7,7 +6,4 @@ use Rattle.cache_entries.specs.Valid.{text_right_at}
 use Rattle.cache_entries.proofs.valid.texts_ok.Given as goal
 
 abbrev pub invariant-loop-i : goal.invariant-loop-i
-invariant-loop-i l = (l.i ≤ l.n) × Marked l.kinds l.words l.i l.marks × (every (text_right_at l.page l.kinds l.words l.lengths) l.i ≡ true)
-
-abbrev pub decreases-loop-i : goal.decreases-loop-i
-decreases-loop-i l = l.n - l.i
+invariant-loop-i l = Marked l.kinds l.words l.i l.marks × (every (text_right_at l.page l.kinds l.words l.lengths) l.i ≡ true)

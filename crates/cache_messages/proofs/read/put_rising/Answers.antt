@@ -2,11 +2,10 @@ use native.Mathlib.Omega.{arith}
 use Rattle.base_octets.proofs.StoreLaws as Stores
 use Rattle.cache_order.proofs.OrderLaws.{places-at}
 use Rattle.cache_messages.proofs.FilterLaws.{filters-begin, filters-done, filters-more}
-use borrow.Author.Rules.{rules}
 use Rattle.cache_messages.proofs.read.put_rising.Goals as goal
 
 pub loop-j-init : goal.loop-j-init
-loop-j-init c = (search rules, filters-begin _ _ _ _ _ _)
+loop-j-init c = filters-begin _ _ _ _ _ _
 
 pub bounds-order-j : goal.bounds-order-j
 bounds-order-j c = omega (arith, c.requires.1.0, c.loop-j-test.true)
@@ -27,13 +26,13 @@ pub bounds-clusters-k : goal.bounds-clusters-k
 bounds-clusters-k c = omega (arith, places-at c.args.order.now c.args.n c.requires.1.1.0 c.loop-j.j c.loop-j-test.true, c.requires.0)
 
 pub put_filter_for-at-requires : goal.put_filter_for-at-requires
-put_filter_for-at-requires c = omega (arith, c.loop-j.invariant.1.near, c.loop-j-test.true, c.requires.0, c.requires.1.1.1, Stores.same_length c.loop-j.invariant.1.stored)
+put_filter_for-at-requires c = omega (arith, c.loop-j.invariant.near, c.loop-j-test.true, c.requires.0, c.requires.1.1.1, Stores.same_length c.loop-j.invariant.stored)
 
 pub loop-j-preserved : goal.loop-j-preserved
-loop-j-preserved c = let e = c.put_filter_for-at.ensures in (search rules, filters-more _ _ _ _ c.loop-j.invariant.1 c.loop-j-test.true e.0 e.1)
+loop-j-preserved c = let e = c.put_filter_for-at.ensures in filters-more _ _ _ _ c.loop-j.invariant c.loop-j-test.true e.0 e.1
 
 pub shape_of-out : goal.shape_of-out
-shape_of-out c = Stores.same_length c.loop-j.invariant.1.stored
+shape_of-out c = Stores.same_length c.loop-j.invariant.stored
 
 pub returns : goal.returns
-returns c = (filters-done _ _ _ _ c.loop-j.invariant.1 c.loop-j-test.false, omega (arith, c.loop-j.invariant.1.near, c.loop-j.invariant.0, c.requires.0))
+returns c = (filters-done _ _ _ _ c.loop-j.invariant c.loop-j-test.false, omega (arith, c.loop-j.invariant.near, c.requires.0))

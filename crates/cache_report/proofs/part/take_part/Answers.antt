@@ -1,7 +1,5 @@
 use mathlib.Core.Path.{sym, ◌∙◌}
 use mathlib.Core.Bool.{Bool, false}
-use Prim.Native.Nat.{◌-◌}
-use native.Mathlib.Omega.{arith}
 use borrow.Author.Rules.{rules}
 use Rattle.cache_entries.proofs.ValidLaws.{held-right, right-held}
 use Rattle.cache_report.proofs.JudgementLaws.{first_word}
@@ -16,9 +14,6 @@ loop-j-init c = let a = c.args in let p = c.requires.1 in (c.mark_places.ensures
 
 pub set_block-so-requires : goal.set_block-so-requires
 set_block-so-requires c = let a = c.args in let l = c.loop-j in let t = l.invariant.1 in let here : (primed : Bool) → _ = λ primed. next a.s.now a.blocks.now a.positions.now a.count _ _ _ _ l.j (t primed) c.loop-j-test.true _ _ (first_word a.blocks.now l.j) c.value_in-v.ensures in (λ primed. right-held _ _ (t primed).good.right, (λ primed. (t primed).good.whole, (l.invariant.0, ((here false).first, ((here false).usable, ((here false).short, λ primed. (here primed).position))))))
-
-pub overflow_add-j-in-loop-j-2 : goal.overflow_add-j-in-loop-j-2
-overflow_add-j-in-loop-j-2 c = omega (arith, c.loop-j-test.true, c.requires.0)
 
 pub loop-j-preserved : goal.loop-j-preserved
 loop-j-preserved c = let a = c.args in let l = c.loop-j in let e = c.set_block-so.ensures in (e.1.1.0, λ primed. taking-next a.s.now a.blocks.now a.positions.now a.count _ _ _ _ l.j (l.invariant.1 primed) c.loop-j-test.true e.1.1.1 _ _ (first_word a.blocks.now l.j) c.value_in-v.ensures _ _ (e.0 primed) e.1.0)

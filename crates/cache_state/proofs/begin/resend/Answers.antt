@@ -1,6 +1,6 @@
 use mathlib.Core.Path.{◌≡◌, sym, ap, subst, ◌∙◌}
 use mathlib.Core.Bool.{true, ◌&&◌}
-use Prim.Native.Nat.{◌-◌, ◌≤◌}
+use Prim.Native.Nat.{◌≤◌}
 use native.Mathlib.Omega.{arith}
 use lib.ListN.{length, take}
 use borrow.Author.Tests.{lt-ltb, le-ltb}
@@ -14,7 +14,6 @@ use Rattle.cache_state.specs.Words.{words_right}
 use Rattle.cache_state.specs.Begin.{resends}
 use Rattle.cache_state.proofs.StateLaws.{right-asked, broken}
 use Rattle.cache_state.proofs.ReactLaws.{same-reaction, refused_as, resent-as}
-use borrow.Author.Rules.{rules}
 use Rattle.cache_state.proofs.begin.resend.Goals as goal
 use Rattle.cache_state.proofs.begin.resend.Goals.{After-cache_ok, After-is_open, Else-not-cache_ok}
 

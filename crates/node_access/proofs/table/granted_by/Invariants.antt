@@ -1,5 +1,4 @@
 use mathlib.Core.Path.{◌≡◌}
-use Prim.Native.Nat.{◌≤◌, ◌-◌}
 use lib.ListN.{length}
 use Rattle.base_bounds.specs.Bounds.{cluster_limit}
 use Rattle.node_schema.specs.Rows.{count_of_clusters}
@@ -7,7 +6,4 @@ use Rattle.node_access.proofs.SearchLaws.{up_to}
 use Rattle.node_access.proofs.table.granted_by.Given as goal
 
 abbrev pub invariant-loop-i : goal.invariant-loop-i
-invariant-loop-i l = (l.i ≤ l.n) × (l.n ≡ count_of_clusters l.w) × (length l.initial.level ≡ cluster_limit) × (l.level ≡ up_to (record { level = l.initial.level }) l.e l.subject l.w l.i)
-
-abbrev pub decreases-loop-i : goal.decreases-loop-i
-decreases-loop-i l = l.n - l.i
+invariant-loop-i l = (l.n ≡ count_of_clusters l.w) × (length l.initial.level ≡ cluster_limit) × (l.level ≡ up_to (record { level = l.initial.level }) l.e l.subject l.w l.i)

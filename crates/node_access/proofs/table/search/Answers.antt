@@ -8,7 +8,7 @@ use Rattle.node_access.proofs.table.search.Goals as goal
 pub loop-i-init : goal.loop-i-init
 loop-i-init c =
     let a = c.args in
-    (omega arith, c.begin-access.ensures ∙ search-begin a.count a.table.now a.subject a.w.now _ c.used-i.ensures)
+    c.begin-access.ensures ∙ search-begin a.count a.table.now a.subject a.w.now _ c.used-n.ensures
 
 step_down : (n : ℕ) (es : List AccessEntry) (s : ℕ) (w : List ℕ) (i : ℕ) (d : AccessEntry) (a r : Access) → 0 < i → i ≤ min n (length es) → a ≡ reached n es s w i → r ≡ with_entry a (get_or es (i - 1) d) s w → r ≡ reached n es s w (i - 1)
 step_down n es s w i d a r p h at is =
@@ -19,10 +19,10 @@ pub loop-i-preserved : goal.loop-i-preserved
 loop-i-preserved c =
     let a = c.args in
     let l = c.loop-i in
-    (omega arith, step_down a.count a.table.now a.subject a.w.now l.i _ l.access _ c.loop-i-test.true l.invariant.0 l.invariant.1 c.with_entry-access.ensures)
+    step_down a.count a.table.now a.subject a.w.now l.i _ l.access _ c.loop-i-test.true (omega arith) l.invariant c.with_entry-access.ensures
 
 pub returns : goal.returns
 returns c =
     let a = c.args in
     let e : c.loop-i.i ≡ 0 = omega arith in
-    c.loop-i.invariant.1 ∙ ap (reached a.count a.table.now a.subject a.w.now) e ∙ search-end a.count a.table.now a.subject a.w.now
+    c.loop-i.invariant ∙ ap (reached a.count a.table.now a.subject a.w.now) e ∙ search-end a.count a.table.now a.subject a.w.now

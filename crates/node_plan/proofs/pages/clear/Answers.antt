@@ -1,24 +1,14 @@
-use mathlib.Core.Path.{refl, sym, ◌∙◌}
-use Prim.Native.Nat.{◌-◌}
-use borrow.Author.Rules.{rules}
-use lib.ListN.{length-set}
-use Rattle.node_plan.proofs.PageLaws.{clear-turn, clear-done}
+use mathlib.Core.Path.{ap, ◌∙◌}
+use Prim.Native.Nat.{ℕ, ◌-◌}
+use native.Mathlib.Omega.{arith}
+use lib.ListN.{drop, replicate, length-take, length-drop, length-replicate}
+use Rattle.base_octets.proofs.MidLaws.{store-mid}
 use Rattle.node_plan.proofs.pages.clear.Goals as goal
-
-pub loop-i-init : goal.loop-i-init
-loop-i-init c = (search rules, (refl, refl))
-
-pub loop-i-preserved : goal.loop-i-preserved
-loop-i-preserved c =
-    let a = c.args in
-    let l = c.loop-i in
-    (search rules, (simp length-set l.invariant.1.0, l.invariant.1.1 ∙ clear-turn l.b l.i a.to (search rules)))
-
-pub shape_of-b : goal.shape_of-b
-shape_of-b c = c.loop-i.invariant.1.0
 
 pub returns : goal.returns
 returns c =
     let a = c.args in
-    let l = c.loop-i in
-    sym (l.invariant.1.1 ∙ clear-done l.b l.i a.to (search rules))
+    let z = c.fill.ensures.after (λ y h. h) in
+    let k = a.to - a.from in
+    store-mid a.b.now a.from k (replicate k 0) c.fill.new.self (omega arith) (length-replicate k 0)
+    (z ∙ ap (λ (n : ℕ). replicate n 0) (omega (arith, length-take k (drop a.from a.b.now), length-drop a.from a.b.now)))

@@ -1,9 +1,6 @@
-use Rattle.std.proofs.Common.{◌≡◌, ◌-◌, ◌≤◌, true}
+use Rattle.std.proofs.Common.{◌≡◌, ◌≤◌, true}
 use Rattle.node_schema.specs.Check.{rank as rank_of, all_ranks}
 use Rattle.node_schema.proofs.check.all_ranks.Given as goal
 
 abbrev pub invariant-loop-i : goal.invariant-loop-i
-invariant-loop-i l = (l.i ≤ l.n) × (l.rank ≤ l.i) × (l.rank ≡ rank_of l.w l.i) × (all_ranks l.w l.i ≡ true)
-
-abbrev pub decreases-loop-i : goal.decreases-loop-i
-decreases-loop-i l = l.n - l.i
+invariant-loop-i l = (l.rank ≤ l.i) × (l.rank ≡ rank_of l.w l.i) × (all_ranks l.w l.i ≡ true)

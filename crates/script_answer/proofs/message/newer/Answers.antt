@@ -7,4 +7,4 @@ returns-then-len-eq0 c = rw (eq-eqb c.args.len 0 c.if-len-eq0.true)
 
 pub returns : goal.returns
 unfolding zeros
-returns c = rw (ne_eqb c.args.len 0 c.if-len-eq0.false, c.put_bytes.ensures.content, c.least.ensures.value)
+returns c = rw (ne_eqb c.args.len 0 c.if-len-eq0.false, c.put_bytes.ensures.content, c.min.ensures)

@@ -1,5 +1,4 @@
 use mathlib.Core.Path.{refl}
-use Prim.Native.Nat.{◌-◌}
 use native.Mathlib.Numerals.{add-one}
 use native.Mathlib.Omega.{arith}
 use lib.ListN.{take}
@@ -10,27 +9,27 @@ use Rattle.script_answer.specs.Text.{hex_text}
 use Rattle.script_answer.proofs.TextLaws.{length-hex, hex-more}
 use Rattle.script_answer.proofs.text.put_bytes.Goals as goal
 
-pub loop-i-init : goal.loop-i-init
+pub loop-x-init : goal.loop-x-init
 unfolding store hex_text
-loop-i-init c = (omega arith, record { content = refl; place = omega arith })
+loop-x-init c = record { content = refl; place = omega arith }
 
 pub put_byte-next-requires : goal.put_byte-next-requires
 put_byte-next-requires c =
     let bytes = c.args.bytes.now in
-    let l = c.loop-i in
-    omega (arith, l.invariant.1.place, length-hex (take l.i bytes), length-take-le l.i bytes l.invariant.0, stays l.invariant.1)
+    let l = c.loop-x in
+    omega (arith, l.invariant.place, length-hex (take l.x-index bytes), length-take-le l.x-index bytes (omega arith), stays l.invariant)
 
-pub loop-i-preserved : goal.loop-i-preserved
-loop-i-preserved c =
+pub loop-x-preserved : goal.loop-x-preserved
+loop-x-preserved c =
     let bytes = c.args.bytes.now in
-    let l = c.loop-i in
-    (omega arith, rw (add-one, hex-more bytes l.i (omega arith)) (then l.invariant.1 c.put_byte-next.ensures))
+    let l = c.loop-x in
+    rw (add-one, hex-more bytes l.x-index (omega arith)) (then l.invariant c.put_byte-next.ensures)
 
 pub shape_of-text : goal.shape_of-text
-shape_of-text c = stays c.loop-i.invariant.1
+shape_of-text c = stays c.loop-x.invariant
 
 pub returns : goal.returns
 returns c =
     let bytes = c.args.bytes.now in
-    let l = c.loop-i in
-    rw (take_all l.i bytes (omega arith)) at l.invariant.1
+    let l = c.loop-x in
+    rw (take_all l.x-index bytes (omega arith)) at l.invariant

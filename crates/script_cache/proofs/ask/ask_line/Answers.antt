@@ -1,5 +1,4 @@
 use mathlib.Core.Path.{refl, sym, ◌∙◌}
-use Rattle.base_octets.specs.Store.{store}
 use Rattle.script_cache.specs.Asks.{ask_shown}
 use Rattle.script_cache.proofs.ask.ask_line.Goals as goal
 
@@ -30,7 +29,7 @@ returns-then-same_bytes-4 c =
     rw (t, u, v, sym c.same_bytes-4.ensures ∙ c.if-same_bytes-4.true) c.unknown_line.ensures
 
 pub returns : goal.returns
-unfolding ask_shown store
+unfolding ask_shown
 returns c =
     let t = sym c.same_bytes.ensures ∙ c.if-same_bytes.false in
     let u = sym c.same_bytes-2.ensures ∙ c.if-same_bytes-2.false in

@@ -1,12 +1,11 @@
 use mathlib.Core.Path.{refl, sym, ◌∙◌}
-use Rattle.base_octets.specs.Store.{store}
 use Rattle.script_cache.specs.Asks.{entry_at}
 use Rattle.script_cache.specs.Lines.{state_of}
 use Rattle.script_cache.proofs.EntryLaws.{showable}
 use Rattle.script_cache.proofs.ask.entry_line.Goals as goal
 
 pub returns-then-not-is_done : goal.returns-then-not-is_done
-unfolding entry_at store
+unfolding entry_at
 returns-then-not-is_done c =
     let p = c.read_path-a.ensures in
     let d = c.is_done in

@@ -1,10 +1,9 @@
 use mathlib.Core.Path.{refl, sym, ◌∙◌}
-use Rattle.base_octets.specs.Store.{store}
 use Rattle.script_cache.specs.Asks.{outcome_at}
 use Rattle.script_cache.proofs.ask.outcome_line.Goals as goal
 
 pub returns-then-not-is_done : goal.returns-then-not-is_done
-unfolding outcome_at store
+unfolding outcome_at
 returns-then-not-is_done c =
     let d = c.is_done in
     rw (sym d.ensures ∙ c.if-not-is_done.true) (record { line = refl; content = refl })

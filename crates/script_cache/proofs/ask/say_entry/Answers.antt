@@ -4,7 +4,7 @@ use native.Mathlib.Nat.{zero-add}
 use Rattle.base_octets.specs.Store.{store}
 use Rattle.base_octets.proofs.StoreLaws.{then}
 use Rattle.im_writer.specs.Envelope.{big_octets}
-use Rattle.script_answer.specs.declared.LineSaid.TheVariants.{Line}
+use Rattle.script_answer.specs.Messages.{answer}
 use Rattle.script_cache.proofs.EntryLaws.{untagged-bound}
 use Rattle.script_cache.proofs.ask.say_entry.Goals as goal
 
@@ -29,4 +29,4 @@ returns-in-Here c =
     let s = rw c.in-Here.is at c.requires in
     let w = rw (c.held-shown.ensures.same s.0) at c.put_value-len.ensures in
     let t = then (record { content = c.put_version.ensures; place = refl }) w in
-    rw c.in-Here.is (record { line = c.said-in-Here.ensures ∙ ap (Line 0) (t.place ∙ zero-add _); content = t.content })
+    rw c.in-Here.is (record { line = c.said-in-Here.ensures ∙ ap (answer 0) (t.place ∙ zero-add _); content = t.content })

@@ -1,10 +1,9 @@
 use mathlib.Core.Path.{refl, sym, ◌∙◌}
-use Rattle.base_octets.specs.Store.{store}
 use Rattle.script_cache.specs.Asks.{whole_at}
 use Rattle.script_cache.proofs.ask.whole_line.Goals as goal
 
 pub returns-then-not-is_done : goal.returns-then-not-is_done
-unfolding whole_at store
+unfolding whole_at
 returns-then-not-is_done c =
     let p = c.read_place-a.ensures in
     let d = c.is_done in

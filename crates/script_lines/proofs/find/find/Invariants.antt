@@ -1,13 +1,6 @@
-use Rattle.std.proofs.Common.{◌-◌, ◌≡◌, ◌+◌, ◌≤◌}
+use Rattle.std.proofs.Common.{◌≡◌, ◌+◌}
 use Rattle.script_lines.specs.Find.{index_of, slice}
 use Rattle.script_lines.proofs.find.find.Given as goal
 
 abbrev pub invariant-loop-i : goal.invariant-loop-i
-invariant-loop-i l = record {
-  from : l.at ≤ l.i;
-  to : l.i ≤ l.end;
-  same : l.at + index_of l.b (slice l.at l.end l.s) ≡ l.i + index_of l.b (slice l.i l.end l.s);
-}
-
-abbrev pub decreases-loop-i : goal.decreases-loop-i
-decreases-loop-i l = l.end - l.i
+invariant-loop-i l = l.at + index_of l.b (slice l.at l.end l.s) ≡ l.i + index_of l.b (slice l.i l.end l.s)

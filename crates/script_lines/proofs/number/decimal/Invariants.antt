@@ -1,11 +1,7 @@
 use mathlib.Core.Path.{◌≡◌}
 use Rattle.script_lines.specs.Numbers.{decimal_from}
-use Prim.Native.Nat.{◌≤◌, ◌-◌}
-use lib.ListN.{length, drop}
+use lib.ListN.{drop}
 use Rattle.script_lines.proofs.number.decimal.Given as goal
 
-abbrev pub invariant-loop-i : goal.invariant-loop-i
-invariant-loop-i l = (l.i ≤ length l.w) × (decimal_from l.n (drop l.i l.w) ≡ decimal_from 0 l.w)
-
-abbrev pub decreases-loop-i : goal.decreases-loop-i
-decreases-loop-i l = length l.w - l.i
+abbrev pub invariant-loop-c : goal.invariant-loop-c
+invariant-loop-c l = decimal_from l.n (drop l.c-index l.w) ≡ decimal_from 0 l.w

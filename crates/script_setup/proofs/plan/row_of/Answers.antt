@@ -1,4 +1,5 @@
 use Rattle.script_setup.specs.Schema.{row_of}
+use native.Mathlib.Omega.{arith}
 use borrow.Author.Rules.{rules}
 use Rattle.script_setup.proofs.plan.row_of.Goals as goal
 
@@ -8,4 +9,4 @@ returns-in_default c = record { value = rw (← c.find_cluster.ensures, c.in_def
 
 pub returns : goal.returns
 unfolding row_of
-returns c = record { value = rw (← c.find_cluster.ensures, c.in-At.is) c.least.ensures.value; upper_bound = c.least.ensures.upper_bound.1 }
+returns c = record { value = rw (← c.find_cluster.ensures, c.in-Some.is) c.min.ensures; upper_bound = omega (arith, c.min.ensures) }

@@ -8,4 +8,4 @@ returns-then-edition c = rw (ne_eqb _ _ c.if-edition.true)
 
 pub returns : goal.returns
 unfolding for_server
-returns c = rw (eq-eqb _ _ c.if-edition.false) c.server_takes.ensures
+returns c = rw (eq-eqb _ _ c.if-edition.false) c.is_taken.ensures

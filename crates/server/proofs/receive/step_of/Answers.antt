@@ -1,9 +1,7 @@
 use mathlib.Core.Path.{◌≡◌, sym, ap, ◌∙◌}
 use mathlib.Core.Bool.{true, false}
-use Rattle.im_requests.specs.Status.{response_in}
 use Rattle.im_exchange.specs.Rules.{beginning}
 use Rattle.server.specs.Receive.{by_status, step_of}
-use Rattle.server.proofs.StepLaws.{was-code, was-bad}
 use Rattle.server.proofs.receive.step_of.Goals as goal
 
 pub returns-then-begins : goal.returns-then-begins
@@ -12,8 +10,8 @@ returns-then-begins c = let q : beginning c.args.action ≡ true = sym c.begins.
 
 pub returns-in_default : goal.returns-in_default
 unfolding step_of
-returns-in_default c = let q : beginning c.args.action ≡ false = sym c.begins.ensures ∙ c.if-begins.false in rw q (sym (ap (by_status c.args.x c.args.e) (was-bad (response_in c.args.payload.now) (sym c.status_response.ensures ∙ c.in_default.is))))
+returns-in_default c = let q : beginning c.args.action ≡ false = sym c.begins.ensures ∙ c.if-begins.false in rw q (sym (ap (by_status c.args.x c.args.e) (sym c.status_response.ensures ∙ c.in_default.is)))
 
 pub returns : goal.returns
 unfolding step_of
-returns c = let q : beginning c.args.action ≡ false = sym c.begins.ensures ∙ c.if-begins.false in rw q (c.on_status.ensures ∙ sym (ap (by_status c.args.x c.args.e) (was-code (response_in c.args.payload.now) (sym c.status_response.ensures ∙ c.in-Code.is))))
+returns c = let q : beginning c.args.action ≡ false = sym c.begins.ensures ∙ c.if-begins.false in rw q (c.on_status.ensures ∙ sym (ap (by_status c.args.x c.args.e) (sym c.status_response.ensures ∙ c.in-Some.is)))

@@ -1,6 +1,6 @@
 use mathlib.Core.Path.{◌≡◌, refl}
 use mathlib.Core.List.{List, ◌++◌}
-use Prim.Native.Nat.{◌+◌, ◌-◌}
+use Prim.Native.Nat.{◌+◌}
 use native.Mathlib.Omega.{arith}
 use Rattle.server_selection.specs.Request.{asked_paths}
 use Rattle.server_selection.proofs.RequestLaws.{paths-count, paths-here}
@@ -49,12 +49,6 @@ overflow_sub-room c = omega (arith, c.fill_path-f.ensures.stored.place)
 
 pub overflow_sub-room-in-loop-path : goal.overflow_sub-room-in-loop-path
 overflow_sub-room-in-loop-path c = omega (arith, end-within c.fill_path-f.ensures)
-
-pub overflow_add-path : goal.overflow_add-path
-overflow_add-path c = omega (arith, c.requires.1.0, c.loop-path-test.true)
-
-pub loop-path-smaller : goal.loop-path-smaller
-loop-path-smaller c = omega (arith, c.loop-path-test.true)
 
 pub loop-path-preserved : goal.loop-path-preserved
 loop-path-preserved c =

@@ -1,6 +1,6 @@
 use mathlib.Core.Path.{◌≡◌}
 use mathlib.Core.List.{List}
-use Prim.Native.Nat.{ℕ, ◌+◌, ◌-◌}
+use Prim.Native.Nat.{ℕ, ◌+◌}
 use lib.ListN.{length}
 use Rattle.server_report.specs.declared.Filled.{Filled}
 use Rattle.server_selection.specs.Request.{asked_paths}
@@ -17,6 +17,3 @@ invariant-loop-path l =
     × ((length l.out ≡ length l.initial.out)
     × ((new : List ℕ) (r : Filled) → Filling l.out l.end l.room l.place (ahead (seen l.w l.words l.nulls l.texts l.versions l.defaults l.edits (record { level = l.level }) l.skips) (asked_paths l.row l.asked) l.path l.i) new r →
     Filling l.initial.out l.start block_room l.initial.place (blocks_from (seen l.w l.words l.nulls l.texts l.versions l.defaults l.edits (record { level = l.level }) l.skips) (asked_paths l.row l.asked) l.initial.place) new r))
-
-abbrev pub decreases-loop-path : goal.decreases-loop-path
-decreases-loop-path l = l.asked - l.path

@@ -1,10 +1,9 @@
 use mathlib.Core.Path.{refl, sym, ◌∙◌}
-use Prim.Native.Nat.{◌+◌, ◌-◌, ◌<◌}
+use Prim.Native.Nat.{◌+◌, ◌<◌}
 use native.Mathlib.Omega.{arith}
-use Rattle.base_bounds.specs.Bounds.{attribute_limit}
 use Rattle.server_selection.specs.Items.{span}
 use Rattle.server_report.specs.Blocks.{View, start_of, path_blocks}
-use Rattle.server_report.proofs.BlockLaws.{value-index, span-most, places-done, places-none}
+use Rattle.server_report.proofs.BlockLaws.{value-index, places-done, places-none}
 use Rattle.server_report.proofs.FillLaws.{seen, fill-ends, filling-of, Turn, turn}
 use Rattle.server_report.proofs.part.fill_path.Goals as goal
 use Rattle.server_report.proofs.part.fill_path.Goals.{After-offer_item-next, In-loop-i}
@@ -15,10 +14,6 @@ view c = let a = c.args in seen a.w.now a.words.now a.nulls.now a.texts.now a.ve
 -- in the loop, the place is one of its path's
 inside : (c : In-loop-i) → c.loop-i.i < span c.args.w.now c.args.p
 inside c = omega (arith, c.span_of-span.ensures, c.loop-i-test.true)
-
--- and there are at most 256
-small : (c : In-loop-i) → c.loop-i.i < attribute_limit
-small c = omega (arith, inside c, span-most c.args.w.now c.args.p)
 
 -- what offering the block at a place came to
 turned : (c : After-offer_item-next) →
@@ -36,12 +31,6 @@ loop-i-init c = (refl, (refl, λ new r x. x))
 
 pub item_at-x-requires : goal.item_at-x-requires
 item_at-x-requires c = (c.requires.0, inside (goal.at.item_at-x-requires c).In-loop-i)
-
-pub overflow_add-i : goal.overflow_add-i
-overflow_add-i c = omega (arith, small (goal.at.overflow_add-i c).In-loop-i)
-
-pub loop-i-smaller-then-is_nothing : goal.loop-i-smaller-then-is_nothing
-loop-i-smaller-then-is_nothing c = omega (arith, c.loop-i-test.true)
 
 pub loop-i-preserved-then-is_nothing : goal.loop-i-preserved-then-is_nothing
 loop-i-preserved-then-is_nothing c =
@@ -61,14 +50,8 @@ returns-then-next-end c = c.loop-i.invariant.1.1 _ _ ((turned (goal.at.returns-t
 pub overflow_sub-left : goal.overflow_sub-left
 overflow_sub-left c = omega (arith, (turned (goal.at.overflow_sub-left c).After-offer_item-next).low)
 
-pub overflow_sub-left-else-is_nothing : goal.overflow_sub-left-else-is_nothing
-overflow_sub-left-else-is_nothing c = omega (arith, (turned (goal.at.overflow_sub-left-else-is_nothing c).After-offer_item-next).high)
-
-pub overflow_add-i-else-is_nothing : goal.overflow_add-i-else-is_nothing
-overflow_add-i-else-is_nothing c = omega (arith, small (goal.at.overflow_add-i-else-is_nothing c).In-loop-i)
-
-pub loop-i-smaller : goal.loop-i-smaller
-loop-i-smaller c = omega (arith, c.loop-i-test.true)
+pub overflow_sub-left-in-loop-i : goal.overflow_sub-left-in-loop-i
+overflow_sub-left-in-loop-i c = omega (arith, (turned (goal.at.overflow_sub-left-in-loop-i c).After-offer_item-next).high)
 
 pub loop-i-preserved : goal.loop-i-preserved
 loop-i-preserved c =

@@ -1,27 +1,20 @@
-use mathlib.Core.Path.{refl, ap, ◌∙◌}
-use Prim.Native.Nat.{◌-◌}
+use mathlib.Core.Path.{◌≡◌, ap, ◌∙◌}
+use Prim.Native.Nat.{ℕ}
 use native.Mathlib.Omega.{arith}
-use lib.ListN.{length-set}
-use Rattle.base_octets.specs.Store.{store}
+use lib.ListN.{length, take, drop, replicate, length-take, length-drop}
+use Rattle.base_bounds.specs.Bounds.{cluster_limit}
+use Rattle.base_octets.proofs.MidLaws.{store-mid}
 use Rattle.node_schema.specs.Rows.{rows_from}
+use Rattle.node_schema.proofs.RowLaws.{rows-length}
 use Rattle.server_selection.specs.Request.{filters_at}
 use Rattle.server_selection.specs.Filters.{unfiltered}
-use Rattle.server_selection.proofs.RequestLaws.{word-stored}
-use borrow.Author.Rules.{rules}
+use Rattle.server_selection.proofs.PutLaws.{rows-same_word}
 use Rattle.server_selection.proofs.filters.clear_filters.Goals as goal
 
-pub loop-k-init : goal.loop-k-init
-unfolding store rows_from
-loop-k-init c = (search rules, (refl, refl))
-
-pub bounds-row-k : goal.bounds-row-k
-bounds-row-k c = omega (arith, c.loop-k.invariant.1.0, c.requires, c.loop-k-test.true)
-
-pub loop-k-preserved : goal.loop-k-preserved
-loop-k-preserved c = let l = c.loop-k in (search rules, (length-set l.row _ _ ∙ l.invariant.1.0, word-stored c.args.row.now l.row filters_at (λ i. unfiltered) l.k _ l.invariant.1.1 refl))
-
-pub shape_of-row : goal.shape_of-row
-shape_of-row c = c.loop-k.invariant.1.0
-
 pub returns : goal.returns
-returns c = let l = c.loop-k in l.invariant.1.1 ∙ ap (λ k. store c.args.row.now filters_at (rows_from (λ i. unfiltered) k 0)) (omega (arith, l.invariant.0, c.loop-k-test.false))
+returns c =
+    let row = c.args.row.now in
+    let z = c.fill.ensures.after (λ y h. h) in
+    let n : length (take cluster_limit (drop filters_at row)) ≡ cluster_limit = omega (arith, length-take cluster_limit (drop filters_at row), length-drop filters_at row) in
+    store-mid row filters_at cluster_limit (rows_from (λ k. unfiltered) cluster_limit 0) c.fill.new.self (omega arith) (rows-length (λ (k : ℕ). unfiltered) cluster_limit 0)
+    (z ∙ ap (λ (n : ℕ). replicate n unfiltered) n ∙ rows-same_word unfiltered cluster_limit 0)

@@ -1,5 +1,4 @@
 use mathlib.Core.Path.{◌≡◌}
-use Prim.Native.Nat.{◌≤◌, ◌-◌}
 use lib.ListN.{length}
 use Rattle.base_octets.specs.Store.{store}
 use Rattle.server_selection.specs.Request.{filters_at}
@@ -7,7 +6,4 @@ use Rattle.server_selection.specs.Filters.{filter_words, version_filter_list}
 use Rattle.server_selection.proofs.filters.put_filters.Given as goal
 
 abbrev pub invariant-loop-i : goal.invariant-loop-i
-invariant-loop-i l = (l.i ≤ l.n) × ((length l.row ≡ length l.initial.row) × (l.row ≡ store l.initial.row filters_at (filter_words l.w (version_filter_list l.filters l.i))))
-
-abbrev pub decreases-loop-i : goal.decreases-loop-i
-decreases-loop-i l = l.n - l.i
+invariant-loop-i l = (length l.row ≡ length l.initial.row) × (l.row ≡ store l.initial.row filters_at (filter_words l.w (version_filter_list l.filters l.i)))

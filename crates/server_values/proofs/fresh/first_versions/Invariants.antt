@@ -1,11 +1,7 @@
 use mathlib.Core.Path.{◌≡◌}
-use Prim.Native.Nat.{◌≤◌, ◌-◌}
 use Rattle.base_bounds.specs.Bounds.{cluster_limit}
 use Rattle.node_schema.specs.Rows.{cluster_row, count_of_clusters, filled}
 use Rattle.server_values.proofs.fresh.first_versions.Given as goal
 
 abbrev pub invariant-loop-i : goal.invariant-loop-i
-invariant-loop-i l = (l.i ≤ l.n) × (l.n ≡ count_of_clusters l.w) × (l.versions ≡ filled 0 (λ k. (cluster_row l.w k).version) cluster_limit l.i)
-
-abbrev pub decreases-loop-i : goal.decreases-loop-i
-decreases-loop-i l = l.n - l.i
+invariant-loop-i l = (l.n ≡ count_of_clusters l.w) × (l.versions ≡ filled 0 (λ k. (cluster_row l.w k).version) cluster_limit l.i)

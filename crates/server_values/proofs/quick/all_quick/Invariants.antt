@@ -1,6 +1,6 @@
 use mathlib.Core.Path.{◌≡◌}
 use mathlib.Core.Bool.{true}
-use Prim.Native.Nat.{◌≤◌, ◌-◌}
+use Prim.Native.Nat.{◌≤◌}
 use Rattle.node_schema.specs.Rows.{count_of_attributes}
 use Rattle.node_schema.specs.Check.{every, rank as rank_of}
 use Rattle.server_values.specs.Quick.{quick_at}
@@ -8,7 +8,4 @@ use Rattle.server_values.proofs.quick.all_quick.Given as goal
 
 abbrev pub invariant-loop-i : goal.invariant-loop-i
 invariant-loop-i l =
-    (l.i ≤ l.n) × (l.rank ≤ l.i) × (l.n ≡ count_of_attributes l.w) × (l.rank ≡ rank_of l.w l.i) × (every (quick_at l.w l.words l.nulls l.texts l.len) l.i ≡ true)
-
-abbrev pub decreases-loop-i : goal.decreases-loop-i
-decreases-loop-i l = l.n - l.i
+    (l.rank ≤ l.i) × (l.n ≡ count_of_attributes l.w) × (l.rank ≡ rank_of l.w l.i) × (every (quick_at l.w l.words l.nulls l.texts l.len) l.i ≡ true)

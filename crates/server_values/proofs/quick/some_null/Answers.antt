@@ -1,8 +1,7 @@
 use mathlib.Core.Path.{◌≡◌, refl, ap, ◌∙◌}
 use mathlib.Core.Bool.{Bool, false, ◌||◌}
-use Prim.Native.Nat.{ℕ, ◌-◌}
+use Prim.Native.Nat.{ℕ}
 use native.Mathlib.Omega.{arith}
-use borrow.Author.Rules.{rules}
 use lib.ListN.{get_or}
 use Rattle.node_schema.specs.Check.{every}
 use Rattle.server_values.specs.Quick.{some, some_null}
@@ -11,17 +10,17 @@ use Rattle.server_values.proofs.quick.some_null.Goals as goal
 
 pub loop-i-init : goal.loop-i-init
 unfolding some every
-loop-i-init c = (search rules, refl)
+loop-i-init c = refl
 
 pub loop-i-preserved : goal.loop-i-preserved
 loop-i-preserved c =
     let a = c.args in
     let l = c.loop-i in
     let p : ℕ → Bool = λ k. get_or a.nulls.now k false in
-    (search rules, ap (λ (b : Bool). b || p l.i) l.invariant.1 ∙ some_turn p l.i)
+    ap (λ (b : Bool). b || p l.i) l.invariant ∙ some_turn p l.i
 
 pub returns : goal.returns
 returns c =
     let a = c.args in
     let e : c.loop-i.i ≡ a.n = omega arith in
-    c.loop-i.invariant.1 ∙ ap (some_null a.nulls.now) e
+    c.loop-i.invariant ∙ ap (some_null a.nulls.now) e

@@ -1,6 +1,5 @@
 use mathlib.Core.Path.{refl, sym, ◌∙◌}
 use mathlib.Core.Bool.{false}
-use Prim.Native.Nat.{◌-◌}
 use borrow.Author.Rules.{rules}
 use lib.ListN.{get_or}
 use Rattle.node_schema.specs.Check.{every}
@@ -11,7 +10,7 @@ use Rattle.server_values.proofs.valid.all_texts.Goals as goal
 
 pub loop-i-init : goal.loop-i-init
 unfolding every
-loop-i-init c = (search rules, c.attribute_count-n.ensures, refl)
+loop-i-init c = (c.attribute_count-n.ensures, refl)
 
 pub returns-then-not-text_ok : goal.returns-then-not-text_ok
 returns-then-not-text_ok c =
@@ -22,9 +21,9 @@ pub loop-i-preserved : goal.loop-i-preserved
 loop-i-preserved c =
     let a = c.args in
     let l = c.loop-i in
-    (search rules, l.invariant.1, every_more (λ k. shown_at a.w.now a.defaults.now a.edits.now k (get_or a.nulls.now k false) (mark_at a.w.now a.texts.now k)) _ l.invariant.2 (sym c.text_ok.ensures ∙ c.if-not-text_ok.false))
+    (l.invariant.0, every_more (λ k. shown_at a.w.now a.defaults.now a.edits.now k (get_or a.nulls.now k false) (mark_at a.w.now a.texts.now k)) _ l.invariant.1 (sym c.text_ok.ensures ∙ c.if-not-text_ok.false))
 
 pub returns : goal.returns
 returns c =
     let a = c.args in
-    every-done (λ k. shown_at a.w.now a.defaults.now a.edits.now k (get_or a.nulls.now k false) (mark_at a.w.now a.texts.now k)) _ _ (search rules) (search rules) c.loop-i.invariant.2
+    every-done (λ k. shown_at a.w.now a.defaults.now a.edits.now k (get_or a.nulls.now k false) (mark_at a.w.now a.texts.now k)) _ _ (search rules) (search rules) c.loop-i.invariant.1

@@ -1,7 +1,5 @@
 use mathlib.Core.Path.{sym, ap, subst, ◌∙◌}
-use Prim.Native.Nat.{◌-◌}
 use native.Mathlib.Omega.{arith}
-use borrow.Author.Rules.{rules}
 use lib.ListN.{length}
 use Rattle.node_schema.proofs.RowLaws.{rows-length}
 use Rattle.im_requests.specs.Write.{entry_in}
@@ -13,34 +11,27 @@ use Rattle.server_writes.proofs.LoopLaws.{writing_begins, writing-goes, writing-
 use Rattle.server_writes.proofs.entry.write_all.Goals as goal
 
 pub loop-i-init : goal.loop-i-init
-loop-i-init c = (search rules, c.requires.1.1.1, writing_begins _ _ _ _ _ _)
+loop-i-init c = (c.requires.1.1.1, writing_begins _ _ _ _ _ _)
 
 pub entry_in-x-requires : goal.entry_in-x-requires
 entry_in-x-requires c = omega (arith, c.requires.1.0, c.loop-i-test.true)
 
 pub write_entry-requires : goal.write_entry-requires
-write_entry-requires c = (c.requires.0, ((subst InWidth (sym c.entry_in-x.ensures) (c.requires.1.1.0 _ c.loop-i-test.true)), c.loop-i.invariant.1))
+write_entry-requires c = (c.requires.0, ((subst InWidth (sym c.entry_in-x.ensures) (c.requires.1.1.0 _ c.loop-i-test.true)), c.loop-i.invariant.0))
 
 pub bounds-codes-i : goal.bounds-codes-i
 bounds-codes-i c = omega (arith, c.requires.1.0, c.loop-i-test.true)
 
-pub overflow_add-i : goal.overflow_add-i
-overflow_add-i c = omega (arith, c.requires.1.0, c.loop-i-test.true)
-
-pub loop-i-smaller : goal.loop-i-smaller
-loop-i-smaller c = omega (arith, c.loop-i-test.true)
-
 pub loop-i-preserved : goal.loop-i-preserved
 loop-i-preserved c = let a = c.args in let l = c.loop-i in let e = c.write_entry.ensures in let x = c.entry_in-x in let h = held_of l.words l.nulls l.texts l.versions l.edits in (
-  omega (arith, c.loop-i-test.true),
-  ap (λ (o : StoreOutcome). length o.held.edits) e ∙ entry_length a.w.now a.defaults.now h a.g a.s.now _ ∙ l.invariant.1,
-  writing-goes a.w.now a.g a.defaults.now a.s.now l.invariant.2 x.result _ (omega (arith, c.requires.1.0, c.loop-i-test.true)) (rows-here (entry_in a.entries.now) a.n l.i x.result c.loop-i-test.true x.ensures) e,
+  ap (λ (o : StoreOutcome). length o.held.edits) e ∙ entry_length a.w.now a.defaults.now h a.g a.s.now _ ∙ l.invariant.0,
+  writing-goes a.w.now a.g a.defaults.now a.s.now l.invariant.1 x.result _ (omega (arith, c.requires.1.0, c.loop-i-test.true)) (rows-here (entry_in a.entries.now) a.n l.i x.result c.loop-i-test.true x.ensures) e,
 )
 
 pub shape_of-edits : goal.shape_of-edits
-shape_of-edits c = c.loop-i.invariant.1 ∙ sym c.requires.1.1.1
+shape_of-edits c = c.loop-i.invariant.0 ∙ sym c.requires.1.1.1
 
 pub returns : goal.returns
 returns c = let a = c.args in let l = c.loop-i in
-    let e = writing-ends a.w.now a.g a.defaults.now a.s.now l.invariant.2 (omega (arith, rows-length (entry_in a.entries.now) a.n 0, c.loop-i-test.false)) in
+    let e = writing-ends a.w.now a.g a.defaults.now a.s.now l.invariant.1 (omega (arith, rows-length (entry_in a.entries.now) a.n 0, c.loop-i-test.false)) in
     (sym e.0, e.1)

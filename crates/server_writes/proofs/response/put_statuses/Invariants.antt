@@ -1,4 +1,4 @@
-use Prim.Native.Nat.{◌≤◌, ◌+◌, ◌*◌, ◌-◌}
+use Prim.Native.Nat.{◌≤◌, ◌+◌, ◌*◌}
 use lib.ListN.{take}
 use Rattle.base_octets.specs.Store.{Stored}
 use Rattle.im_writer.specs.Spelling.{joined}
@@ -7,7 +7,4 @@ use Rattle.server_writes.specs.Response.{answer_trees}
 use Rattle.server_writes.proofs.response.put_statuses.Given as goal
 
 abbrev pub invariant-loop-i : goal.invariant-loop-i
-invariant-loop-i l = (l.i ≤ l.n) × (l.at ≤ l.start + l.i * 27) × Stored l.initial.out l.start (joined (answer_trees (take l.i (entries_in l.entries l.n)) (take l.i l.codes))) l.out l.at
-
-abbrev pub decreases-loop-i : goal.decreases-loop-i
-decreases-loop-i l = l.n - l.i
+invariant-loop-i l = (l.at ≤ l.start + l.i * 27) × Stored l.initial.out l.start (joined (answer_trees (take l.i (entries_in l.entries l.n)) (take l.i l.codes))) l.out l.at

@@ -1,4 +1,0 @@
-use Rattle.script_answer.proofs.message.nothing.Goals as goal
-
-pub returns : goal.returns
-returns c = rw c.no_message.ensures
