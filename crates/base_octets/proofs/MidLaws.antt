@@ -1,4 +1,4 @@
--- A part of a buffer that is written as a whole, as by `fill` or `copy_from_slice`, is bytes stored.
+-- A part of a buffer that is written as a whole, as by `fill`, is bytes stored.
 use Rattle.std.proofs.lemmas.Slice.{put_mid-paste}
 use borrow.Rule.Slice.PartMut.{put_mid}
 use mathlib.Core.Path.{◌≡◌, refl, sym, ap, ◌∙◌}
@@ -20,9 +20,3 @@ store-mid l at k bs new fits n e =
     put_mid-paste at k l new bs k e refl (sym n)
     ∙ rw (take_all k bs (omega (arith, n)))
     (ap (λ (m : ℕ). take at l ++ bs ++ drop (at + m) l) (sym n) ∙ sym (store-sets l at bs ∙ sets-eq bs l at h))
-
-pub store-front : (l bs new : List ℕ) → length bs ≤ length l → new ≡ bs → new ++ drop (length bs) l ≡ store l 0 bs
-store-front l bs new fits e =
-    let z : 0 + length bs ≡ length bs = omega arith in
-    ap (λ (m : List ℕ). m ++ drop (length bs) l) e
-    ∙ sym (store-sets l 0 bs ∙ sets-eq bs l 0 (omega arith) ∙ ap (λ (m : ℕ). bs ++ drop m l) z)

@@ -3,6 +3,7 @@ use mathlib.Core.Path.{◌≡◌, refl, ap, ◌∙◌}
 use mathlib.Core.List.{List, [], ◌∷◌, ◌++◌}
 use Prim.Native.Nat.{ℕ, suc, ◌+◌, ◌-◌, ◌/◌, ◌%◌, ◌≤◌, ◌<◌}
 use native.Mathlib.Nat.{add-zero}
+use native.Mathlib.Numerals.{add-one}
 use native.Mathlib.Omega.{arith}
 use lib.ListN.{length, get_or, take, drop, set, length-append, length-set}
 use lib.Seq.{drop-cons, set-set, set_comm, get_or-set_same, get_or-set_other, take-set-le, drop-set-lt, drop-set-add}
@@ -90,13 +91,19 @@ room {o} {at} {a} b u h = omega (arith, length-append a b, u.place, same_length 
 pub fore : (at : ℕ) {n : ℕ} (a b : List ℕ) → at + length (a ++ b) ≤ n → at + length a ≤ n
 fore at a b h = omega (arith, length-append a b, h)
 
--- a turn of the loop that stores a number
+-- turns of the loops that store a number and a slice
 pub number-turn : (b : List ℕ) (at w i x : ℕ) → i < w → store b (at + i) (bytes_of (w - i) x) ≡ store (set b (at + i) (x % 256)) (at + (i + 1)) (bytes_of (w - (i + 1)) (x / 256))
 unfolding store bytes_of
 number-turn b at w i x h =
     let e1 : w - i ≡ suc (w - (i + 1)) = omega arith in
     let e2 : at + (i + 1) ≡ suc (at + i) = omega arith in
     rw (e1, e2) refl
+
+pub slice-turn : (b src : List ℕ) (at i : ℕ) → i < length src → store b (at + i) (drop i src) ≡ store (set b (at + i) (get_or src i 0)) (at + (i + 1)) (drop (i + 1) src)
+unfolding store
+slice-turn b src at i h =
+    let e : at + (i + 1) ≡ suc (at + i) = omega arith in
+    rw (drop-cons src i 0 h, e, add-one)
 
 pub add-two : (n : ℕ) → n + 2 ≡ suc (suc n)
 add-two n = omega arith

@@ -101,9 +101,11 @@ pub fn put_bytes(b: &mut [u8], at: usize, src: &[u8]) -> usize
     requires { at + length src.now ≤ length b.old }
     ensures { Stored b.old at src.now b.new result }
 {
-    let end = at + src.len();
-    b[at..end].copy_from_slice(src);
-    end
+    // Not `copy_from_slice`: a library for C would then ask its board for one function more, `memmove`.
+    for i in 0..src.len() {
+        b[at + i] = src[i];
+    }
+    at + src.len()
 }
 
 pub fn put1(b: &mut [u8], at: usize, x: u8) -> usize

@@ -35,5 +35,8 @@ pub fn put_paths(row: &mut [u64], paths: &[u64])
     requires { length paths.now ≤ length row.old }
     ensures { row.new ≡ store row.old 0 paths.now }
 {
-    row[..paths.len()].copy_from_slice(paths);
+    // As `put_bytes`: `copy_from_slice` would ask a board for `memmove`.
+    for k in 0..paths.len() {
+        row[k] = paths[k];
+    }
 }
