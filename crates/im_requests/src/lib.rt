@@ -50,11 +50,14 @@ pub fn begin_message(
     )
 }
 
-// Whether a pass has ended where the payload ends.
-pub fn is_whole(m: Stop, len: usize) -> bool
-    ensures { (at codes : List ℕ) → result ≡ whole_pass len (pass_with (Some m) at codes) }
+// Whether a pass has ended where the payload ends; one that was refused has not.
+pub fn is_whole(m: Option<Stop>, len: usize) -> bool
+    ensures { (at codes : List ℕ) → result ≡ whole_pass len (pass_with m at codes) }
 {
-    m.head.next.at == len
+    match m {
+        Some(end) => end.head.next.at == len,
+        None => false,
+    }
 }
 
 const STATUS: [bool; 10] = [
@@ -70,7 +73,7 @@ pub fn status_response(s: &[u8]) -> Option<u64>
     let mut at = [0usize; 10];
     let mut codes = [0u64; 10];
     let m = begin_message(s, &listed, &never, &mut at, &mut codes)?;
-    if !is_whole(m, s.len()) {
+    if !is_whole(Some(m), s.len()) {
         return None;
     }
     let code = im_members::number_by(codes[0], 255, false);
@@ -118,6 +121,9 @@ pub struct Listed {
     pub count: usize,
     pub next: Cursor,
 }
+
+// None: what is read is no such list.
+pub const NO_LIST: Option<Listed> = None;
 
 // One member more of a list, in three words, if there is room.
 pub fn keep_three(kept: &mut [u64], limit: usize, count: usize, a: u64, b: u64, c: u64)
@@ -368,7 +374,7 @@ fn pass_version_filters(
 fn is_read(len: usize, m: Stop, codes: &[u64; 10]) -> bool
     ensures { (at : List ℕ) → result ≡ readable len (pass_with (Some m) at codes.now) }
 {
-    if !is_whole(m, len) {
+    if !is_whole(Some(m), len) {
         return false;
     }
     let filtered = im_members::flag_by(codes[3]);

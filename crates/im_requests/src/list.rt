@@ -7,7 +7,7 @@ ghost use Rattle.im_members.specs.Array.{each_step};
 ghost use Rattle.im_members.proofs.PassLaws.{Reads};
 ghost use Rattle.im_requests.specs.Message.{snoc, list_on, keep_more, list_with, list_read, read_as};
 
-use super::Listed;
+use super::{Listed, NO_LIST};
 use im_members::MemberAt;
 use tlv_reader::{Cursor, Element};
 
@@ -48,7 +48,7 @@ pub trait Member: Copy {
 }
 
 // The members of an array from one of them on.
-fn list_from<M: Member>(s: &[u8], c: Cursor, left: usize, kept: &mut [u64]) -> Option<Listed>
+pub fn list_from<M: Member>(s: &[u8], c: Cursor, left: usize, kept: &mut [u64]) -> Option<Listed>
     requires { length kept.old ≡ M.limit * M.size }
     ensures { list_with result kept.new ≡ list_read M.limit M.size (λ x. M.words (M.held x)) kept.old (M.list left s.now c.at) }
 {
@@ -59,7 +59,7 @@ fn list_from<M: Member>(s: &[u8], c: Cursor, left: usize, kept: &mut [u64]) -> O
         match item {
             MemberAt::BadItem => {
                 kept.fill(0);
-                return None;
+                return NO_LIST;
             }
             MemberAt::Ended(next) => {
                 return Some(Listed { count, next });
@@ -67,7 +67,7 @@ fn list_from<M: Member>(s: &[u8], c: Cursor, left: usize, kept: &mut [u64]) -> O
             MemberAt::Member(e) => {
                 let Some(found) = M::read(s, e, left) else {
                     kept.fill(0);
-                    return None;
+                    return NO_LIST;
                 };
                 let (x, next) = found;
                 x.keep(kept, count);
@@ -85,11 +85,11 @@ pub fn list_of<M: Member>(s: &[u8], e: Element, left: usize, kept: &mut [u64]) -
 {
     if e.kind != tlv_reader::ARRAY {
         kept.fill(0);
-        return None;
+        return NO_LIST;
     }
     if left == 0 {
         kept.fill(0);
-        return None;
+        return NO_LIST;
     }
     list_from::<M>(s, e.next, left - 1, kept)
 }

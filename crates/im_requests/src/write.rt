@@ -127,7 +127,7 @@ const WRITE: [bool; 10] = [
 fn write_of(len: usize, m: Stop, codes: &[u64; 10], entries: usize) -> Option<WriteCounts>
     ensures { (at : List ℕ) → result ≡ write_by len (pass_with (Some m) at codes.now) entries }
 {
-    if !is_whole(m, len) {
+    if !is_whole(Some(m), len) {
         return None;
     }
     let suppress = im_members::flag_by(codes[0]);

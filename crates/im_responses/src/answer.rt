@@ -67,7 +67,7 @@ pub fn write_response(s: &[u8]) -> Option<Answer>
         &mut at,
         &mut codes,
     )?;
-    if !im_requests::is_whole(z, s.len()) {
+    if !im_requests::is_whole(Some(z), s.len()) {
         return None;
     }
     let revision = im_members::number_by(codes[9], 255, false);

@@ -27,7 +27,7 @@ const REPORT: [bool; 10] = [
 fn part_of(len: usize, m: Stop, codes: &[u64; 10], blocks: usize) -> Option<PartRead>
     ensures { (at : List ℕ) → result ≡ part_by len (pass_with (Some m) at codes.now) blocks }
 {
-    if !im_requests::is_whole(m, len) {
+    if !im_requests::is_whole(Some(m), len) {
         return None;
     }
     let subscription = im_members::number_by(codes[0], 4294967295, false);
