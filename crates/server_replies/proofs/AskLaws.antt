@@ -61,6 +61,7 @@ pub read-as : {o r : Option ReadCounts} {paths filters : List ℕ} {k : ReadKept
 read-as {paths = ps} {filters = fs} w q = ap (λ (x : Option ReadCounts). read_with x ps fs) (sym w) ∙ q
 
 pub read-malformed : (s : List ℕ) {paths filters : List ℕ} → read_with None paths filters ≡ read_kept (zeros 48) (zeros 96) (read_in s) → read_refusal (read_read (read_in s)) ≡ 0x80
+unfolding refusal_code
 read-malformed s e = ap (λ (g : Bool). whole_code g (read_asks (read_read (read_in s)))) (sym (ap (λ (k : ReadKept). k.good) e ∙ read-good (read_in s)))
 
 module _ (s : List ℕ) {c : ReadCounts} {paths filters : List ℕ} (e : read_with (Some c) paths filters ≡ read_kept (zeros 48) (zeros 96) (read_in s)) where
@@ -71,7 +72,7 @@ module _ (s : List ℕ) {c : ReadCounts} {paths filters : List ℕ} (e : read_wi
   read-asks = ap asks_of e ∙ read_same (read_in s)
 
   -- what decides it
-  pub read-code : refusal_code (record { timed = 0; paths = c.paths; filters = c.filters; writes = 0 }) ≡ read_refusal ReadMeant
+  pub read-code : refusal_code (Some (record { timed = 0; paths = c.paths; filters = c.filters; writes = 0 })) ≡ read_refusal ReadMeant
   read-code = (λ j. whole_code ((ap (λ (k : ReadKept). k.good) e ∙ read-good (read_in s)) j) (read-asks j))
 
   pub read-paths : paths ≡ paths_words ReadMeant.paths.kept
@@ -119,6 +120,7 @@ pub write-as : {o r : Option WriteCounts} {words : List ℕ} {k : WriteKept} →
 write-as {words = xs} w q = ap (λ (x : Option WriteCounts). write_with x xs) (sym w) ∙ q
 
 pub write-malformed : (s : List ℕ) {words : List ℕ} → write_with None words ≡ write_kept (zeros 80) (write_in s) → write_refusal (write_read (write_in s)) ≡ 0x80
+unfolding refusal_code
 write-malformed s e = ap (λ (g : Bool). whole_code g (write_asks (write_read (write_in s)))) (sym (ap (λ (k : WriteKept). k.good) e ∙ write-good (write_in s)))
 
 module _ (s : List ℕ) {c : WriteCounts} {words : List ℕ} (e : write_with (Some c) words ≡ write_kept (zeros 80) (write_in s)) where
@@ -128,7 +130,7 @@ module _ (s : List ℕ) {c : WriteCounts} {words : List ℕ} (e : write_with (So
   pub write-asks : record { timed = c.timed; paths = 0; filters = 0; writes = c.entries } ≡ write_asks WriteMeant
   write-asks = ap writes-of e ∙ write_same (write_in s)
 
-  pub write-code : refusal_code (record { timed = c.timed; paths = 0; filters = 0; writes = c.entries }) ≡ write_refusal WriteMeant
+  pub write-code : refusal_code (Some (record { timed = c.timed; paths = 0; filters = 0; writes = c.entries })) ≡ write_refusal WriteMeant
   write-code = (λ j. whole_code ((ap (λ (k : WriteKept). k.good) e ∙ write-good (write_in s)) j) (write-asks j))
 
   pub write-suppress : c.suppress ≡ WriteMeant.suppress

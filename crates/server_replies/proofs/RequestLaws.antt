@@ -5,6 +5,7 @@ use Prim.Native.Nat.{ℕ, ◌^◌, ◌≤◌, ◌<◌}
 use native.Mathlib.Omega.{arith}
 use borrow.Author.Tests.{ltb-false}
 use lib.Dec.{eqb, ltb}
+use Rattle.std.specs.Prelude.{Some}
 use Rattle.base_bounds.specs.Bounds.{path_limit, filter_limit, write_limit}
 use Rattle.tlv_reader.specs.Octet.{pick}
 use Rattle.server_replies.specs.declared.refusal.Asks.{Asks}
@@ -31,7 +32,7 @@ pub record Few (a : Asks) : Type 0 where
   pub filters : a.filters ≤ filter_limit
   pub writes : a.writes ≤ write_limit
 
-pub refusal-none : (a : Asks) → refusal_code a ≡ 0 → Few a
+pub refusal-none : (a : Asks) → refusal_code (Some a) ≡ 0 → Few a
 unfolding refusal_code
 refusal-none a h = go (eqb a.timed 1) (ltb path_limit a.paths) (ltb filter_limit a.filters) (ltb write_limit a.writes) refl refl refl h
   where
@@ -43,5 +44,6 @@ refusal-none a h = go (eqb a.timed 1) (ltb path_limit a.paths) (ltb filter_limit
     go false false false false x y z e = record { paths = ltb-false _ _ x; filters = ltb-false _ _ y; writes = ltb-false _ _ z }
 
 pub whole-none : (good : Bool) (a : Asks) → whole_code good a ≡ 0 → Few a
+unfolding refusal_code
 whole-none false a h = absurd (omega (arith, h))
 whole-none true a h = refusal-none a h

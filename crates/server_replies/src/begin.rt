@@ -12,7 +12,7 @@ ghost use Rattle.server_replies.specs.Begin.{refusal_of, once, read_begun, write
 
 use super::kept::{keep, next_of};
 use super::message::{put_part, put_status, put_statuses};
-use super::refusal::{Asks, MALFORMED, refusal_code};
+use super::refusal::{Asks, refusal_code};
 use super::{MAX_MESSAGE, RowStanding};
 use base_bounds::{ATTRIBUTES, CLUSTERS};
 use im_exchange::{FIRST_REPLY, NOTHING, Progress};
@@ -90,14 +90,14 @@ pub fn begin_read<'a>(
     let mut paths = [0u64; PATH_WORDS];
     let mut filters = [0u64; FILTER_WORDS];
     let Some(r) = read_request(payload, &mut paths, &mut filters) else {
-        return refuse(kept, t, exchange, MALFORMED, out);
+        return refuse(kept, t, exchange, refusal_code(None), out);
     };
-    let refusal = refusal_code(Asks {
+    let refusal = refusal_code(Some(Asks {
         timed: 0,
         paths: r.paths,
         filters: r.filters,
         writes: 0,
-    });
+    }));
     if refusal != 0 {
         return refuse(kept, t, exchange, refusal, out);
     }
@@ -163,14 +163,14 @@ pub fn begin_write<'a>(
 {
     let mut entries = [0u64; ENTRY_WORDS];
     let Some(r) = write_request(payload, &mut entries) else {
-        return refuse(kept, t, exchange, MALFORMED, out);
+        return refuse(kept, t, exchange, refusal_code(None), out);
     };
-    let refusal = refusal_code(Asks {
+    let refusal = refusal_code(Some(Asks {
         timed: r.timed,
         paths: 0,
         filters: 0,
         writes: r.entries,
-    });
+    }));
     if refusal != 0 {
         return refuse(kept, t, exchange, refusal, out);
     }

@@ -22,10 +22,13 @@ pub struct Asks {
     pub writes: usize,
 }
 
-// The status of one that is well-formed, or 0 if none applies.
-pub fn refusal_code(a: Asks) -> u8
-    ensures { result ≡ refusal_code a }
+// The status of a request by what it asks for, or 0 if none applies. None is one that is not well-formed.
+pub fn refusal_code(asks: Option<Asks>) -> u8
+    ensures { result ≡ refusal_code asks }
 {
+    let Some(a) = asks else {
+        return MALFORMED;
+    };
     if a.timed == 1 {
         return TIMED_MISMATCH;
     }

@@ -14,7 +14,7 @@ use Rattle.server_report.specs.declared.part.OpenRead.{OpenRead}
 use Rattle.server_replies.specs.declared.ExchangeRow.{ExchangeRow}
 use Rattle.server_replies.specs.Server.{server_with}
 use Rattle.server_replies.specs.Row.{row_in, request_in, keeping, blocks_of, put_request}
-use Rattle.server_replies.specs.Refusal.{read_refusal}
+use Rattle.server_replies.specs.Refusal.{refusal_code, read_refusal}
 use Rattle.server_replies.specs.Begin.{once, refusal_of, beginning_place, request_of}
 use Rattle.server_replies.proofs.MessageLaws.{sent-of}
 use Rattle.server_replies.proofs.RowLaws.{report-within, report-short, report-end, part-given}
@@ -53,7 +53,8 @@ kept-request c =
     ∙ request-back a.row.now (request_of a.w.now r) (request-length a.payload.now refl) (filters-length a.w.now _) room
 
 pub returns-in_default : goal.returns-in_default
-returns-in_default c = let a = c.args in let f = c.refuse.ensures a.row.now in let n = sym (read-malformed a.payload.now (read-as c.in_default.is c.read_request.ensures)) in begins-same (f.0 ∙ ap (λ n. once (row_in a.row.now a.t a.kept.now) a.exchange (refusal_of a.exchange n)) n ∙ sym (read-refused a.payload.now refl (server_with a.w.now a.defaults.now (held_of a.words.now a.nulls.now a.texts.now a.versions.now a.edits.now) (row_in a.row.now a.t a.kept.now)) a.g a.exchange (λ z. absurd (omega (arith, n, z))))) f.1
+unfolding refusal_code
+returns-in_default c = let a = c.args in let f = c.refuse.ensures a.row.now in let n = sym (read-malformed a.payload.now (read-as c.in_default.is c.read_request.ensures)) in begins-same (f.0 ∙ ap (λ n. once (row_in a.row.now a.t a.kept.now) a.exchange (refusal_of a.exchange n)) (c.refusal_code.ensures ∙ n) ∙ sym (read-refused a.payload.now refl (server_with a.w.now a.defaults.now (held_of a.words.now a.nulls.now a.texts.now a.versions.now a.edits.now) (row_in a.row.now a.t a.kept.now)) a.g a.exchange (λ z. absurd (omega (arith, n, z))))) f.1
 
 pub returns-then-refusal-ne0 : goal.returns-then-refusal-ne0
 returns-then-refusal-ne0 c = let a = c.args in let f = c.refuse-then-refusal-ne0.ensures a.row.now in let n = refusal (goal.at.returns-then-refusal-ne0 c).After-refusal_code-refusal in begins-same (f.0 ∙ ap (λ n. once (row_in a.row.now a.t a.kept.now) a.exchange (refusal_of a.exchange n)) n ∙ sym (read-refused a.payload.now refl (server_with a.w.now a.defaults.now (held_of a.words.now a.nulls.now a.texts.now a.versions.now a.edits.now) (row_in a.row.now a.t a.kept.now)) a.g a.exchange (λ z. c.if-refusal-ne0.true (n ∙ z)))) f.1

@@ -13,7 +13,7 @@ use Rattle.server_writes.specs.Offer.{HeldValues, held_of}
 use Rattle.server_writes.specs.Entry.{InWidth, entries_in, held_after, codes_of, codes_in}
 use Rattle.server_replies.specs.Server.{Server, server_with}
 use Rattle.server_replies.specs.Row.{row_in}
-use Rattle.server_replies.specs.Refusal.{write_refusal}
+use Rattle.server_replies.specs.Refusal.{refusal_code, write_refusal}
 use Rattle.server_replies.specs.Begin.{answered, entries_of, once, refusal_of}
 use Rattle.server_replies.specs.Messages.{max_message, response_message}
 use Rattle.server_replies.proofs.RowLaws.{ends-within, part-short, kept_full, both-given, nothing-given}
@@ -69,7 +69,8 @@ short c =
     response-short a.payload.now refl (server_with a.w.now a.defaults.now ((held_of c.args.words.now c.args.nulls.now c.args.texts.now c.args.versions.now c.args.edits.now)) (row_in [] a.t a.kept.now)) a.g a.exchange ((sym ((c.refusal_code-refusal.ensures ∙ write-code c.args.payload.now (write-as c.in-Some.is c.write_request.ensures))) ∙ c.if-refusal-ne0.false))
 
 pub returns-in_default : goal.returns-in_default
-returns-in_default c = let a = c.args in let n = sym (write-malformed a.payload.now (write-as c.in_default.is c.write_request.ensures)) in λ row. wrote-refused a.payload.now refl (server_with a.w.now a.defaults.now (held (goal.at.returns-in_default c).After-write_request) (row_in row a.t a.kept.now)) a.g a.exchange (λ z. absurd (omega (arith, n, z))) (let f = c.refuse.ensures row in (f.0 ∙ ap (λ n. once (row_in row a.t a.kept.now) a.exchange (refusal_of a.exchange n)) n, f.1))
+unfolding refusal_code
+returns-in_default c = let a = c.args in let n = sym (write-malformed a.payload.now (write-as c.in_default.is c.write_request.ensures)) in λ row. wrote-refused a.payload.now refl (server_with a.w.now a.defaults.now (held (goal.at.returns-in_default c).After-write_request) (row_in row a.t a.kept.now)) a.g a.exchange (λ z. absurd (omega (arith, n, z))) (let f = c.refuse.ensures row in (f.0 ∙ ap (λ n. once (row_in row a.t a.kept.now) a.exchange (refusal_of a.exchange n)) (c.refusal_code.ensures ∙ n), f.1))
 
 pub returns-then-refusal-ne0 : goal.returns-then-refusal-ne0
 returns-then-refusal-ne0 c = let a = c.args in let n = refusal (goal.at.returns-then-refusal-ne0 c).After-refusal_code-refusal in λ row. wrote-refused a.payload.now refl (server_with a.w.now a.defaults.now (held (goal.at.returns-then-refusal-ne0 c).After-write_request) (row_in row a.t a.kept.now)) a.g a.exchange (λ z. c.if-refusal-ne0.true (n ∙ z)) (let f = c.refuse-then-refusal-ne0.ensures row in (f.0 ∙ ap (λ n. once (row_in row a.t a.kept.now) a.exchange (refusal_of a.exchange n)) n, f.1))
